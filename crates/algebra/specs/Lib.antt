@@ -1,0 +1,22 @@
+-- Laws that later proofs need and that know nothing of experiments.
+--
+--   Ring      the ring ℤ: the laws that the kit lacks
+--   Solve     a normaliser that proves equations of the ring ℤ
+--   Tests     tests that are computed, and the facts that they show
+--   Sum       finite sums Σ of integers
+--   Naturals  finite sums and largest values of natural numbers
+--   Size      the size of sums and products, and what fits a 64-bit integer
+--   Tab       the list of a function's first n values
+--   Turns     a list whose places are written one after the other
+--   Spread    the same where each turn writes places that lie a fixed distance apart
+--   Parts     a list that is worked part by part
+pub mod Ring
+pub mod Solve
+pub mod Tests
+pub mod Sum
+pub mod Naturals
+pub mod Size
+pub mod Tab
+pub mod Turns
+pub mod Spread
+pub mod Parts

@@ -1,0 +1,49 @@
+-- The list of a function's first n values. A column of the code is such a list, and the laws of columns are laws of functions.
+--
+--   tab n f       f 0, .., f (n - 1)
+--   length-tab    its length
+--   getD-tab      its entry at i
+--   is-tab        a list of n entries that are those of f
+--   tab-cong      functions that agree below n
+use mathlib.Core.Path.{_≡_, refl, sym, _∙_, ap}
+use mathlib.Core.List.{List, [], _∷_}
+use Prim.Native.Nat.{ℕ, zero, suc, _+_, _<_}
+use native.Mathlib.Nat.{add-suc, suc-add, add-zero, zero-add}
+use native.Mathlib.Omega.{arith}
+use lib.ListN.{length, getD}
+use lib.Seq.{ext-getD}
+
+module _ {A : Type 0} where
+  -- f s, f (s + 1), .., n of them
+  unfoldable pub tabFrom : ℕ → ℕ → (ℕ → A) → List A
+  tabFrom s zero f = []
+  tabFrom s (suc n) f = f s ∷ tabFrom (suc s) n f
+
+  abbrev pub tab : ℕ → (ℕ → A) → List A
+  tab n f = tabFrom 0 n f
+
+  length-from : (s n : ℕ) (f : ℕ → A) → length (tabFrom s n f) ≡ n
+  unfolding tabFrom
+  length-from s zero f = refl
+  length-from s (suc n) f = ap suc (length-from (suc s) n f)
+
+  pub length-tab : (n : ℕ) (f : ℕ → A) → length (tab n f) ≡ n
+  length-tab n f = length-from 0 n f
+
+  module _ (z : A) where
+    getD-from : (s n : ℕ) (f : ℕ → A) (i : ℕ) → i < n → getD (tabFrom s n f) i z ≡ f (s + i)
+    unfolding tabFrom
+    getD-from s zero f i h = absurd (omega arith)
+    getD-from s (suc n) f zero h = rw (add-zero s)
+    getD-from s (suc n) f (suc i) h = getD-from (suc s) n f i (omega arith) ∙ rw (suc-add s i, add-suc s i)
+
+    pub getD-tab : (n : ℕ) (f : ℕ → A) (i : ℕ) → i < n → getD (tab n f) i z ≡ f i
+    getD-tab n f i h = getD-from 0 n f i h ∙ rw (zero-add i)
+
+    pub is-tab : (xs : List A) (n : ℕ) (f : ℕ → A) → length xs ≡ n → ((i : ℕ) → i < n → getD xs i z ≡ f i) → xs ≡ tab n f
+    is-tab xs n f l h =
+        ext-getD z xs (tab n f) (l ∙ sym (length-tab n f))
+        (λ i k. let k′ : i < n = omega arith in h i k′ ∙ sym (getD-tab n f i k′))
+
+    pub tab-cong : (n : ℕ) (f g : ℕ → A) → ((i : ℕ) → i < n → f i ≡ g i) → tab n f ≡ tab n g
+    tab-cong n f g h = is-tab (tab n f) n g (length-tab n f) (λ i k. getD-tab n f i k ∙ h i k)

@@ -1,0 +1,1 @@
+// Nothing runs here: the crate is the mathematics of specs/, laws that know nothing of experiments.

@@ -1,0 +1,35 @@
+-- The same over columns that are lists of N values, as code holds them.
+--
+--   read xs              the column of a list
+--   totalsOf Fs xs       the N totals, "place e of a column of totals holds the total of effect e"
+--   passOf Fs f xs       the column after the pass of position f
+--   passesOf Fs fs xs    after the passes of a list of positions, one after the other
+--   stepOf N F xs        the column of N that the step writes
+--   stepsOf N Fs xs      after a step for each factor, one after the other
+use mathlib.Core.List.{List, [], _∷_}
+use Prim.Native.Nat.{ℕ}
+use lib.IntN.{ℤ, pos}
+use lib.ListN.{getD}
+use Rattle.algebra.specs.Tab.{tab}
+use Rattle.contrasts.specs.Factor.{Factor}
+use Rattle.contrasts.specs.Totals.{Column, size, total, pass, step}
+
+abbrev pub read : List ℤ → Column
+read xs i = getD xs i (pos 0)
+
+unfoldable pub totalsOf : List Factor → List ℤ → List ℤ
+totalsOf Fs xs = tab (size Fs) (total Fs (read xs))
+
+unfoldable pub passOf : List Factor → ℕ → List ℤ → List ℤ
+passOf Fs f xs = tab (size Fs) (pass Fs f (read xs))
+
+unfoldable pub passesOf : List Factor → List ℕ → List ℤ → List ℤ
+passesOf Fs [] xs = xs
+passesOf Fs (f ∷ fs) xs = passesOf Fs fs (passOf Fs f xs)
+
+unfoldable pub stepOf : ℕ → Factor → List ℤ → List ℤ
+stepOf N F xs = tab N (step N F (read xs))
+
+unfoldable pub stepsOf : ℕ → List Factor → List ℤ → List ℤ
+stepsOf N [] xs = xs
+stepsOf N (F ∷ Fs) xs = stepsOf N Fs (stepOf N F xs)

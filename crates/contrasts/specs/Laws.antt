@@ -1,0 +1,32 @@
+-- The theorems, each for any list of factors; after them what they come to where factors are alike, and at two and three levels.
+--
+--   Digits       totals and passes by the lowest digit: what inductions go by
+--   Order        passes in any order end as the totals
+--   Steps        the report's own steps do
+--   Divisors     divisors, weights and the denominator
+--   Orthogonal   the coefficients are orthogonal
+--   Squares      the sum of squares, the bound on numerators, readings back from totals
+--   CheckSum     the sum of all totals
+--   Bounds       how large values grow
+--   Degrees      the degrees of rows
+--   Stretches    a pass stretch by stretch
+--   Lists        the theorems over columns that are lists
+--   Alike        plans of k factors that are alike
+--   TwoLevels    two levels, in the words of the rules
+--   ThreeLevels  three levels, in the words of the rules
+--   Limits       what readings within their limit come to
+pub mod Digits
+pub mod Order
+pub mod Steps
+pub mod Divisors
+pub mod Orthogonal
+pub mod Squares
+pub mod CheckSum
+pub mod Bounds
+pub mod Degrees
+pub mod Stretches
+pub mod Lists
+pub mod Alike
+pub mod TwoLevels
+pub mod ThreeLevels
+pub mod Limits

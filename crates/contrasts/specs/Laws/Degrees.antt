@@ -1,0 +1,100 @@
+-- Rows and degrees: a row's degrees are the number of its effects, and all rows' degrees add up to the number of runs.
+--
+--   row-lt           an effect's row is one of the 2 ^ k rows
+--   degrees-count    the effects of a row are as many as its degrees
+--   degrees-sum      "The degrees of mean, kept effects, blocks and error add up to the total's": those of all rows add up to N
+use mathlib.Core.Path.{_≡_, refl, sym, _∙_, ap}
+use mathlib.Core.Bool.{Bool, true, false, cond}
+use mathlib.Core.List.{List, [], _∷_}
+use Prim.Native.Nat.{ℕ, zero, suc, _+_, _*_, _-_, _/_, _%_, _^_, _<_}
+use native.Mathlib.Nat.{mod-lt, mul-comm, pow-suc, div-lt-iff-lt-mul}
+use native.Mathlib.Numerals.{add-one}
+use native.Mathlib.Decide.{ℕ-discrete}
+use native.Mathlib.Omega.{arith}
+use borrow.Author.Tests.{eq-eqb, ne-eqb}
+use lib.Arith.{digits-lt, lt-one}
+use lib.Dec.{eqb, eqb·suc-zero, lit<}
+use lib.ListN.{length}
+use Rattle.algebra.specs.Naturals.{Σℕ, Σℕ-cong, Σℕ-mul, Σℕ-split, Σℕ-by, Σℕ-ones}
+use Rattle.contrasts.specs.Factor.{Factor}
+use Rattle.contrasts.specs.Totals.{size}
+use Rattle.contrasts.specs.Rows.{rowOf, degreesOf}
+
+-- 1 where two numbers are equal, and else 0
+abbrev same : ℕ → ℕ → ℕ
+same a b = cond (eqb a b) 1 0
+
+-- 0 for the digit 0, and 1 for the others
+abbrev used : ℕ → ℕ
+used d = cond (eqb d 0) 0 1
+
+used-lt : (d : ℕ) → used d < 2
+used-lt d = go (eqb d 0)
+  where
+    go : (b : Bool) → cond b 0 1 < 2
+    go true = lit< tt
+    go false = lit< tt
+
+pub row-lt : (Fs : List Factor) (e : ℕ) → rowOf Fs e < 2 ^ length Fs
+unfolding rowOf
+row-lt [] e = lit< tt
+row-lt (F ∷ Fs) e = rw (pow-suc 2 (length Fs)) (digits-lt (row-lt Fs (e / F .levels)) (used-lt (e % F .levels)))
+
+-- ---- the effects of a row
+
+-- two numbers are equal where their halves and their last digits are
+same-digits : (r b w : ℕ) → b < 2 → same (r * 2 + b) w ≡ same b (w % 2) * same r (w / 2)
+same-digits r b w h = go (ℕ-discrete b (w % 2)) (ℕ-discrete r (w / 2))
+  where
+    go : Dec (b ≡ w % 2) → Dec (r ≡ w / 2) → same (r * 2 + b) w ≡ same b (w % 2) * same r (w / 2)
+    go (yes p) (yes q) = rw (eq-eqb (r * 2 + b) w (omega arith), eq-eqb b (w % 2) p, eq-eqb r (w / 2) q)
+    go (yes p) (no q) = rw (ne-eqb (r * 2 + b) w (λ e. q (omega arith)), ne-eqb r (w / 2) q) (omega arith)
+    go (no p) q = rw (ne-eqb (r * 2 + b) w (λ e. p (omega arith)), ne-eqb b (w % 2) p) (omega arith)
+
+-- of l digits one is 0 and the others are not
+zero-digits : (n : ℕ) → Σℕ (suc n) (λ d. same (used d) 0) ≡ 1
+unfolding Σℕ
+zero-digits zero = refl
+zero-digits (suc n) = rw (zero-digits n, eqb·suc-zero n)
+
+other-digits : (n : ℕ) → Σℕ (suc n) (λ d. same (used d) 1) ≡ n
+unfolding Σℕ
+other-digits zero = refl
+other-digits (suc n) = rw (other-digits n, eqb·suc-zero n) (add-one n)
+
+digits-used : (l c : ℕ) → 0 < l → c < 2 → Σℕ l (λ d. same (used d) c) ≡ cond (eqb c 0) 1 (l - 1)
+digits-used zero c h k = absurd (omega arith)
+digits-used (suc n) c h k = go (ℕ-discrete c 0)
+  where
+    go : Dec (c ≡ 0) → Σℕ (suc n) (λ d. same (used d) c) ≡ cond (eqb c 0) 1 (suc n - 1)
+    go (yes e) = rw e (zero-digits n)
+    go (no e) = let o : c ≡ 1 = omega arith in rw o (other-digits n ∙ omega arith)
+
+pub degrees-count : (Fs : List Factor) (w : ℕ) → w < 2 ^ length Fs → Σℕ (size Fs) (λ e. same (rowOf Fs e) w) ≡ degreesOf Fs w
+unfolding size rowOf degreesOf
+degrees-count [] w h = rw (lt-one h) (Σℕ-ones 1)
+degrees-count (F ∷ Fs) w h =
+    Σℕ-cong (l * n) (λ e _. same-digits (rowOf Fs (e / l)) (used (e % l)) w (used-lt (e % l)))
+    ∙ Σℕ-split l n (λ d q. digit d * other q)
+    ∙ Σℕ-cong n (λ q _. Σℕ-cong l (λ d _. mul-comm (digit d) (other q)) ∙ Σℕ-mul (other q) l digit ∙ mul-comm (other q) (Σℕ l digit))
+    ∙ Σℕ-mul (Σℕ l digit) n other
+    ∙ rw (digits-used l (w % 2) (F .some-level) (mod-lt w (lit< tt)))
+    (ap (λ z. cond (eqb (w % 2) 0) 1 (l - 1) * z) (degrees-count Fs (w / 2) (div-lt-iff-lt-mul (lit< tt) .1 (rw (pow-suc 2 (length Fs)) at h))))
+  where
+    l : ℕ
+    l = F .levels
+
+    n : ℕ
+    n = size Fs
+
+    digit : ℕ → ℕ
+    digit d = same (used d) (w % 2)
+
+    other : ℕ → ℕ
+    other q = same (rowOf Fs q) (w / 2)
+
+pub degrees-sum : (Fs : List Factor) → Σℕ (2 ^ length Fs) (degreesOf Fs) ≡ size Fs
+degrees-sum Fs =
+    Σℕ-cong (2 ^ length Fs) (λ w h. sym (degrees-count Fs w h))
+    ∙ Σℕ-by (size Fs) (2 ^ length Fs) (rowOf Fs) (λ e. 1) (λ e _. row-lt Fs e)
+    ∙ Σℕ-ones (size Fs)

@@ -1,0 +1,128 @@
+-- Three levels, in the words of "Totals and passes": what the general definitions come to.
+--
+--   sum, linear, quadratic    the three rows, over any three values
+--   pass-three                the pass
+--   step-three                the report's step
+--   divisor-three             the divisors of fewer factors
+--   denominator-three         the common denominator
+--   round-three               a round of the check
+--   bound-three               the growth of values
+use mathlib.Core.Path.{_≡_, refl, sym, _∙_, ap}
+use mathlib.Core.List.{List, [], _∷_}
+use Prim.Native.Nat.{ℕ, _+_, _*_, _^_, _/_, _<_, _≤_}
+use native.Mathlib.Nat.{mul-div-left, one-le-pow, add-zero, le-trans, mul-le-mul-right, pow-le-pow-left}
+use native.Mathlib.Omega.{arith}
+use lib.Dec.{lit<}
+use lib.IntN.{ℤ, pos, _+ℤ_, _*ℤ_, _-ℤ_}
+use lib.ListN.{length, replicate}
+use Rattle.algebra.specs.Solve.{solve, var, lit, _⊕_, _⊖_, _⊗_}
+use Rattle.algebra.specs.Sum.{Σ}
+use Rattle.algebra.specs.Naturals.{Σℕ, most}
+use Rattle.contrasts.specs.Tables.{three, neg}
+use Rattle.contrasts.specs.Totals.{Column, size, passAt, passes, step, divisor*, denominator, checkWeight, round}
+use Rattle.contrasts.specs.Laws.Alike.{size-alike, denominator-alike, divisor-fewer, widest-alike}
+use Rattle.contrasts.specs.Laws.Bounds.{Within, reach, widest, bound-calls}
+use Rattle.contrasts.specs.Laws.Steps.{step-value}
+use Rattle.contrasts.specs.Laws.Stretches.{pass-value}
+
+-- ---- the rows
+
+module _ (y : Column) {a b c : ℤ} (first : y 0 ≡ a) (middle : y 1 ≡ b) (third : y 2 ≡ c) where
+  pub sum : Σ 3 (λ j. three .coef 0 j *ℤ y j) ≡ a +ℤ b +ℤ c
+  unfolding three Σ
+  sum =
+      rw (first, middle, third)
+      (solve (a ∷ b ∷ c ∷ []) (lit (pos 0) ⊕ lit (pos 1) ⊗ var 0 ⊕ lit (pos 1) ⊗ var 1 ⊕ lit (pos 1) ⊗ var 2)
+      (var 0 ⊕ var 1 ⊕ var 2) refl)
+
+  pub linear : Σ 3 (λ j. three .coef 1 j *ℤ y j) ≡ a -ℤ c
+  unfolding three Σ
+  linear =
+      rw (first, middle, third)
+      (solve (a ∷ b ∷ c ∷ []) (lit (pos 0) ⊕ lit (pos 1) ⊗ var 0 ⊕ lit (pos 0) ⊗ var 1 ⊕ lit (neg 1) ⊗ var 2)
+      (var 0 ⊖ var 2) refl)
+
+  pub quadratic : Σ 3 (λ j. three .coef 2 j *ℤ y j) ≡ a -ℤ pos 2 *ℤ b +ℤ c
+  unfolding three Σ
+  quadratic =
+      rw (first, middle, third)
+      (solve (a ∷ b ∷ c ∷ []) (lit (pos 0) ⊕ lit (pos 1) ⊗ var 0 ⊕ lit (neg 2) ⊗ var 1 ⊕ lit (pos 1) ⊗ var 2)
+      (var 0 ⊖ lit (pos 2) ⊗ var 1 ⊕ var 2) refl)
+
+-- ---- the pass
+
+-- "At three levels it replaces first, middle and third by their sum, first minus third, and first minus twice middle plus third." The place p
+-- is that of a first value: it is in stretch q, at an offset i below the spacing s.
+pub pass-three : (s : ℕ) (x : Column) (q i p : ℕ) → p ≡ q * (3 * s) + i → i < s
+    → (passAt s three x p ≡ x p +ℤ x (p + s) +ℤ x (p + 2 * s))
+    × (passAt s three x (p + s) ≡ x p -ℤ x (p + 2 * s))
+    × (passAt s three x (p + 2 * s) ≡ x p -ℤ pos 2 *ℤ x (p + s) +ℤ x (p + 2 * s))
+unfolding three
+pass-three s x q i p e h = (
+  ap (passAt s three x) first ∙ pass-value s three x q i p e h 0 (lit< tt) ∙ sum (λ j. x (p + j * s)) (ap x (sym first)) (ap x (sym middle)) refl,
+  ap (passAt s three x) middle ∙ pass-value s three x q i p e h 1 (lit< tt) ∙ linear (λ j. x (p + j * s)) (ap x (sym first)) (ap x (sym middle)) refl,
+  pass-value s three x q i p e h 2 (lit< tt) ∙ quadratic (λ j. x (p + j * s)) (ap x (sym first)) (ap x (sym middle)) refl,
+)
+  where
+    first : p ≡ p + 0 * s
+    first = omega arith
+
+    middle : p + s ≡ p + 1 * s
+    middle = omega arith
+
+-- ---- the report's step
+
+-- "all sums first, then the differences, at three levels then the third combination": the set of places 3 q to 3 q + 2, of n sets
+pub step-three : (n : ℕ) (x : Column) (q : ℕ) → q < n
+    → (step (3 * n) three x q ≡ x (q * 3) +ℤ x (q * 3 + 1) +ℤ x (q * 3 + 2))
+    × (step (3 * n) three x (n + q) ≡ x (q * 3) -ℤ x (q * 3 + 2))
+    × (step (3 * n) three x (2 * n + q) ≡ x (q * 3) -ℤ pos 2 *ℤ x (q * 3 + 1) +ℤ x (q * 3 + 2))
+unfolding three
+step-three n x q h = (
+  ap (step (3 * n) three x) sums ∙ step-value three n x 0 q h ∙ sum (λ j. x (q * 3 + j)) first refl refl,
+  ap (step (3 * n) three x) differences ∙ step-value three n x 1 q h ∙ linear (λ j. x (q * 3 + j)) first refl refl,
+  step-value three n x 2 q h ∙ quadratic (λ j. x (q * 3 + j)) first refl refl,
+)
+  where
+    sums : q ≡ 0 * n + q
+    sums = omega arith
+
+    differences : n + q ≡ 1 * n + q
+    differences = omega arith
+
+    first : x (q * 3 + 0) ≡ x (q * 3)
+    first = ap x (add-zero (q * 3))
+
+-- ---- divisors and denominator
+
+-- "with fewer factors the entry is divided by 3 for each factor missing"
+pub divisor-three : (k j e : ℕ) → e < 3 ^ k → divisor* (replicate k three) e ≡ divisor* (replicate (k + j) three) e / 3 ^ j
+unfolding three
+divisor-three k j e h =
+    sym (rw (divisor-fewer k j three e (rw (size-alike k three) h)) (mul-div-left (divisor* (replicate k three) e) (one-le-pow j 3 (lit< tt))))
+
+-- "or 6 to the power k"
+pub denominator-three : (k : ℕ) → denominator (replicate k three) ≡ 6 ^ k
+unfolding three
+denominator-three k = denominator-alike k three
+
+-- ---- the check
+
+-- "3 times first minus middle plus third". That the check sum is what k such rounds leave is `check-rounds`, for any factors.
+pub round-three : (x : Column) (q : ℕ) → round three x q ≡ pos 3 *ℤ x (q * 3) -ℤ x (q * 3 + 1) +ℤ x (q * 3 + 2)
+unfolding round checkWeight three Σ
+round-three x q =
+    rw (add-zero (q * 3))
+    (solve (x (q * 3) ∷ x (q * 3 + 1) ∷ x (q * 3 + 2) ∷ [])
+    (lit (pos 0) ⊕ lit (pos 3) ⊗ var 0 ⊕ lit (neg 1) ⊗ var 1 ⊕ lit (pos 1) ⊗ var 2) (lit (pos 3) ⊗ var 0 ⊖ var 1 ⊕ var 2) refl)
+
+-- ---- growth: times 4 a pass
+
+widest-three : (k : ℕ) → widest (replicate k three) ≤ 4
+unfolding reach most Σℕ three
+widest-three k = widest-alike k three
+
+pub bound-three : (k : ℕ) (calls : List ℕ) (x : Column) (M : ℕ) → Within (size (replicate k three)) M x
+    → Within (size (replicate k three)) (4 ^ length calls * M) (passes (replicate k three) calls x)
+bound-three k calls x M h i p =
+    le-trans (bound-calls (replicate k three) calls x M h i p) (mul-le-mul-right M (pow-le-pow-left (widest-three k) (length calls)))
