@@ -8,7 +8,8 @@
 --   ac+, ac*                      rules by which `simp` sorts sums, and products
 use mathlib.Core.Path.{_≡_, sym, _∙_}
 use Prim.Native.Nat.{zero, suc}
-use lib.IntN.{ℤ, pos, negsuc, negℤ, sucℤ, predℤ, _+ℤ_, _*ℤ_, +ℤ-comm, +ℤ-assoc, +ℤ-idl, *ℤ-comm, zero-*ℤ, sucℤ-*ℤ, predℤ-*ℤ, sucℤ-+ℤ, predℤ-+ℤ, negℤ-sucℤ, negℤ-predℤ, negℤ-+ℤ, *ℤ-one, one, negℤ-negℤ}
+use lib.IntN.{ℤ, pos, negsuc, negℤ, sucℤ, predℤ, _+ℤ_, _*ℤ_, +ℤ-comm, +ℤ-assoc, +ℤ-idl, *ℤ-comm, zero-*ℤ, sucℤ-*ℤ, predℤ-*ℤ, sucℤ-+ℤ}
+use lib.IntN.{predℤ-+ℤ, negℤ-sucℤ, negℤ-predℤ, negℤ-+ℤ, *ℤ-one, one, negℤ-negℤ}
 
 -- induction by successor and predecessor
 ind : (P : ℤ → Type 0) → P (pos 0) → ((k : ℤ) → P k → P (sucℤ k)) → ((k : ℤ) → P k → P (predℤ k)) → (k : ℤ) → P k

@@ -152,7 +152,10 @@ module _ (ρ : ℕ → ℤ) where
   norm-is (var i) = +ℤ-idr (pos 1 *ℤ (ρ i *ℤ pos 1)) ∙ one-*ℤ (ρ i *ℤ pos 1) ∙ ℤ-*one (ρ i)
   norm-is (lit c) = tidy-is c [] nil ∙ +ℤ-idr (c *ℤ pos 1) ∙ ℤ-*one c
   norm-is (a ⊕ b) = addP-is (norm a) (norm b) ∙ rw (norm-is a, norm-is b)
-  norm-is (a ⊖ b) = addP-is (norm a) (mulT (negsuc 0) [] (norm b)) ∙ rw (mulT-is (negsuc 0) [] (norm b), norm-is a, norm-is b) (ap (λ z. value ρ a +ℤ z) (neg-*ℤ (pos 1) (value ρ b) ∙ ap negℤ (one-*ℤ (value ρ b))))
+  norm-is (a ⊖ b) =
+      addP-is (norm a) (mulT (negsuc 0) [] (norm b))
+      ∙ rw (mulT-is (negsuc 0) [] (norm b), norm-is a, norm-is b)
+      (ap (λ z. value ρ a +ℤ z) (neg-*ℤ (pos 1) (value ρ b) ∙ ap negℤ (one-*ℤ (value ρ b))))
   norm-is (a ⊗ b) = mulP-is (norm a) (norm b) ∙ rw (norm-is a, norm-is b)
 
 pub solve : (xs : List ℤ) (a b : Ex) → norm a ≡ norm b → value (λ i. getD xs i (pos 0)) a ≡ value (λ i. getD xs i (pos 0)) b

@@ -1,5 +1,5 @@
--- A list of l * h places that a loop writes in h turns: turn i writes the l places i, i + h, i + 2 h, .., in this order. The loops of a
--- pass and of a step are of this kind.
+-- A list of l * h places that a loop writes in h turns: turn i writes the l places i, i + h, i + 2 h, .., in this order. A
+-- loop over pairs, or over sets of three, that lie a fixed distance apart is of this kind.
 --
 --   key l h p                the number of the write that reaches the place p
 --   Written l h f g t ys     ys is the list once t places are written: f there, g elsewhere

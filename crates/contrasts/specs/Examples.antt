@@ -16,7 +16,8 @@ use Rattle.contrasts.specs.Columns.{read, totalsOf, passOf, passesOf, st
 use Rattle.contrasts.specs.Factor.{Factor}
 use Rattle.contrasts.specs.Rows.{rowOf, degreesOf}
 use Rattle.contrasts.specs.Tables.{two, three, neg}
-use Rattle.contrasts.specs.Totals.{size, coef*, total, passFrom, passAt, step, divisor*, denominator, weight*, numerator, squared, checkWeight, round, rounds}
+use Rattle.contrasts.specs.Totals.{size, coef*, total, passFrom, passAt, step, divisor*, denominator, weight*, numerator, squared}
+use Rattle.contrasts.specs.Totals.{checkWeight, round, rounds}
 
 -- ---- "Readings 3, 5, 4, 8: totals 20, -6, -4, 2; numerators 400, 36, 16, 4; sum 456, which is 4 times 114; check 12."
 

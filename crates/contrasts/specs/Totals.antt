@@ -6,6 +6,7 @@
 --   total Fs x e         the total of effect e
 --   pass Fs f x          the pass of the factor at position f
 --   passes Fs fs x       the passes of a list of positions, one after the other
+--   count k fs           how often position k is called
 --   step N F x           the report's own step over a column of N
 --   steps N Fs x         a step for each factor, one after the other
 --   divisor* Fs e        the divisor of effect e
@@ -15,8 +16,10 @@
 --   squared Fs x         the sum of squared readings
 --   checkWeight F j      the sum of a level's coefficients
 --   round F x, rounds    a round of the check, and what a round for each factor leaves
+use mathlib.Core.Bool.{cond}
 use mathlib.Core.List.{List, [], _∷_}
 use Prim.Native.Nat.{ℕ, zero, suc, _+_, _*_, _-_, _/_, _%_}
+use lib.Dec.{eqb}
 use lib.IntN.{ℤ, pos, natAbs, _*ℤ_}
 use Rattle.algebra.specs.Sum.{Σ}
 use Rattle.algebra.specs.Naturals.{Σℕ}
@@ -58,6 +61,15 @@ pass Fs f x = passFrom 1 Fs f x
 unfoldable pub passes : List Factor → List ℕ → Column → Column
 passes Fs [] x = x
 passes Fs (f ∷ fs) x = passes Fs fs (pass Fs f x)
+
+-- 1 where two positions are one, and else 0
+abbrev pub hit : ℕ → ℕ → ℕ
+hit k f = cond (eqb k f) 1 0
+
+-- how often position k is called: "names each base factor once" is count k calls ≡ 1 for each factor k
+unfoldable pub count : ℕ → List ℕ → ℕ
+count k [] = 0
+count k (f ∷ fs) = hit k f + count k fs
 
 -- ---- totals
 

@@ -1,14 +1,15 @@
 -- How large values grow.
 --
 --   reach F          the most by which a pass or step of F multiplies the largest value: the largest sum of sizes in a row
---   growth Fs        the most by which any passes that repeat no factor do
+--   growth Fs        the most by which passes that repeat no factor do
+--   widest Fs        the most by which one pass does
+--   Within n M x     no value at the places below n exceeds M in size
+--   row-bound        a sum by a row
 --   bound-passes     after any calls that repeat no factor
 --   bound-each       and after each of them
 --   bound-total      of a total
---   widest Fs        the most by which one pass does
---   Within n M x     no value at the places below n exceeds M in size
 --   bound-pass       after a pass
---   bound-calls      after any calls at all: times that a call
+--   bound-calls      after any calls at all: times the widest a call
 --   bound-step       after a step
 --   bound-steps      after any steps of factors that are alike: times the reach a step
 use mathlib.Core.Path.{_≡_, refl, sym, subst}
@@ -22,9 +23,9 @@ use Rattle.algebra.specs.Size.{natAbs-*ℤ, natAbs-Σ}
 use Rattle.algebra.specs.Sum.{Σ}
 use Rattle.algebra.specs.Naturals.{Σℕ, most, most-ge}
 use Rattle.contrasts.specs.Factor.{Factor}
-use Rattle.contrasts.specs.Totals.{Column, size, total, passFrom, pass, passes, step, steps}
+use Rattle.contrasts.specs.Totals.{Column, size, total, passFrom, pass, passes, count, step, steps}
 use Rattle.contrasts.specs.Laws.Digits.{level, rest-lt, digit-lt, pass-zero, pass-suc}
-use Rattle.contrasts.specs.Laws.Order.{rest, share, mixed, mixed-all, count, count-take, after}
+use Rattle.contrasts.specs.Laws.Order.{rest, share, mixed, mixed-all, count-take, after}
 use Rattle.contrasts.specs.Laws.Steps.{step-value}
 
 unfoldable pub reach : Factor → ℕ
@@ -34,14 +35,12 @@ unfoldable pub growth : List Factor → ℕ
 growth [] = 1
 growth (F ∷ Fs) = max 1 (reach F) * growth Fs
 
--- the most by which one pass does
 unfoldable pub widest : List Factor → ℕ
 widest [] = 1
 widest (F ∷ Fs) = max (reach F) (widest Fs)
 
 -- ---- one row
 
--- no value at the places below n exceeds M in size
 abbrev pub Within : ℕ → ℕ → Column → Type 0
 Within n M x = (r : ℕ) → r < n → natAbs (x r) ≤ M
 

@@ -11,7 +11,8 @@
 use mathlib.Core.Path.{_≡_, refl, sym, _∙_, ap}
 use mathlib.Core.List.{List, [], _∷_}
 use Prim.Native.Nat.{ℕ, zero, suc, _+_, _*_, _-_, _/_, _%_, _<_, _≤_}
-use native.Mathlib.Nat.{mul-assoc, div-add-mod', div-div-eq-div-mul, le-dest, add-sub-cancel-left, mod-le, mod-lt, div-mul-le-self, le-trans, mul-le-mul-right, div-one, mul-comm, mul-one, mul-pos, div-lt-iff-lt-mul}
+use native.Mathlib.Nat.{mul-assoc, div-add-mod', div-div-eq-div-mul, le-dest, add-sub-cancel-left, mod-le, mod-lt, div-mul-le-self}
+use native.Mathlib.Nat.{le-trans, mul-le-mul-right, div-one, mul-comm, mul-one, mul-pos, div-lt-iff-lt-mul}
 use native.Mathlib.Omega.{arith}
 use lib.Arith.{digits-div, digits-mod, digits-lt}
 use lib.Dec.{lit<}

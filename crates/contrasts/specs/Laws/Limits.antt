@@ -20,11 +20,10 @@ use Rattle.algebra.specs.Tests.{and-left, and-right, every, every-at}
 use Rattle.contrasts.specs.Factor.{Factor}
 use Rattle.contrasts.specs.Limits.{readingLimit, valueLimit, numeratorLimit, mostTwo, mostThree}
 use Rattle.contrasts.specs.Tables.{two, three}
-use Rattle.contrasts.specs.Totals.{Column, size, total, passes, steps, denominator, numerator, squared}
+use Rattle.contrasts.specs.Totals.{Column, size, total, passes, count, steps, denominator, numerator, squared}
 use Rattle.contrasts.specs.Laws.Alike.{growth-alike}
 use Rattle.contrasts.specs.Laws.Bounds.{Within, reach, growth, bound-each, bound-total, bound-steps}
 use Rattle.contrasts.specs.Laws.Digits.{size-pos}
-use Rattle.contrasts.specs.Laws.Order.{count}
 use Rattle.contrasts.specs.Laws.Squares.{within}
 
 unfoldable pub valuesWithin : Factor → ℕ → Bool

@@ -16,9 +16,9 @@ use lib.ListN.{length, getD}
 use Rattle.algebra.specs.Tab.{tab, getD-tab, is-tab, tab-cong}
 use Rattle.contrasts.specs.Columns.{read, totalsOf, passOf, passesOf, stepOf, stepsOf}
 use Rattle.contrasts.specs.Factor.{Factor}
-use Rattle.contrasts.specs.Totals.{Column, size, total, pass, passes, step, steps}
+use Rattle.contrasts.specs.Totals.{Column, size, total, pass, passes, count, step, steps}
 use Rattle.contrasts.specs.Laws.Digits.{size-pos, pass-cong}
-use Rattle.contrasts.specs.Laws.Order.{count, order}
+use Rattle.contrasts.specs.Laws.Order.{order}
 use Rattle.contrasts.specs.Laws.Steps.{step-cong, all-steps}
 use Rattle.contrasts.specs.Laws.Stretches.{spacing, passOver, pass-is}
 

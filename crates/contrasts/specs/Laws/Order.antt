@@ -1,12 +1,10 @@
 -- Passes in any order. What stands in the column after some calls is known at every moment, and at the end it is the totals.
 --
 --   mixed Fs m x     the column in which the factors k with 0 < m k have been passed
---   count k calls    how often position k is called
 --   after            any calls that repeat no factor leave the mixed column of those called
 --   after-each       and so does every beginning of the list of calls
 --   order            THE ORDER THEOREM: calls that name each factor once, in any order, with any other numbers among them, end as the totals
 use mathlib.Core.Path.{_≡_, refl, sym, _∙_, ap, fun-ext}
-use mathlib.Core.Bool.{cond}
 use mathlib.Core.List.{List, [], _∷_}
 use Prim.Native.Nat.{ℕ, zero, suc, _+_, _*_, _/_, _%_, _<_, _≤_}
 use native.Mathlib.Nat.{mod-lt, div-add-mod', add-zero}
@@ -14,13 +12,12 @@ use native.Mathlib.Omega.{arith}
 use native.Mathlib.Decide.{decLt}
 use borrow.Author.Tests.{eq-eqb, ne-eqb}
 use lib.Arith.{digits-div, digits-mod, lt-one}
-use lib.Dec.{eqb}
 use lib.ListN.{length, take}
 use lib.IntN.{ℤ, _*ℤ_}
 use Rattle.algebra.specs.Ring.{ac*}
 use Rattle.algebra.specs.Sum.{Σ, Σ-cong, Σ-ext, Σ-mul, Σ-swap}
 use Rattle.contrasts.specs.Factor.{Factor}
-use Rattle.contrasts.specs.Totals.{Column, size, total, digitAt, withDigit, passAt, passFrom, pass, passes}
+use Rattle.contrasts.specs.Totals.{Column, size, total, digitAt, withDigit, passAt, passFrom, pass, passes, hit, count}
 use Rattle.contrasts.specs.Laws.Digits.{level, rest-lt, total-nil, total-cons, pass-zero, pass-suc, pass-beyond}
 
 -- ---- the column after some calls
@@ -44,7 +41,8 @@ unfolding share
 share-cong F zero d p h = h d p
 share-cong F (suc n) d p h = Σ-cong (F .levels) (λ j k. rw (h j k))
 
-mixed-cong : (Fs : List Factor) (m m' : ℕ → ℕ) (x : Column) (i : ℕ) → ((k : ℕ) → k < length Fs → m k ≡ m' k) → mixed Fs m x i ≡ mixed Fs m' x i
+mixed-cong : (Fs : List Factor) (m m' : ℕ → ℕ) (x : Column) (i : ℕ) → ((k : ℕ) → k < length Fs → m k ≡ m' k)
+    → mixed Fs m x i ≡ mixed Fs m' x i
 unfolding mixed
 mixed-cong [] m m' x i h = refl
 mixed-cong (F ∷ Fs) m m' x i h =
@@ -59,7 +57,8 @@ mixed-none [] x i = refl
 mixed-none (F ∷ Fs) x i = mixed-none Fs (level F (i % F .levels) x) (i / F .levels) ∙ rw (div-add-mod' i (F .levels))
 
 -- all passed: the totals
-pub mixed-all : (Fs : List Factor) (m : ℕ → ℕ) (x : Column) (i : ℕ) → ((k : ℕ) → k < length Fs → m k ≡ 1) → i < size Fs → mixed Fs m x i ≡ total Fs x i
+pub mixed-all : (Fs : List Factor) (m : ℕ → ℕ) (x : Column) (i : ℕ) → ((k : ℕ) → k < length Fs → m k ≡ 1)
+    → i < size Fs → mixed Fs m x i ≡ total Fs x i
 unfolding mixed share size
 mixed-all [] m x i h p = rw (lt-one p) (sym (total-nil x 0))
 mixed-all (F ∷ Fs) m x i h p =
@@ -122,14 +121,6 @@ pass-mixed (F ∷ Fs) (suc f) m m' x i p a b h =
     ∙ ap (λ n. share F n (i % F .levels) (λ j. mixed Fs (rest m') (level F j x) (i / F .levels))) (sym (h 0 (λ e. omega arith)))
 
 -- ---- lists of calls
-
--- 1 where the two positions are one, and else 0
-abbrev pub hit : ℕ → ℕ → ℕ
-hit k f = cond (eqb k f) 1 0
-
-unfoldable pub count : ℕ → List ℕ → ℕ
-count k [] = 0
-count k (f ∷ fs) = hit k f + count k fs
 
 hit-same : (f : ℕ) → hit f f ≡ 1
 hit-same f = rw (eq-eqb f f refl)

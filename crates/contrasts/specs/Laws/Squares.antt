@@ -1,9 +1,9 @@
 -- The sum of squares, for two columns and for one.
 --
---   squares      the products of matching totals, each by its weight, add up to the denominator times the sum of products of readings
---   numerators   "the numerators of all N effects add up to the denominator times the sum of squared readings"
---   within       so no numerator, and no sum of some of them, exceeds that
---   recover      readings back from totals: each reading is the weighted sum of the totals by its own coefficients
+--   squares              the products of matching totals, each by its weight, add up to the denominator times the sum of products of readings
+--   numerators           "the numerators of all N effects add up to the denominator times the sum of squared readings"
+--   within, within-one   so no sum of some of them, broken off anywhere, exceeds that, and no one of them
+--   recover              readings back from totals: each reading, times the denominator, is the weighted sum of the totals by its coefficients
 use mathlib.Core.Path.{_≡_, sym, _∙_, ap}
 use mathlib.Core.Bool.{Bool, cond}
 use mathlib.Core.List.{List, [], _∷_}
