@@ -2,6 +2,7 @@
 --
 --   +ℤ-left-comm, *ℤ-left-comm    a + (b + c) = b + (a + c), and of products
 --   *ℤ-assoc                      the product is associative
+--   *ℤ-middle, *ℤ-interchange     (a b) c = b (a c), and (a b) (c d) = (a c) (b d)
 --   +ℤ-*ℤ, *ℤ-+ℤ                  and distributes over the sum
 --   neg-*ℤ                        (- a) b = - (a b)
 --   one-*ℤ, ℤ-*one                1 a = a = a 1
@@ -54,6 +55,12 @@ pub *ℤ-left-comm : (a b c : ℤ) → a *ℤ (b *ℤ c) ≡ b *ℤ (a *ℤ c)
 *ℤ-left-comm a b c = sym (*ℤ-assoc a b c) ∙ rw (*ℤ-comm a b) (*ℤ-assoc b a c)
 
 pub ruleset ac* = (*ℤ-assoc, *ℤ-comm, *ℤ-left-comm)
+
+pub *ℤ-middle : (a b c : ℤ) → (a *ℤ b) *ℤ c ≡ b *ℤ (a *ℤ c)
+*ℤ-middle a b c = simp ac*
+
+pub *ℤ-interchange : (a b c d : ℤ) → (a *ℤ b) *ℤ (c *ℤ d) ≡ (a *ℤ c) *ℤ (b *ℤ d)
+*ℤ-interchange a b c d = simp ac*
 
 pub one-*ℤ : (a : ℤ) → pos 1 *ℤ a ≡ a
 unfolding one

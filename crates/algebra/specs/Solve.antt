@@ -2,7 +2,8 @@
 --
 --   Ex                expressions: var i, lit c, a ⊕ b, a ⊖ b, a ⊗ b
 --   value ρ a         what the expression a comes to, where ρ i is the number of var i
---   Poly, norm a      the polynomial of a: a sorted list of terms with coefficients
+--   Poly, norm a      the polynomial of a: a sorted list of terms with coefficients; eqM, ltM, insert, mulM, tidy, addT, addP, mulT and mulP
+--                     compute it: M of lists of variables, T of one term, P of polynomials
 --   solve xs a b refl proves that a and b are equal, var i being the i-th of the numbers xs, where antt computes the same polynomial of both
 --
 -- The two expressions are written out, since a goal cannot be quoted. For mere reordering `simp ac+` and `simp ac*` are shorter.

@@ -10,6 +10,7 @@
 --   Σ-swap             two sums change places
 --   Σ-plus             a sum taken in two parts
 --   Σ-digits, Σ-split  the sum over l * n numbers, by their lowest digit to the base l and the rest
+--   cond-*ℤ            a factor goes under a test
 --   Σ-one, Σ-at        a sum with one term only
 use mathlib.Core.Path.{_≡_, refl, sym, _∙_}
 use mathlib.Core.Bool.{Bool, true, false, cond}

@@ -1,6 +1,6 @@
 -- The list of a function's first n values. A column of the code is such a list, and the laws of columns are laws of functions.
 --
---   tab n f       f 0, .., f (n - 1)
+--   tab n f       f 0, .., f (n - 1); tabFrom s n f begins at f s
 --   length-tab    its length
 --   getD-tab      its entry at i
 --   is-tab        a list of n entries that are those of f

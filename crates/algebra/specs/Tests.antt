@@ -4,15 +4,19 @@
 --   and-left, and-right    both sides of a test a && b pass
 --   every n p              the test p passes at each number below n
 --   every-at               so it passes at any one of them
+--   eqb-digits             two numbers are equal where their lowest digits are, and the rest
+--   cond-*, cond-*ℤ-cond   a product of two numbers, each under a test, is under both tests
 --   eqZ a b                the integers a and b are equal
 --   eqZ→eq                 so they are
-use mathlib.Core.Path.{_≡_, ap}
-use mathlib.Core.Bool.{Bool, true, false, _&&_}
-use Prim.Native.Nat.{ℕ, zero, suc, _<_}
+use mathlib.Core.Path.{_≡_, refl, sym, _∙_, ap}
+use mathlib.Core.Bool.{Bool, true, false, cond, _&&_}
+use Prim.Native.Nat.{ℕ, zero, suc, _*_, _/_, _%_, _<_}
+use native.Mathlib.Nat.{div-add-mod', mul-zero, zero-mul}
 use native.Mathlib.Omega.{arith}
 use native.Mathlib.Decide.{ℕ-discrete}
+use borrow.Author.Tests.{eq-eqb, ne-eqb}
 use lib.Dec.{T, eqb, eqb→eq}
-use lib.IntN.{ℤ, pos, negsuc}
+use lib.IntN.{ℤ, pos, negsuc, _*ℤ_, *ℤ-zero, zero-*ℤ}
 
 pub and-left : (a b : Bool) → T (a && b) → T a
 and-left true b t = tt
@@ -34,6 +38,26 @@ every-at (suc n) p t i h = go (ℕ-discrete i n) (every-at n p (and-right (p n) 
     go : Dec (i ≡ n) → (i < n → T (p i)) → T (p i)
     go (yes e) r = rw e (and-left (p n) (every n p) t)
     go (no e) r = r (omega arith)
+
+pub eqb-digits : (l c e : ℕ) → eqb c e ≡ (eqb (c % l) (e % l) && eqb (c / l) (e / l))
+eqb-digits l c e = go (ℕ-discrete (c % l) (e % l)) (ℕ-discrete (c / l) (e / l))
+  where
+    go : Dec (c % l ≡ e % l) → Dec (c / l ≡ e / l) → eqb c e ≡ (eqb (c % l) (e % l) && eqb (c / l) (e / l))
+    go (yes p) (yes q) =
+        let s : c ≡ e = sym (div-add-mod' c l) ∙ rw (p, q) (div-add-mod' e l) in
+        rw (eq-eqb c e s, eq-eqb (c % l) (e % l) p, eq-eqb (c / l) (e / l) q)
+    go (yes p) (no q) = rw (ne-eqb c e (λ s. q (ap (λ z. z / l) s)), eq-eqb (c % l) (e % l) p, ne-eqb (c / l) (e / l) q)
+    go (no p) q = rw (ne-eqb c e (λ s. p (ap (λ z. z % l) s)), ne-eqb (c % l) (e % l) p)
+
+pub cond-* : (a b : Bool) (m n : ℕ) → cond a m 0 * cond b n 0 ≡ cond (a && b) (m * n) 0
+cond-* true true m n = refl
+cond-* true false m n = mul-zero m
+cond-* false b m n = zero-mul (cond b n 0)
+
+pub cond-*ℤ-cond : (a b : Bool) (m n : ℤ) → cond a m (pos 0) *ℤ cond b n (pos 0) ≡ cond (a && b) (m *ℤ n) (pos 0)
+cond-*ℤ-cond true true m n = refl
+cond-*ℤ-cond true false m n = *ℤ-zero m
+cond-*ℤ-cond false b m n = zero-*ℤ (cond b n (pos 0))
 
 abbrev pub eqZ : ℤ → ℤ → Bool
 eqZ (pos a) (pos b) = eqb a b

@@ -1,11 +1,17 @@
 -- The factors of two, three, four and five levels, from their tables of numbers. The laws of a table are one test of the whole of it,
 -- which is computed.
 --
---   Table                     rows of coefficients, a divisor for each, a common denominator
---   lawful t                  the test
---   factorOf t ok             the factor of a table that passes it
---   neg n                     the number - n
---   two, three, four, five    the factors
+--   Table                                        rows of coefficients, a divisor for each, a common denominator
+--   levelsOf, coefOf, divisorOf                  its numbers
+--   dividing, rowsApart, columnsApart            the tests of its divisors, of its rows and of its columns
+--   tests, lawful                                all tests, by their number, and whether all pass
+--   some-level, some-common, divides, rows, columns
+--                                                the laws that a lawful table has
+--   factorOf                                     so it makes a factor
+--   neg n                                        the number - n
+--   twoTable, threeTable, fourTable, fiveTable   the tables
+--   tables, table-lawful                         the four by their number, and that all are lawful
+--   two, three, four, five                       the factors
 --
 -- The rows of two and three levels are those of "Totals and passes"; four and five levels are named by the request for mixed levels.
 use mathlib.Core.Path.{_≡_}

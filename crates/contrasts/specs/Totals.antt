@@ -1,21 +1,24 @@
 -- What the section "Totals and passes" defines, over any list of factors. The first factor, A, is the lowest digit of a run's number.
 -- A column is a function of the place; a place that the plan does not have holds nothing of interest.
 --
---   size Fs              how many runs there are
---   coef* Fs e r         the coefficient of run r in the total of effect e
---   total Fs x e         the total of effect e
---   pass Fs f x          the pass of the factor at position f
---   passes Fs fs x       the passes of a list of positions, one after the other
---   count k fs           how often position k is called
---   step N F x           the report's own step over a column of N
---   steps N Fs x         a step for each factor, one after the other
---   divisor* Fs e        the divisor of effect e
---   denominator Fs       the common denominator
---   weight* Fs e         denominator over divisor
---   numerator Fs x e     the numerator of effect e
---   squared Fs x         the sum of squared readings
---   checkWeight F j      the sum of a level's coefficients
---   round F x, rounds    a round of the check, and what a round for each factor leaves
+--   Column                       a value at each place
+--   size Fs                      how many runs there are
+--   digitAt, withDigit           a place's digit that stands for s, and the place with another digit there
+--   passAt s F x                 the pass of a factor whose values lie s apart
+--   passFrom, pass Fs f x        the pass of the factor at position f
+--   passes Fs fs x               the passes of a list of positions, one after the other
+--   hit, count k fs              how often position k is called
+--   coef* Fs e r                 the coefficient of run r in the total of effect e
+--   total Fs x e                 the total of effect e
+--   sets, step N F x             the report's own step over a column of N
+--   steps N Fs x                 a step for each factor, one after the other
+--   divisor* Fs e                the divisor of effect e
+--   denominator Fs               the common denominator
+--   weight* Fs e                 denominator over divisor
+--   numerator Fs x e             the numerator of effect e
+--   squared Fs x                 the sum of squared readings
+--   checkWeight F j              the sum of a level's coefficients
+--   round F x, rounds Fs x       a round of the check, and what a round for each factor leaves
 use mathlib.Core.Bool.{cond}
 use mathlib.Core.List.{List, [], _∷_}
 use Prim.Native.Nat.{ℕ, zero, suc, _+_, _*_, _-_, _/_, _%_}
@@ -66,7 +69,7 @@ passes Fs (f ∷ fs) x = passes Fs fs (pass Fs f x)
 abbrev pub hit : ℕ → ℕ → ℕ
 hit k f = cond (eqb k f) 1 0
 
--- how often position k is called: "names each base factor once" is count k calls ≡ 1 for each factor k
+-- how often position k is called; a list of calls names each factor once where this is 1 for each of them
 unfoldable pub count : ℕ → List ℕ → ℕ
 count k [] = 0
 count k (f ∷ fs) = hit k f + count k fs
@@ -110,6 +113,7 @@ unfoldable pub denominator : List Factor → ℕ
 denominator [] = 1
 denominator (F ∷ Fs) = F .common * denominator Fs
 
+-- "(denominator over divisor)"
 unfoldable pub weight* : List Factor → ℕ → ℕ
 weight* Fs e = denominator Fs / divisor* Fs e
 
@@ -123,6 +127,7 @@ squared Fs x = Σℕ (size Fs) (λ r. natAbs (x r) * natAbs (x r))
 
 -- ---- the check
 
+-- at three levels these are the numbers 3, -1 and 1 of "3 times first minus middle plus third"
 unfoldable pub checkWeight : Factor → ℕ → ℤ
 checkWeight F j = Σ (F .levels) (λ d. F .coef d j)
 

@@ -8,7 +8,7 @@ use mathlib.Core.List.{List, [], _∷_}
 use Prim.Native.Nat.{ℕ, _+_, _*_, _/_, _%_}
 use lib.Arith.{digits-div, digits-mod}
 use lib.IntN.{ℤ, pos, _*ℤ_}
-use Rattle.algebra.specs.Ring.{ac*, ℤ-*one}
+use Rattle.algebra.specs.Ring.{ℤ-*one, *ℤ-middle}
 use Rattle.algebra.specs.Sum.{Σ, Σ-unit, Σ-cong, Σ-ext, Σ-mul-r, Σ-swap, Σ-digits, Σ-split}
 use Rattle.contrasts.specs.Factor.{Factor}
 use Rattle.contrasts.specs.Totals.{Column, size, total, checkWeight, round, rounds}
@@ -42,7 +42,7 @@ unfolding size rounds round checkWeight*
 rounds-weights [] x = sym (Σ-unit (λ r. x r *ℤ pos 1) ∙ ℤ-*one (x 0))
 rounds-weights (F ∷ Fs) x =
     rounds-weights Fs (round F x)
-    ∙ Σ-ext n (λ q. sym (Σ-mul-r (k q) l (λ j. c j *ℤ x (q * l + j))) ∙ Σ-ext l (λ j. regroup (c j) (x (q * l + j)) (k q)))
+    ∙ Σ-ext n (λ q. sym (Σ-mul-r (k q) l (λ j. c j *ℤ x (q * l + j))) ∙ Σ-ext l (λ j. *ℤ-middle (c j) (x (q * l + j)) (k q)))
     ∙ sym (Σ-digits l n (λ r. x r *ℤ (c (r % l) *ℤ k (r / l)))
     ∙ Σ-ext n (λ q. Σ-cong l (λ d h. rw (digits-mod q h, digits-div q h))))
   where
@@ -57,9 +57,6 @@ rounds-weights (F ∷ Fs) x =
 
     k : ℕ → ℤ
     k = checkWeight* Fs
-
-    regroup : (a b c : ℤ) → (a *ℤ b) *ℤ c ≡ b *ℤ (a *ℤ c)
-    regroup a b c = simp ac*
 
 pub check-sum : (Fs : List Factor) (x : Column) → Σ (size Fs) (total Fs x) ≡ Σ (size Fs) (λ r. x r *ℤ checkWeight* Fs r)
 check-sum Fs x = check-rounds Fs x ∙ rounds-weights Fs x

@@ -11,11 +11,11 @@ use native.Mathlib.Nat.{mod-lt, mul-comm, pow-suc, div-lt-iff-lt-mul}
 use native.Mathlib.Numerals.{add-one}
 use native.Mathlib.Decide.{ℕ-discrete}
 use native.Mathlib.Omega.{arith}
-use borrow.Author.Tests.{eq-eqb, ne-eqb}
-use lib.Arith.{digits-lt, lt-one}
+use lib.Arith.{digits-div, digits-mod, digits-lt, lt-one}
 use lib.Dec.{eqb, eqb·suc-zero, lit<}
 use lib.ListN.{length}
 use Rattle.algebra.specs.Naturals.{Σℕ, Σℕ-cong, Σℕ-mul, Σℕ-split, Σℕ-by, Σℕ-ones}
+use Rattle.algebra.specs.Tests.{eqb-digits, cond-*}
 use Rattle.contrasts.specs.Factor.{Factor}
 use Rattle.contrasts.specs.Totals.{size}
 use Rattle.contrasts.specs.Rows.{rowOf, degreesOf}
@@ -42,14 +42,9 @@ row-lt (F ∷ Fs) e = rw (pow-suc 2 (length Fs)) (digits-lt (row-lt Fs (e / F .l
 
 -- ---- the effects of a row
 
--- two numbers are equal where their halves and their last digits are
 same-digits : (r b w : ℕ) → b < 2 → same (r * 2 + b) w ≡ same b (w % 2) * same r (w / 2)
-same-digits r b w h = go (ℕ-discrete b (w % 2)) (ℕ-discrete r (w / 2))
-  where
-    go : Dec (b ≡ w % 2) → Dec (r ≡ w / 2) → same (r * 2 + b) w ≡ same b (w % 2) * same r (w / 2)
-    go (yes p) (yes q) = rw (eq-eqb (r * 2 + b) w (omega arith), eq-eqb b (w % 2) p, eq-eqb r (w / 2) q)
-    go (yes p) (no q) = rw (ne-eqb (r * 2 + b) w (λ e. q (omega arith)), ne-eqb r (w / 2) q) (omega arith)
-    go (no p) q = rw (ne-eqb (r * 2 + b) w (λ e. p (omega arith)), ne-eqb b (w % 2) p) (omega arith)
+same-digits r b w h =
+    sym (cond-* (eqb b (w % 2)) (eqb r (w / 2)) 1 1 ∙ rw (eqb-digits 2 (r * 2 + b) w, digits-mod r h, digits-div r h))
 
 -- of l digits one is 0 and the others are not
 zero-digits : (n : ℕ) → Σℕ (suc n) (λ d. same (used d) 0) ≡ 1

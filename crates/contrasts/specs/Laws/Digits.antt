@@ -18,7 +18,7 @@ use lib.Arith.{digits-div, digits-mod, digits-lt}
 use lib.Dec.{lit<}
 use lib.IntN.{ℤ, pos, _*ℤ_}
 use lib.ListN.{length}
-use Rattle.algebra.specs.Ring.{ac*, ℤ-*one}
+use Rattle.algebra.specs.Ring.{ac*, ℤ-*one, *ℤ-assoc}
 use Rattle.algebra.specs.Sum.{Σ, Σ-unit, Σ-cong, Σ-ext, Σ-mul, Σ-mul-r, Σ-swap, Σ-digits}
 use Rattle.contrasts.specs.Factor.{Factor}
 use Rattle.contrasts.specs.Totals.{Column, size, coef*, total, withDigit, passAt, passFrom, pass}
@@ -71,10 +71,7 @@ unfolding total
 total-Σ Fs n c y e =
     Σ-ext (size Fs) (λ r. sym (Σ-mul-r (coef* Fs e r) n (λ j. c j *ℤ y j r)))
     ∙ Σ-swap (size Fs) n (λ r j. (c j *ℤ y j r) *ℤ coef* Fs e r)
-    ∙ Σ-ext n (λ j. Σ-ext (size Fs) (λ r. regroup (c j) (y j r) (coef* Fs e r)) ∙ Σ-mul (c j) (size Fs) (λ r. y j r *ℤ coef* Fs e r))
-  where
-    regroup : (a b c : ℤ) → (a *ℤ b) *ℤ c ≡ a *ℤ (b *ℤ c)
-    regroup a b c = simp ac*
+    ∙ Σ-ext n (λ j. Σ-ext (size Fs) (λ r. *ℤ-assoc (c j) (y j r) (coef* Fs e r)) ∙ Σ-mul (c j) (size Fs) (λ r. y j r *ℤ coef* Fs e r))
 
 -- ---- passes
 

@@ -1,6 +1,6 @@
 -- From readings within their limit no plan of two or three levels leaves the others.
 --
---   withinLimits F k     the test: k factors F keep values and numerators within the limits
+--   withinLimits F k     the test: k factors F keep values and numerators within the limits; valuesWithin, numeratorsWithin are its parts
 --   two-within           up to ten two-level factors do
 --   three-within         up to six three-level factors do
 --   values-fit           so does the column after each of any calls that repeat no factor

@@ -9,7 +9,6 @@ use mathlib.Core.Path.{_≡_, refl, sym, _∙_}
 use mathlib.Core.List.{List, [], _∷_}
 use Prim.Native.Nat.{ℕ, _*_, _<_}
 use native.Mathlib.Nat.{mul-one, mul-pos, mul-assoc}
-use native.Mathlib.Omega.{arith}
 use lib.Dec.{lit<}
 use lib.IntN.{ℤ, pos}
 use lib.ListN.{length, getD}
@@ -19,7 +18,7 @@ use Rattle.contrasts.specs.Factor.{Factor}
 use Rattle.contrasts.specs.Totals.{Column, size, total, pass, passes, count, step, steps}
 use Rattle.contrasts.specs.Laws.Digits.{size-pos, pass-cong}
 use Rattle.contrasts.specs.Laws.Order.{order}
-use Rattle.contrasts.specs.Laws.Steps.{step-cong, all-steps}
+use Rattle.contrasts.specs.Laws.Steps.{step-cong, rotated, all-steps}
 use Rattle.contrasts.specs.Laws.Stretches.{spacing, passOver, pass-is}
 
 pub tab-read : (xs : List ℤ) (n : ℕ) → length xs ≡ n → xs ≡ tab n (read xs)
@@ -58,12 +57,9 @@ steps-from : (N m : ℕ) (Fs : List Factor) (xs : List ℤ) (x : Column) → 0 <
 unfolding stepsOf stepOf steps size
 steps-from N m [] xs x some e h = h
 steps-from N m (F ∷ Fs) xs x some e h =
-    steps-from N (m * F .levels) Fs (tab N (step N F (read xs))) (step N F x) (mul-pos some (F .some-level)) (e ∙ more (F .levels) (size Fs))
+    steps-from N (m * F .levels) Fs (tab N (step N F (read xs))) (step N F x) (mul-pos some (F .some-level)) (e ∙ rotated (F .levels) (size Fs) m)
     (tab-cong (pos 0) N (step N F (read xs)) (step N F x) (λ i _. one i))
   where
-    more : (l n : ℕ) → l * n * m ≡ n * (m * l)
-    more l n = omega arith
-
     whole : N ≡ F .levels * (size Fs * m)
     whole = e ∙ mul-assoc (F .levels) (size Fs) m
 

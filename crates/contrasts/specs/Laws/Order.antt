@@ -1,6 +1,9 @@
 -- Passes in any order. What stands in the column after some calls is known at every moment, and at the end it is the totals.
 --
+--   share, rest      one factor's share in it, and the other factors' calls
 --   mixed Fs m x     the column in which the factors k with 0 < m k have been passed
+--   mixed-all        where all have been, it is the totals
+--   count-take       a beginning of a list calls no position more often
 --   after            any calls that repeat no factor leave the mixed column of those called
 --   after-each       and so does every beginning of the list of calls
 --   order            THE ORDER THEOREM: calls that name each factor once, in any order, with any other numbers among them, end as the totals

@@ -2,36 +2,20 @@
 -- its divisor.
 --
 --   orthogonal    that law
-use mathlib.Core.Path.{_≡_, sym, _∙_, ap}
+use mathlib.Core.Path.{_≡_, _∙_, ap}
 use mathlib.Core.Bool.{cond}
 use mathlib.Core.List.{List, [], _∷_}
-use Prim.Native.Nat.{ℕ, _*_, _/_, _%_, _<_}
-use native.Mathlib.Nat.{mod-lt, div-add-mod'}
-use native.Mathlib.Decide.{ℕ-discrete}
-use borrow.Author.Tests.{eq-eqb, ne-eqb}
+use Prim.Native.Nat.{ℕ, _/_, _%_, _<_}
+use native.Mathlib.Nat.{mod-lt}
 use lib.Arith.{lt-one}
 use lib.Dec.{eqb}
-use lib.IntN.{ℤ, pos, _*ℤ_, zero-*ℤ, *ℤ-zero}
-use Rattle.algebra.specs.Ring.{ac*}
+use lib.IntN.{ℤ, pos, _*ℤ_}
+use Rattle.algebra.specs.Ring.{*ℤ-interchange}
 use Rattle.algebra.specs.Sum.{Σ, Σ-unit, Σ-ext, Σ-mul, Σ-mul-r, Σ-split}
+use Rattle.algebra.specs.Tests.{eqb-digits, cond-*ℤ-cond}
 use Rattle.contrasts.specs.Factor.{Factor}
 use Rattle.contrasts.specs.Totals.{size, coef*, divisor*}
 use Rattle.contrasts.specs.Laws.Digits.{rest-lt}
-
--- two numbers are equal where their digits are
-same-digits : (l c e a b : ℕ)
-    → cond (eqb (c % l) (e % l)) (pos a) (pos 0) *ℤ cond (eqb (c / l) (e / l)) (pos b) (pos 0) ≡ cond (eqb c e) (pos (a * b)) (pos 0)
-same-digits l c e a b = go (ℕ-discrete (c % l) (e % l)) (ℕ-discrete (c / l) (e / l))
-  where
-    go : Dec (c % l ≡ e % l) → Dec (c / l ≡ e / l)
-        → cond (eqb (c % l) (e % l)) (pos a) (pos 0) *ℤ cond (eqb (c / l) (e / l)) (pos b) (pos 0) ≡ cond (eqb c e) (pos (a * b)) (pos 0)
-    go (yes p) (yes q) =
-        let s : c ≡ e = sym (div-add-mod' c l) ∙ rw (p, q) (div-add-mod' e l) in
-        rw (eq-eqb (c % l) (e % l) p, eq-eqb (c / l) (e / l) q, eq-eqb c e s)
-    go (yes p) (no q) =
-        rw (ne-eqb (c / l) (e / l) q, ne-eqb c e (λ s. q (ap (λ z. z / l) s))) (*ℤ-zero (cond (eqb (c % l) (e % l)) (pos a) (pos 0)))
-    go (no p) q =
-        rw (ne-eqb (c % l) (e % l) p, ne-eqb c e (λ s. p (ap (λ z. z % l) s))) (zero-*ℤ (cond (eqb (c / l) (e / l)) (pos b) (pos 0)))
 
 pub orthogonal : (Fs : List Factor) (c e : ℕ) → c < size Fs → e < size Fs
     → Σ (size Fs) (λ r. coef* Fs c r *ℤ coef* Fs e r) ≡ cond (eqb c e) (pos (divisor* Fs c)) (pos 0)
@@ -39,12 +23,13 @@ unfolding size coef* divisor*
 orthogonal [] c e h k = rw (lt-one h, lt-one k) (Σ-unit (λ r. pos 1))
 orthogonal (F ∷ Fs) c e h k =
     Σ-split l n (λ d q. (fc d *ℤ gc q) *ℤ (fe d *ℤ ge q))
-    ∙ Σ-ext n (λ q. Σ-ext l (λ d. regroup (fc d) (gc q) (fe d) (ge q)) ∙ Σ-mul-r (gc q *ℤ ge q) l (λ d. fc d *ℤ fe d))
+    ∙ Σ-ext n (λ q. Σ-ext l (λ d. *ℤ-interchange (fc d) (gc q) (fe d) (ge q)) ∙ Σ-mul-r (gc q *ℤ ge q) l (λ d. fc d *ℤ fe d))
     ∙ Σ-mul (Σ l (λ d. fc d *ℤ fe d)) n (λ q. gc q *ℤ ge q)
     ∙ ap (λ z. z *ℤ Σ n (λ q. gc q *ℤ ge q)) (F .rows (c % l) (e % l) (mod-lt c (F .some-level)) (mod-lt e (F .some-level)))
     ∙ ap (λ z. cond (eqb (c % l) (e % l)) (pos (F .divisor (c % l))) (pos 0) *ℤ z)
     (orthogonal Fs (c / l) (e / l) (rest-lt (F .some-level) h) (rest-lt (F .some-level) k))
-    ∙ same-digits l c e (F .divisor (c % l)) (divisor* Fs (c / l))
+    ∙ cond-*ℤ-cond (eqb (c % l) (e % l)) (eqb (c / l) (e / l)) (pos (F .divisor (c % l))) (pos (divisor* Fs (c / l)))
+    ∙ rw (← (eqb-digits l c e))
   where
     l : ℕ
     l = F .levels
@@ -63,6 +48,3 @@ orthogonal (F ∷ Fs) c e h k =
 
     ge : ℕ → ℤ
     ge q = coef* Fs (e / F .levels) q
-
-    regroup : (a b c d : ℤ) → (a *ℤ b) *ℤ (c *ℤ d) ≡ (a *ℤ c) *ℤ (b *ℤ d)
-    regroup a b c d = simp ac*

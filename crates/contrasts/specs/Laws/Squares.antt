@@ -11,7 +11,7 @@ use Prim.Native.Nat.{ℕ, _+_, _*_, _<_, _≤_}
 use native.Mathlib.Nat.{mul-comm}
 use lib.Dec.{eqb}
 use lib.IntN.{ℤ, pos, natAbs, _*ℤ_, *ℤ-comm}
-use Rattle.algebra.specs.Ring.{ac*, *ℤ-assoc}
+use Rattle.algebra.specs.Ring.{ac*, *ℤ-assoc, *ℤ-left-comm, *ℤ-middle}
 use Rattle.algebra.specs.Size.{square}
 use Rattle.algebra.specs.Sum.{Σ, Σ-unit, Σ-cong, Σ-ext, Σ-mul, Σ-mul-r, Σ-prod, Σ-swap, Σ-digits, Σ-split, Σ-one, Σ-at, cond-*ℤ, δ}
 use Rattle.algebra.specs.Naturals.{Σℕ, Σℕ-pos, Σℕ-some, Σℕ-term}
@@ -64,13 +64,13 @@ squares (F ∷ Fs) x y =
     Σ-ext (l * n) (λ e. rw (weight-cons F Fs e, total-cons F Fs x e, total-cons F Fs y e))
     ∙ Σ-split l n (λ d q. pos (weight F d * weight* Fs q) *ℤ (ux d q *ℤ uy d q))
     ∙ Σ-ext n (λ q.
-    Σ-ext l (λ d. regroup (pos (weight F d)) (pos (weight* Fs q)) (ux d q *ℤ uy d q))
+    Σ-ext l (λ d. *ℤ-middle (pos (weight F d)) (pos (weight* Fs q)) (ux d q *ℤ uy d q))
     ∙ Σ-mul (pos (weight* Fs q)) l (λ d. pos (weight F d) *ℤ (ux d q *ℤ uy d q))
     ∙ ap (λ z. pos (weight* Fs q) *ℤ z) (one-factor F (λ i. tx i q) (λ j. ty j q) ∙ sym (Σ-mul (pos (F .common)) l (λ i. tx i q *ℤ ty i q)))
     ∙ sym (Σ-mul (pos (weight* Fs q)) l (λ i. pos (F .common) *ℤ (tx i q *ℤ ty i q))))
     ∙ Σ-swap n l (λ q i. pos (weight* Fs q) *ℤ (pos (F .common) *ℤ (tx i q *ℤ ty i q)))
     ∙ Σ-ext l (λ i.
-    Σ-ext n (λ q. swap (pos (weight* Fs q)) (pos (F .common)) (tx i q *ℤ ty i q))
+    Σ-ext n (λ q. *ℤ-left-comm (pos (weight* Fs q)) (pos (F .common)) (tx i q *ℤ ty i q))
     ∙ Σ-mul (pos (F .common)) n (λ q. pos (weight* Fs q) *ℤ (tx i q *ℤ ty i q))
     ∙ ap (λ z. pos (F .common) *ℤ z) (squares Fs (level F i x) (level F i y))
     ∙ sym (*ℤ-assoc (pos (F .common)) (pos (denominator Fs)) (Σ n (λ q. x (q * l + i) *ℤ y (q * l + i)))))
@@ -96,12 +96,6 @@ squares (F ∷ Fs) x y =
 
     uy : ℕ → ℕ → ℤ
     uy d q = Σ (F .levels) (λ i. F .coef d i *ℤ ty i q)
-
-    regroup : (a b c : ℤ) → (a *ℤ b) *ℤ c ≡ b *ℤ (a *ℤ c)
-    regroup a b c = simp ac*
-
-    swap : (a b c : ℤ) → a *ℤ (b *ℤ c) ≡ b *ℤ (a *ℤ c)
-    swap a b c = simp ac*
 
 -- ---- one column, in whole numbers
 

@@ -2,6 +2,7 @@
 --
 --   step-value     what the step writes as combination d of set q
 --   step-cong      it reads only places of its column
+--   rotated        the digit of a factor moves from the lowest place to the highest
 --   all-steps      a step for each factor ends as the totals
 use mathlib.Core.Path.{_≡_, sym, _∙_, ap}
 use mathlib.Core.List.{List, [], _∷_}
@@ -32,6 +33,10 @@ step-cong F n x y some h i =
     rw (sets-are F n)
     (Σ-cong (F .levels) (λ j k. ap (λ z. F .coef (i / n) j *ℤ z) (h (i % n * F .levels + j) (digit-lt (mod-lt i some) k))))
 
+-- a factor's levels, from the runs to the effects already made
+pub rotated : (l n m : ℕ) → l * n * m ≡ n * (m * l)
+rotated l n m = omega arith
+
 -- the step at a place whose digits, from the lowest, are one of n runs, one of m effects already made, and the row
 step-made : (F : Factor) (n m : ℕ) (x : Column) (i r : ℕ) → 0 < m → r < n
     → step (F .levels * n * m) F x (i % (m * F .levels) * n + r)
@@ -51,8 +56,8 @@ steps-from [] m x i some h =
     let k : i < m = omega arith in
     sym (total-nil (λ r. x (i % m * 1 + r)) (i / m) ∙ rw (mod-eq-of-lt k, mul-one i, add-zero i))
 steps-from (F ∷ Fs) m x i some h =
-    ap (λ N. steps N Fs made i) (more l n)
-    ∙ steps-from Fs (m * l) made i (mul-pos some (F .some-level)) (rw (more l n) at h)
+    ap (λ N. steps N Fs made i) (rotated l n m)
+    ∙ steps-from Fs (m * l) made i (mul-pos some (F .some-level)) (rw (rotated l n m) at h)
     ∙ total-cong Fs (λ r. made (i % (m * l) * n + r)) (λ r. Σ l (λ j. c j *ℤ x ((a * n + r) * l + j))) (i / (m * l)) (λ r k. step-made F n m x i r some k)
     ∙ total-Σ Fs l c (λ j r. x ((a * n + r) * l + j)) (i / (m * l))
     ∙ Σ-ext l (λ j. ap (λ z. c j *ℤ z) (rw (div-div-eq-div-mul i m l)
@@ -73,9 +78,6 @@ steps-from (F ∷ Fs) m x i some h =
 
     made : Column
     made = step (F .levels * size Fs * m) F x
-
-    more : (l n : ℕ) → l * n * m ≡ n * (m * l)
-    more l n = omega arith
 
     place : (l n r j : ℕ) → (a * n + r) * l + j ≡ a * (l * n) + (r * l + j)
     place l n r j = omega arith

@@ -3,7 +3,7 @@
 --   spacing Fs f       how far apart the values of the factor at position f lie: the product of the levels before it
 --   pass-is            the pass of a position is the pass of its factor at that spacing
 --   pass-value         what the pass writes at the place p + d s, where p is the place of stretch q at the offset i
---   passOver s F xs    the pass of F at the spacing s over a whole list
+--   passOver s F xs    the pass of F at the spacing s over a whole list; length-over is its length
 --   stretch-value      what the pass of one stretch writes at the place i + d s
 --   stretch-alone      the pass of a stretch by itself is that stretch of the pass of the column
 use mathlib.Core.Path.{_≡_, refl, sym, _∙_, ap}
