@@ -3,8 +3,10 @@
 --   Ring      the ring ℤ: the laws that the kit lacks
 --   Solve     a normaliser that proves equations of the ring ℤ
 --   Tests     tests that are computed, and the facts that they show
+--   Search    whether a test holds of some number below a bound
 --   Sum       finite sums Σ of integers
 --   Naturals  finite sums and largest values of natural numbers
+--   Bits      sets as the binary digits of a number
 --   Size      the size of sums and products, and what fits a 64-bit integer
 --   Tab       the list of a function's first n values
 --   Turns     a list whose places are written one after the other
@@ -13,8 +15,10 @@
 pub mod Ring
 pub mod Solve
 pub mod Tests
+pub mod Search
 pub mod Sum
 pub mod Naturals
+pub mod Bits
 pub mod Size
 pub mod Tab
 pub mod Turns

@@ -4,6 +4,7 @@
 --   Σℕ-pos          as an integer it is the sum Σ, whose laws it has
 --   Σℕ-cong         equal terms give equal sums
 --   Σℕ-mul          a common factor
+--   Σℕ-first        the first term, and the rest
 --   Σℕ-ones         n times 1
 --   Σℕ-split        the sum over l * n numbers, by their lowest digit to the base l and the rest
 --   Σℕ-by           a sum sorted by a key: the parts of all keys add up to the whole
@@ -52,6 +53,11 @@ pub Σℕ-split : (l n : ℕ) (g : ℕ → ℕ → ℕ) → Σℕ (l * n) (λ i.
     ∙ Σ-split l n (λ d q. pos (g d q))
     ∙ Σ-ext n (λ q. sym (Σℕ-pos l (λ d. g d q)))
     ∙ sym (Σℕ-pos n (λ q. Σℕ l (λ d. g d q))))
+
+pub Σℕ-first : (n : ℕ) (f : ℕ → ℕ) → Σℕ (suc n) f ≡ f 0 + Σℕ n (λ i. f (suc i))
+unfolding Σℕ
+Σℕ-first zero f = omega arith
+Σℕ-first (suc n) f = rw (Σℕ-first n f) (omega arith)
 
 pub Σℕ-ones : (n : ℕ) → Σℕ n (λ i. 1) ≡ n
 unfolding Σℕ

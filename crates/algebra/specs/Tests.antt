@@ -2,6 +2,7 @@
 -- the rule at each entry.
 --
 --   and-left, and-right    both sides of a test a && b pass
+--   neither, none          neither side of a test a || b passes
 --   every n p              the test p passes at each number below n
 --   every-at               so it passes at any one of them
 --   eqb-digits             two numbers are equal where their lowest digits are, and the rest
@@ -9,7 +10,7 @@
 --   eqZ a b                the integers a and b are equal
 --   eqZ→eq                 so they are
 use mathlib.Core.Path.{_≡_, refl, sym, _∙_, ap}
-use mathlib.Core.Bool.{Bool, true, false, cond, _&&_}
+use mathlib.Core.Bool.{Bool, true, false, cond, _&&_, _||_, true≢false}
 use Prim.Native.Nat.{ℕ, zero, suc, _*_, _/_, _%_, _<_}
 use native.Mathlib.Nat.{div-add-mod', mul-zero, zero-mul}
 use native.Mathlib.Omega.{arith}
@@ -25,6 +26,13 @@ and-left false b t = t
 pub and-right : (a b : Bool) → T (a && b) → T b
 and-right true b t = t
 and-right false b t = absurd t
+
+pub neither : (a b : Bool) → (a || b) ≡ false → (a ≡ false) × (b ≡ false)
+neither true b e = absurd (true≢false e)
+neither false b e = (refl, e)
+
+pub none : {a b : Bool} → a ≡ false → b ≡ false → (a || b) ≡ false
+none e f = rw e f
 
 unfoldable pub every : ℕ → (ℕ → Bool) → Bool
 every zero p = true

@@ -1,0 +1,18 @@
+use mathlib.Core.Path.{refl, sym, _∙_}
+use borrow.Author.Tests.{ne-eqb}
+use borrow.Author.Needs.{needs}
+use Rattle.plan.specs.Check.{lostIn}
+use Rattle.plan.specs.Laws.Accepted.{sizes}
+use Rattle.plan.proofs.blocks.confounded.Statement.{statement}
+use Rattle.plan.proofs.blocks.confounded.Tie as tie
+
+pub confounded-spec : {M : Type 1} → statement M
+unfolding lostIn
+confounded-spec =
+    tie.close
+    (tie.spec
+    (λ c κs. search needs)
+    (λ c. rw (← (c .before .lowest .ensures), ne-eqb _ _ (c .if1 .taken)) refl)
+    (λ c. search needs)
+    (λ c κs. sizes _ (sym (c .before .before .before .lowest .ensures) ∙ c .before .before .if1 .left) .2)
+    (λ c. rw (← (c .before .before .before .before .lowest .ensures), c .before .before .before .if1 .left) (c .combines-in .ensures)))

@@ -1,0 +1,17 @@
+use borrow.Author.Needs.{needs}
+use Rattle.plan.specs.Check.{badWords}
+use Rattle.plan.proofs.Tests.{is}
+use Rattle.plan.proofs.checks.bad_words.Statement.{statement}
+use Rattle.plan.proofs.checks.bad_words.Tie as tie
+
+pub bad-words-spec : {M : Type 1} → statement M
+unfolding badWords
+bad-words-spec =
+    tie.close
+    (tie.spec
+    (λ c κs. search needs)
+    (λ c. rw (is (c .before .any-bad-added .ensures) (c .if1 .taken)))
+    (λ c κs. search needs)
+    (λ c. rw (is (c .before .before .before .any-bad-added .ensures) (c .before .before .if1 .left), is (c .before .any-bad-sign .ensures) (c .if2 .taken)))
+    (λ c κs. search needs)
+    (λ c. rw (is (c .before .before .before .before .any-bad-added .ensures) (c .before .before .before .if1 .left), is (c .before .before .any-bad-sign .ensures) (c .before .if2 .left)) (c .any-bad-block .ensures)))

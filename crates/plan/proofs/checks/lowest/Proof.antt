@@ -1,0 +1,25 @@
+use mathlib.Core.Path.{refl}
+use native.Mathlib.Omega.{arith}
+use borrow.Author.Needs.{needs}
+use Rattle.plan.specs.Check.{planNumber}
+use Rattle.plan.specs.Laws.Accepted.{factors-known, at-most-ten, counts-known}
+use Rattle.plan.proofs.Tests.{is}
+use Rattle.plan.proofs.checks.lowest.Statement.{statement}
+use Rattle.plan.proofs.checks.lowest.Tie as tie
+
+pub lowest-spec : {M : Type 1} → statement M
+unfolding planNumber
+lowest-spec =
+    tie.close
+    (tie.spec
+    (λ c κs. search needs)
+    (λ c. rw (is (c .before .bad-levels .ensures) (c .if1 .taken)) refl)
+    (λ c κs. search needs)
+    (λ c. rw (is (c .before .before .before .bad-levels .ensures) (c .before .before .if1 .left), is (c .before .bad-factors .ensures) (c .if2 .taken)) refl)
+    (λ c κs. search needs)
+    (λ c. rw (is (c .before .before .before .before .before .bad-levels .ensures) (c .before .before .before .before .if1 .left), is (c .before .before .before .bad-factors .ensures) (c .before .before .if2 .left), is (c .before .bad-counts .ensures) (c .if3 .taken)) refl)
+    (λ c. search needs)
+    (λ c. search needs)
+    (λ c. search needs)
+    (λ c κs. omega (arith, at-most-ten _ (factors-known _ _ (is (c .before .before .before .before .before .before .before .before .before .bad-factors .ensures) (c .before .before .before .before .before .before .before .before .if2 .left)) .1), counts-known _ _ _ (is (c .before .before .before .before .before .before .before .bad-counts .ensures) (c .before .before .before .before .before .before .if3 .left)) .0, counts-known _ _ _ (is (c .before .before .before .before .before .before .before .bad-counts .ensures) (c .before .before .before .before .before .before .if3 .left)) .1))
+    (λ c. rw (is (c .before .before .before .before .before .before .before .before .before .before .before .before .bad-levels .ensures) (c .before .before .before .before .before .before .before .before .before .before .before .if1 .left), is (c .before .before .before .before .before .before .before .before .before .before .bad-factors .ensures) (c .before .before .before .before .before .before .before .before .before .if2 .left), is (c .before .before .before .before .before .before .before .before .bad-counts .ensures) (c .before .before .before .before .before .before .before .if3 .left)) (c .lowest-of-arrays .ensures)))

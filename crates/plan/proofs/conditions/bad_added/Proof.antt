@@ -1,0 +1,15 @@
+use native.Mathlib.Omega.{arith}
+use Rattle.plan.specs.Check.{badAdded}
+use Rattle.plan.proofs.Tests.{is}
+use Rattle.plan.proofs.conditions.bad_added.Statement.{statement}
+use Rattle.plan.proofs.conditions.bad_added.Tie as tie
+
+pub bad-added-spec : {M : Type 1} → statement M
+unfolding badAdded
+bad-added-spec =
+    tie.close
+    (tie.spec
+    (λ c κs. omega arith)
+    (λ c. rw (is (c .before .has-beyond .ensures) (c .if1 .taken)))
+    (λ c κs. tt)
+    (λ c. rw (is (c .before .before .has-beyond .ensures) (c .before .if1 .left), ← (c .count-letters .ensures))))

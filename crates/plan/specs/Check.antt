@@ -1,0 +1,93 @@
+-- "What is turned away": the lines of the table that concern a plan, 2 to 8.
+--
+--   badLevels .. spoiled     the conditions of lines 2 to 8
+--   planLines, planNumber    those lines; the lowest number that applies to a plan, 0 where it is accepted
+--   withPlan p lines         the lowest number of a call that takes a plan and has further lines of its own
+--   lostIn p w               the effect of w is confounded, for any plan
+--   checkOutcome             the cases of the check's answer
+use mathlib.Core.Bool.{Bool, false, not, cond, _||_}
+use mathlib.Core.List.{List, [], _∷_}
+use Prim.Native.Nat.{ℕ}
+use lib.Dec.{eqb, ltb}
+use Rattle.contrasts.specs.Limits.{mostTwo, mostThree}
+use Rattle.plan.specs.declared.types.Plan.{Plan}
+use Rattle.plan.specs.declared.types.Check.{Check}
+use Rattle.plan.specs.declared.types.Check.the-variants as check
+use Rattle.plan.specs.Outcome.{Line, line, lowest, Outcome, given, refused}
+use Rattle.plan.specs.Words.{letters, beyond, any, among, repeated}
+use Rattle.plan.specs.Plan.{addedWords, addedSigns, blockWords, someCombination, combinesTo, confoundedIn}
+
+-- ---- the conditions
+
+-- 2: "levels other than 2 or 3"
+unfoldable pub badLevels : ℕ → Bool
+badLevels levels = not (eqb levels 2 || eqb levels 3)
+
+-- 3: "k out of range", "1 to 10 at two levels, 1 to 6 at three"
+unfoldable pub badFactors : ℕ → ℕ → Bool
+badFactors levels k = eqb k 0 || cond (eqb levels 2) (ltb mostTwo k) (ltb mostThree k)
+
+-- 4: "over 6 added, over 4 block words, or either at three levels"
+unfoldable pub badCounts : ℕ → ℕ → ℕ → Bool
+badCounts levels added blocks = ltb 6 added || (ltb 4 blocks || cond (eqb levels 3) (ltb 0 added || ltb 0 blocks) false)
+
+-- 5: "letter beyond k, added word under two letters, sign over 1, empty block word"
+unfoldable pub badAdded : ℕ → ℕ → Bool
+badAdded k w = beyond k w || ltb (letters w) 2
+
+unfoldable pub badSign : ℕ → Bool
+badSign s = ltb 1 s
+
+unfoldable pub badBlock : ℕ → ℕ → Bool
+badBlock k w = beyond k w || eqb w 0
+
+unfoldable pub badWords : ℕ → List ℕ → List ℕ → List ℕ → Bool
+badWords k words signs blocks = any (badAdded k) words || (any badSign signs || any (badBlock k) blocks)
+
+-- 6: "two added factors with one word" is `repeated`
+
+-- 7: "some one or more block words combine to the empty word"
+unfoldable pub dependent : List ℕ → Bool
+dependent blocks = combinesTo 0 blocks
+
+-- 8: "a confounded effect is one letter or an added factor's word"
+unfoldable pub spoils : ℕ → List ℕ → Bool
+spoils w words = eqb (letters w) 1 || among w words
+
+unfoldable pub spoiled : List ℕ → List ℕ → Bool
+spoiled words blocks = someCombination blocks (λ w. spoils w words)
+
+-- the lines on the words, for themselves
+abbrev pub wordLines : ℕ → List ℕ → List ℕ → List ℕ → List Line
+wordLines k words signs blocks =
+    line 5 (badWords k words signs blocks)
+    ∷ line 6 (repeated words)
+    ∷ line 7 (dependent blocks)
+    ∷ line 8 (spoiled words blocks)
+    ∷ []
+
+-- "The plan check gives 2 to 8"
+abbrev pub planLines : Plan → List Line
+planLines p =
+    line 2 (badLevels (p .levels))
+    ∷ line 3 (badFactors (p .levels) (p .k))
+    ∷ line 4 (badCounts (p .levels) (p .added) (p .blocks))
+    ∷ wordLines (p .k) (addedWords p) (addedSigns p) (blockWords p)
+
+unfoldable pub planNumber : Plan → ℕ
+planNumber p = lowest (planLines p)
+
+-- the number of a call on a plan: the plan's own, and only where that is 0 the lowest of further lines
+unfoldable pub withPlan : Plan → List Line → ℕ
+withPlan p further = cond (eqb (planNumber p) 0) (lowest further) (planNumber p)
+
+-- whether the effect of a word is confounded, as a call can answer it for any plan: no effect of a plan that is refused
+unfoldable pub lostIn : Plan → ℕ → Bool
+lostIn p w = cond (eqb (planNumber p) 0) (confoundedIn p w) false
+
+-- ---- the answer
+
+-- an accepted plan has no values
+abbrev pub checkOutcome : Check → Outcome Unit
+checkOutcome check.Accepted = given tt
+checkOutcome (check.Refused n) = refused n

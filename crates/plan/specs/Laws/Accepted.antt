@@ -1,0 +1,173 @@
+-- What is known of a plan that is accepted, as one record, and that this is all that acceptance asks.
+--
+--   Accepted p              the plan's levels, counts, words and confounded effects are as the rules ask
+--   accepted, accepts       so they are where the check gives no number, and it gives none where they are
+--   levels-known, factors-known, counts-known    what lines 2, 3 and 4 say where they do not apply
+--   levels-small            two or three levels are at most three
+--   at-most-ten, sizes      the most factors, as a number; the bounds of an accepted plan's counts
+use mathlib.Core.Path.{_≡_, refl, sym, ap, _∙_}
+use mathlib.Core.Logic.{_⊎_, inl, inr}
+use mathlib.Core.Bool.{Bool, true, false, cond, _||_, true≢false}
+use mathlib.Core.List.{List}
+use Prim.Native.Nat.{ℕ, _+_, _-_, _^_, _<_, _≤_}
+use native.Mathlib.Omega.{arith}
+use lib.Dec.{eqb, ltb}
+use lib.ListN.{length, getD, take}
+use lib.Seq.{length-take-le, getD-take}
+use borrow.Author.Tests.{eqb-true, eqb-false, ltb-false, not-false}
+use Rattle.algebra.specs.Tests.{neither}
+use Rattle.algebra.specs.Search.{some-at, none-at}
+use Rattle.contrasts.specs.Limits.{mostTwo, mostThree}
+use Rattle.plan.specs.declared.types.Plan.{Plan}
+use Rattle.plan.specs.Words.{letters, beyond, any, among, repeated, combined}
+use Rattle.plan.specs.Plan.{addedWords, addedSigns, blockWords, someCombination, combinesTo, confoundedIn}
+use Rattle.plan.specs.Check.{badLevels, badFactors, badCounts, badAdded, badSign, badBlock, badWords, dependent, spoils, spoiled, planNumber}
+
+-- ---- what each condition says where it does not hold
+
+pub levels-known : (n : ℕ) → badLevels n ≡ false → (n ≡ 2) ⊎ (n ≡ 3)
+unfolding badLevels
+levels-known n e = by (eqb n 2) (eqb n 3) refl refl (not-false (eqb n 2 || eqb n 3) e)
+  where
+    by : (a b : Bool) → eqb n 2 ≡ a → eqb n 3 ≡ b → (eqb n 2 || eqb n 3) ≡ true → (n ≡ 2) ⊎ (n ≡ 3)
+    by true b p q d = inl (eqb-true n 2 p)
+    by false true p q d = inr (eqb-true n 3 q)
+    by false false p q d = absurd (true≢false (sym d ∙ rw (p, q) refl))
+
+pub levels-small : (n : ℕ) → badLevels n ≡ false → n ≤ 3
+levels-small n e = by (levels-known n e)
+  where
+    by : (n ≡ 2) ⊎ (n ≡ 3) → n ≤ 3
+    by (inl d) = omega (arith, d)
+    by (inr d) = omega (arith, d)
+
+pub factors-known : (n k : ℕ) → badFactors n k ≡ false → (0 < k) × (k ≤ mostTwo) × (n ≡ 3 → k ≤ mostThree)
+unfolding badFactors mostTwo mostThree
+factors-known n k e = (some-factor, few (eqb n 2) over, λ t. fewer t)
+  where
+    some-factor : 0 < k
+    some-factor = omega (arith, eqb-false k 0 (neither (eqb k 0) (cond (eqb n 2) (ltb 10 k) (ltb 6 k)) e .0))
+
+    over : cond (eqb n 2) (ltb 10 k) (ltb 6 k) ≡ false
+    over = neither (eqb k 0) (cond (eqb n 2) (ltb 10 k) (ltb 6 k)) e .1
+
+    few : (two : Bool) → cond two (ltb 10 k) (ltb 6 k) ≡ false → k ≤ 10
+    few true o = ltb-false 10 k o
+    few false o = omega (arith, ltb-false 6 k o)
+
+    fewer : n ≡ 3 → k ≤ 6
+    fewer t = ltb-false 6 k (rw t at over)
+
+pub at-most-ten : (k : ℕ) → k ≤ mostTwo → k ≤ 10
+unfolding mostTwo
+at-most-ten k h = h
+
+pub counts-known : (n a b : ℕ) → badCounts n a b ≡ false → (a ≤ 6) × (b ≤ 4) × (n ≡ 3 → (a ≡ 0) × (b ≡ 0))
+unfolding badCounts
+counts-known n a b e =
+    let six = neither (ltb 6 a) (ltb 4 b || cond (eqb n 3) (ltb 0 a || ltb 0 b) false) e in
+    let four = neither (ltb 4 b) (cond (eqb n 3) (ltb 0 a || ltb 0 b) false) (six .1) in
+    (ltb-false 6 a (six .0), ltb-false 4 b (four .0), λ t. nothing (rw t at (four .1)))
+  where
+    nothing : (ltb 0 a || ltb 0 b) ≡ false → (a ≡ 0) × (b ≡ 0)
+    nothing d =
+        let z = neither (ltb 0 a) (ltb 0 b) d in
+        (omega (arith, ltb-false 0 a (z .0)), omega (arith, ltb-false 0 b (z .1)))
+
+-- ---- the record
+
+pub record Accepted (p : Plan) : Type 0 where
+  pub levels : (p .levels ≡ 2) ⊎ (p .levels ≡ 3)
+  pub factors : (0 < p .k) × (p .k ≤ mostTwo) × (p .levels ≡ 3 → p .k ≤ mostThree)
+  pub counts : (p .added ≤ 6) × (p .blocks ≤ 4) × (p .levels ≡ 3 → (p .added ≡ 0) × (p .blocks ≡ 0))
+  pub words : (j : ℕ) → j < length (addedWords p)
+      → (beyond (p .k) (getD (addedWords p) j 0) ≡ false) × (2 ≤ letters (getD (addedWords p) j 0))
+  pub signs : (j : ℕ) → j < length (addedSigns p) → getD (addedSigns p) j 0 ≤ 1
+  pub blocks : (j : ℕ) → j < length (blockWords p)
+      → (beyond (p .k) (getD (blockWords p) j 0) ≡ false) × (getD (blockWords p) j 0 ≡ 0 → ⊥)
+  pub apart : (i j : ℕ) → i < j → j < length (addedWords p) → getD (addedWords p) i 0 ≡ getD (addedWords p) j 0 → ⊥
+  -- a confounded effect is neither empty nor one letter nor an added factor's word
+  pub lost : (w : ℕ) → confoundedIn p w ≡ true → (w ≡ 0 → ⊥) × (letters w ≡ 1 → ⊥) × (among w (addedWords p) ≡ false)
+
+passed : (b : Bool) (n m : ℕ) → 0 < n → cond b n m ≡ 0 → (b ≡ false) × (m ≡ 0)
+passed true n m h e = absurd (omega (arith, h, e))
+passed false n m h e = (refl, e)
+
+-- ---- what lines 5 to 8 say of the words
+
+words-of : (k : ℕ) (ws : List ℕ) → any (badAdded k) ws ≡ false
+    → (j : ℕ) → j < length ws → (beyond k (getD ws j 0) ≡ false) × (2 ≤ letters (getD ws j 0))
+unfolding any badAdded
+words-of k ws e j h =
+    let w = getD ws j 0 in
+    let b = neither (beyond k w) (ltb (letters w) 2) (none-at (length ws) (λ i. badAdded k (getD ws i 0)) e j h) in
+    (b .0, ltb-false (letters w) 2 (b .1))
+
+signs-of : (ss : List ℕ) → any badSign ss ≡ false → (j : ℕ) → j < length ss → getD ss j 0 ≤ 1
+unfolding any badSign
+signs-of ss e j h = ltb-false 1 (getD ss j 0) (none-at (length ss) (λ i. badSign (getD ss i 0)) e j h)
+
+blocks-of : (k : ℕ) (ws : List ℕ) → any (badBlock k) ws ≡ false
+    → (j : ℕ) → j < length ws → (beyond k (getD ws j 0) ≡ false) × (getD ws j 0 ≡ 0 → ⊥)
+unfolding any badBlock
+blocks-of k ws e j h =
+    let w = getD ws j 0 in
+    let b = neither (beyond k w) (eqb w 0) (none-at (length ws) (λ i. badBlock k (getD ws i 0)) e j h) in
+    (b .0, eqb-false w 0 (b .1))
+
+parts : (k : ℕ) (words signs blocks : List ℕ) → badWords k words signs blocks ≡ false
+    → (any (badAdded k) words ≡ false) × (any badSign signs ≡ false) × (any (badBlock k) blocks ≡ false)
+unfolding badWords
+parts k words signs blocks e =
+    let a = neither (any (badAdded k) words) (any badSign signs || any (badBlock k) blocks) e in
+    let b = neither (any badSign signs) (any (badBlock k) blocks) (a .1) in
+    (a .0, b .0, b .1)
+
+apart-of : (ws : List ℕ) → repeated ws ≡ false → (i j : ℕ) → i < j → j < length ws → getD ws i 0 ≡ getD ws j 0 → ⊥
+unfolding repeated among any
+apart-of ws e i j h l d =
+    let n : length (take j ws) ≡ j = length-take-le j ws (omega arith) in
+    let t : i < length (take j ws) = omega arith in
+    let f = none-at (length ws) (λ m. among (getD ws m 0) (take m ws)) e j l in
+    eqb-false (getD (take j ws) i 0) (getD ws j 0)
+    (none-at (length (take j ws)) (λ m. eqb (getD (take j ws) m 0) (getD ws j 0)) f i t)
+    (getD-take j ws i 0 h ∙ d)
+
+lost-of : (words blocks : List ℕ) → dependent blocks ≡ false → spoiled words blocks ≡ false
+    → (w : ℕ) → combinesTo w blocks ≡ true → (w ≡ 0 → ⊥) × (letters w ≡ 1 → ⊥) × (among w words ≡ false)
+unfolding dependent spoiled spoils combinesTo someCombination
+lost-of words blocks e f w t =
+    let n = 2 ^ length blocks - 1 in
+    let at : ℕ → ℕ = λ c. combined 0 (c + 1) blocks in
+    let c = some-at n (λ c. eqb (at c) w) t in
+    let is : at (c .0) ≡ w = eqb-true (at (c .0)) w (c .2) in
+    let z : eqb (at (c .0)) 0 ≡ false = none-at n (λ c. eqb (at c) 0) e (c .0) (c .1) in
+    let s = neither (eqb (letters (at (c .0))) 1) (among (at (c .0)) words) (none-at n (λ c. spoils (at c) words) f (c .0) (c .1)) in
+    (λ d. eqb-false (at (c .0)) 0 z (is ∙ d), λ d. eqb-false (letters (at (c .0))) 1 (s .0) (ap letters is ∙ d), rw (← is) (s .1))
+
+pub accepted : (p : Plan) → planNumber p ≡ 0 → Accepted p
+unfolding planNumber
+accepted p e =
+    let l2 = passed (badLevels (p .levels)) 2 _ (omega arith) e in
+    let l3 = passed (badFactors (p .levels) (p .k)) 3 _ (omega arith) (l2 .1) in
+    let l4 = passed (badCounts (p .levels) (p .added) (p .blocks)) 4 _ (omega arith) (l3 .1) in
+    let l5 = passed (badWords (p .k) (addedWords p) (addedSigns p) (blockWords p)) 5 _ (omega arith) (l4 .1) in
+    let l6 = passed (repeated (addedWords p)) 6 _ (omega arith) (l5 .1) in
+    let l7 = passed (dependent (blockWords p)) 7 _ (omega arith) (l6 .1) in
+    let l8 = passed (spoiled (addedWords p) (blockWords p)) 8 _ (omega arith) (l7 .1) in
+    let w = parts (p .k) (addedWords p) (addedSigns p) (blockWords p) (l5 .0) in
+    record {
+      levels = levels-known (p .levels) (l2 .0);
+      factors = factors-known (p .levels) (p .k) (l3 .0);
+      counts = counts-known (p .levels) (p .added) (p .blocks) (l4 .0);
+      words = words-of (p .k) (addedWords p) (w .0);
+      signs = signs-of (addedSigns p) (w .1);
+      blocks = blocks-of (p .k) (blockWords p) (w .2);
+      apart = apart-of (addedWords p) (l6 .0);
+      lost = lost-of (addedWords p) (blockWords p) (l7 .0) (l8 .0);
+    }
+
+pub sizes : (p : Plan) → planNumber p ≡ 0 → (p .k ≤ 10) × (p .added ≤ 6) × (p .blocks ≤ 4)
+sizes p e =
+    let a = accepted p e in
+    (at-most-ten (p .k) (a .factors .1), a .counts .0, a .counts .1)

@@ -1,0 +1,24 @@
+-- Laws on the answers of calls that take a plan.
+--
+--   refused-by-plan    a plan's own number is the answer's
+--   after-plan         the further lines of a call count where the plan has none
+--   refused-with       the answer of a number that is not 0
+use mathlib.Core.Path.{_≡_, sym}
+use mathlib.Core.List.{List}
+use Prim.Native.Nat.{ℕ}
+use borrow.Author.Tests.{eq-eqb, ne-eqb}
+use Rattle.plan.specs.declared.types.Plan.{Plan}
+use Rattle.plan.specs.Outcome.{Line, lowest, refused, outcome}
+use Rattle.plan.specs.Check.{planNumber, withPlan}
+
+pub refused-with : {A : Type 0} (n : ℕ) (v : A) → (n ≡ 0 → ⊥) → outcome n v ≡ refused n
+refused-with n v h = rw (ne-eqb n 0 h)
+
+pub after-plan : (p : Plan) (further : List Line) → planNumber p ≡ 0 → withPlan p further ≡ lowest further
+unfolding withPlan
+after-plan p further e = rw (eq-eqb (planNumber p) 0 e)
+
+pub refused-by-plan : {A : Type 0} (p : Plan) (further : List Line) (v : A) {n : ℕ} → n ≡ planNumber p → (n ≡ 0 → ⊥)
+    → refused n ≡ outcome (withPlan p further) v
+unfolding withPlan
+refused-by-plan p further v {n} e h = rw (← e, ne-eqb n 0 h) (sym (refused-with n v h))

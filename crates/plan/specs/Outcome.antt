@@ -1,0 +1,29 @@
+-- What every call answers: its values, or the number of its refusal, "the lowest number that applies".
+--
+--   Line, lowest        a line of the table of refusals: its number, and whether its condition holds; the number of the first that holds
+--   Outcome, numberOf   a call's values, or the number of its refusal
+--   outcome n v         the answer of a call whose lowest number is n, and whose values are v where n is 0
+use mathlib.Core.Bool.{Bool, cond}
+use mathlib.Core.List.{List, [], _∷_}
+use Prim.Native.Nat.{ℕ}
+use lib.Dec.{eqb}
+
+pub data Line : Type 0 where
+  line : ℕ → Bool → Line
+
+-- "The lowest number that applies is returned alone": of lines in rising order the first that holds, 0 where none does
+abbrev pub lowest : List Line → ℕ
+lowest [] = 0
+lowest (line n holds ∷ rest) = cond holds n (lowest rest)
+
+pub data Outcome (A : Type 0) : Type 0 where
+  given : A → Outcome A
+  refused : ℕ → Outcome A
+
+-- the table's number, 0 where nothing is refused
+abbrev pub numberOf : {A : Type 0} → Outcome A → ℕ
+numberOf (given v) = 0
+numberOf (refused n) = n
+
+abbrev pub outcome : {A : Type 0} → ℕ → A → Outcome A
+outcome n v = cond (eqb n 0) (given v) (refused n)

@@ -1,0 +1,54 @@
+-- What a plan says: its factors, its words and its runs; which effects are confounded.
+--
+--   addedWords p, addedSigns p, blockWords p    the words and signs that the plan's counts admit
+--   factorsOf p                                 its base factors, A first
+--   runsOf p                                    how many runs it has
+--   allLetters p                                how many factors it has, base and added
+--   someCombination ws f                        f holds of a combination of one or more of the words
+--   combinesTo w ws                             one of those combinations is w
+--   confoundedIn p w                            the effect of the word w is confounded
+use mathlib.Core.Bool.{Bool, cond}
+use mathlib.Core.List.{List}
+use Prim.Native.Nat.{ℕ, _+_, _-_, _^_}
+use lib.Dec.{eqb}
+use lib.ListN.{length, take, replicate}
+use Rattle.algebra.specs.Search.{some}
+use Rattle.contrasts.specs.Factor.{Factor}
+use Rattle.contrasts.specs.Tables.{two, three}
+use Rattle.contrasts.specs.Totals.{size}
+use Rattle.plan.specs.declared.types.Plan.{Plan}
+use Rattle.plan.specs.Words.{combined}
+
+-- "Places beyond a plan's counts are ignored"
+abbrev pub addedWords : Plan → List ℕ
+addedWords p = take (p .added) (p .words)
+
+abbrev pub addedSigns : Plan → List ℕ
+addedSigns p = take (p .added) (p .signs)
+
+abbrev pub blockWords : Plan → List ℕ
+blockWords p = take (p .blocks) (p .blockwords)
+
+-- "k base factors", each of two levels, or each of three
+unfoldable pub factorsOf : Plan → List Factor
+factorsOf p = replicate (p .k) (cond (eqb (p .levels) 2) two three)
+
+-- "There are N runs: levels to the power k."
+abbrev pub runsOf : Plan → ℕ
+runsOf p = size (factorsOf p)
+
+-- "Base factors have letters from A on, added factors the letters that follow."
+abbrev pub allLetters : Plan → ℕ
+allLetters p = p .k + length (addedWords p)
+
+-- The choices of one or more of n words are the numbers from 1 to 2 ^ n - 1.
+unfoldable pub someCombination : List ℕ → (ℕ → Bool) → Bool
+someCombination ws f = some (2 ^ length ws - 1) (λ c. f (combined 0 (c + 1) ws))
+
+-- one or more of the words combine to w
+unfoldable pub combinesTo : ℕ → List ℕ → Bool
+combinesTo w ws = someCombination ws (λ v. eqb v w)
+
+-- "The confounded effects are all combinations of one or more block words."
+abbrev pub confoundedIn : Plan → ℕ → Bool
+confoundedIn p w = combinesTo w (blockWords p)

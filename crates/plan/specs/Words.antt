@@ -1,0 +1,64 @@
+-- Words, and what the rules say of their letters.
+--
+--   letter w i, has w i     letter i of w as 1 or 0, and whether it is there; 0 is A
+--   letters w               how many letters w has
+--   beyond n w              w has a letter from n on
+--   wordOf n f              the set of those of the first n letters of which f holds
+--   odd n                   n is odd
+--   shared a b, oddIn a b   how many letters a and b have in common, and whether that is an odd number
+--   times, combined         how often a letter occurs in some words, and the word that they combine to
+--   any f ws                f holds of one of the words
+--   among w ws, repeated    w is one of them, and one word is there twice
+use mathlib.Core.Bool.{Bool, _&&_}
+use mathlib.Core.List.{List}
+use Prim.Native.Nat.{ℕ, _+_, _*_, _%_}
+use lib.Dec.{eqb, leb}
+use lib.ListN.{length, getD, take}
+use Rattle.algebra.specs.Naturals.{Σℕ}
+use Rattle.algebra.specs.Bits.{bit, bits, isSet}
+use Rattle.algebra.specs.Search.{some}
+
+-- "A word is a 16-bit set of base letters, bit 0 for A."
+abbrev pub letter : ℕ → ℕ → ℕ
+letter w i = bit w i
+
+abbrev pub has : ℕ → ℕ → Bool
+has w i = isSet w i
+
+unfoldable pub letters : ℕ → ℕ
+letters w = Σℕ 16 (letter w)
+
+-- "letter beyond k"
+unfoldable pub beyond : ℕ → ℕ → Bool
+beyond n w = some 16 (λ i. leb n i && has w i)
+
+abbrev pub wordOf : ℕ → (ℕ → Bool) → ℕ
+wordOf n f = bits n f
+
+abbrev pub odd : ℕ → Bool
+odd n = eqb (n % 2) 1
+
+unfoldable pub shared : ℕ → ℕ → ℕ
+shared a b = Σℕ 16 (λ i. letter a i * letter b i)
+
+-- "an odd number of its word's letters are high": of the run's letters that are high, and the word's
+unfoldable pub oddIn : ℕ → ℕ → Bool
+oddIn run w = odd (shared run w)
+
+-- how often letter i occurs in the word w and those of the words ws that are chosen; a choice is a set of their places, bit j for word j
+unfoldable pub times : ℕ → ℕ → List ℕ → ℕ → ℕ
+times w choice ws i = letter w i + Σℕ (length ws) (λ j. letter choice j * letter (getD ws j 0) i)
+
+-- "Combining words keeps the letters that occur an odd number of times."
+unfoldable pub combined : ℕ → ℕ → List ℕ → ℕ
+combined w choice ws = wordOf 16 (λ i. odd (times w choice ws i))
+
+unfoldable pub any : (ℕ → Bool) → List ℕ → Bool
+any f ws = some (length ws) (λ j. f (getD ws j 0))
+
+unfoldable pub among : ℕ → List ℕ → Bool
+among w ws = any (λ v. eqb v w) ws
+
+-- one word is there twice: it is among those before it
+unfoldable pub repeated : List ℕ → Bool
+repeated ws = some (length ws) (λ j. among (getD ws j 0) (take j ws))

@@ -1,0 +1,101 @@
+// The plan check: the lowest of the numbers 2 to 8 that applies.
+ghost use mathlib.Core.Path.{_≡_};
+ghost use Prim.Native.Nat.{_≤_};
+ghost use lib.ListN.{length, take};
+use super::conditions::any_bad_added;
+use super::conditions::any_bad_block;
+use super::conditions::any_bad_sign;
+use super::conditions::any_spoiled;
+use super::conditions::bad_counts;
+use super::conditions::bad_factors;
+use super::conditions::bad_levels;
+use super::conditions::combines_to;
+use super::types::Check;
+use super::types::Plan;
+use super::words::is_repeated;
+ghost use Rattle.plan.specs.Outcome.{outcome, lowest};
+ghost use Rattle.plan.specs.Check.{badWords, wordLines, planNumber, checkOutcome};
+
+fn bad_words(k: usize, words: &[u16], signs: &[u8], blocks: &[u16]) -> bool
+    requires { ⌜ k ≤ 16 ⌝ }
+    ensures { λ r. ⌜ r ≡ badWords k (now (words .entry)) (now (signs .entry)) (now (blocks .entry)) ⌝ }
+{
+    if any_bad_added(words, k) {
+        return true;
+    }
+    if any_bad_sign(signs) {
+        return true;
+    }
+    any_bad_block(blocks, k)
+}
+
+// The lowest of the numbers 5 to 8 that applies, and 0 where none does.
+fn lowest_of_words(k: usize, words: &[u16], signs: &[u8], blocks: &[u16]) -> u8
+    requires { ⌜ (k ≤ 16) × (length (now blocks) ≤ 4) ⌝ }
+    ensures { λ r. ⌜ r ≡ lowest (wordLines k (now (words .entry)) (now (signs .entry)) (now (blocks .entry))) ⌝ }
+{
+    if bad_words(k, words, signs, blocks) {
+        return 5;
+    }
+    if is_repeated(words) {
+        return 6;
+    }
+    if combines_to(0, blocks) {
+        return 7;
+    }
+    if any_spoiled(words, blocks) {
+        return 8;
+    }
+    0
+}
+
+// The same of a plan's own arrays, as far as its counts reach.
+fn lowest_of_arrays(
+    k: usize,
+    added: usize,
+    words: [u16; 6],
+    signs: [u8; 6],
+    blocks: usize,
+    blockwords: [u16; 4],
+) -> u8
+    requires { ⌜ (k ≤ 16) × (added ≤ 6) × (blocks ≤ 4) ⌝ }
+    ensures { λ r. ⌜ r ≡ lowest (wordLines k (take added words) (take added signs) (take blocks blockwords)) ⌝ }
+{
+    lowest_of_words(k, &words[..added], &signs[..added], &blockwords[..blocks])
+}
+
+// The lowest of the numbers 2 to 8 that applies, and 0 where none does.
+pub fn lowest(p: Plan) -> u8
+    ensures { λ r. ⌜ r ≡ planNumber p ⌝ }
+{
+    if bad_levels(p.levels) {
+        return 2;
+    }
+    if bad_factors(p.levels, p.k) {
+        return 3;
+    }
+    if bad_counts(p.levels, p.added, p.blocks) {
+        return 4;
+    }
+    let words = p.words;
+    let signs = p.signs;
+    let blockwords = p.blockwords;
+    lowest_of_arrays(
+        p.k as usize,
+        p.added as usize,
+        words,
+        signs,
+        p.blocks as usize,
+        blockwords,
+    )
+}
+
+pub fn check(p: Plan) -> Check
+    ensures { λ r. ⌜ checkOutcome r ≡ outcome (planNumber p) tt ⌝ }
+{
+    let n = lowest(p);
+    if n == 0 {
+        return Check::Accepted;
+    }
+    Check::Refused(n)
+}

@@ -1,0 +1,158 @@
+// The conditions of lines 2 to 8 of the table of refusals, a function each.
+ghost use mathlib.Core.Path.{_≡_};
+ghost use Prim.Native.Nat.{_-_, _^_, _≤_};
+ghost use lib.ListN.{length};
+use super::sets::power;
+use super::words::combine;
+use super::words::count_letters;
+use super::words::has_beyond;
+use super::words::is_among;
+ghost use Rattle.plan.specs.Words.{any};
+ghost use Rattle.plan.specs.Plan.{combinesTo};
+ghost use Rattle.plan.specs.Check.{badLevels, badFactors, badCounts, badAdded, badSign, badBlock, spoils, spoiled};
+
+pub fn bad_levels(levels: u8) -> bool
+    ensures { λ r. ⌜ r ≡ badLevels levels ⌝ }
+{
+    if levels == 2 {
+        return false;
+    }
+    levels != 3
+}
+
+pub fn bad_factors(levels: u8, k: u8) -> bool
+    ensures { λ r. ⌜ r ≡ badFactors levels k ⌝ }
+{
+    if k == 0 {
+        return true;
+    }
+    if levels == 2 { 10 < k } else { 6 < k }
+}
+
+pub fn bad_counts(levels: u8, added: u8, blocks: u8) -> bool
+    ensures { λ r. ⌜ r ≡ badCounts levels added blocks ⌝ }
+{
+    if 6 < added {
+        return true;
+    }
+    if 4 < blocks {
+        return true;
+    }
+    if levels == 3 {
+        if 0 < added {
+            return true;
+        }
+        return 0 < blocks;
+    }
+    false
+}
+
+fn bad_added(word: u16, k: usize) -> bool
+    requires { ⌜ k ≤ 16 ⌝ }
+    ensures { λ r. ⌜ r ≡ badAdded k word ⌝ }
+{
+    if has_beyond(word, k) {
+        return true;
+    }
+    count_letters(word) < 2
+}
+
+fn bad_block(word: u16, k: usize) -> bool
+    requires { ⌜ k ≤ 16 ⌝ }
+    ensures { λ r. ⌜ r ≡ badBlock k word ⌝ }
+{
+    if has_beyond(word, k) {
+        return true;
+    }
+    word == 0
+}
+
+pub fn any_bad_added(words: &[u16], k: usize) -> bool
+    requires { ⌜ k ≤ 16 ⌝ }
+    ensures { λ r. ⌜ r ≡ any (badAdded k) (now (words .entry)) ⌝ }
+{
+    let mut i = 0;
+    while i < words.len() {
+        if bad_added(words[i], k) {
+            return true;
+        }
+        i += 1;
+    }
+    false
+}
+
+pub fn any_bad_sign(signs: &[u8]) -> bool
+    ensures { λ r. ⌜ r ≡ any badSign (now (signs .entry)) ⌝ }
+{
+    let mut i = 0;
+    while i < signs.len() {
+        if 1 < signs[i] {
+            return true;
+        }
+        i += 1;
+    }
+    false
+}
+
+pub fn any_bad_block(words: &[u16], k: usize) -> bool
+    requires { ⌜ k ≤ 16 ⌝ }
+    ensures { λ r. ⌜ r ≡ any (badBlock k) (now (words .entry)) ⌝ }
+{
+    let mut i = 0;
+    while i < words.len() {
+        if bad_block(words[i], k) {
+            return true;
+        }
+        i += 1;
+    }
+    false
+}
+
+// How many choices there are of one or more of n words.
+fn choices(n: usize) -> u16
+    requires { ⌜ n ≤ 4 ⌝ }
+    ensures { λ r. ⌜ (r ≡ 2 ^ n - 1) × (r ≤ 15) ⌝ }
+{
+    power(n) - 1
+}
+
+// Whether one or more of the words combine to the given one.
+pub fn combines_to(word: u16, words: &[u16]) -> bool
+    requires { ⌜ length (now words) ≤ 4 ⌝ }
+    ensures { λ r. ⌜ r ≡ combinesTo word (now (words .entry)) ⌝ }
+{
+    let n = choices(words.len());
+    let mut c = 0;
+    while c < n {
+        if combine(0, c + 1, words) == word {
+            return true;
+        }
+        c += 1;
+    }
+    false
+}
+
+fn is_spoiled(word: u16, added: &[u16]) -> bool
+    ensures { λ r. ⌜ r ≡ spoils word (now (added .entry)) ⌝ }
+{
+    if count_letters(word) == 1 {
+        return true;
+    }
+    is_among(word, added)
+}
+
+// Whether one or more of the block words combine to one letter or to an added factor's word.
+pub fn any_spoiled(added: &[u16], blocks: &[u16]) -> bool
+    requires { ⌜ length (now blocks) ≤ 4 ⌝ }
+    ensures { λ r. ⌜ r ≡ spoiled (now (added .entry)) (now (blocks .entry)) ⌝ }
+{
+    let n = choices(blocks.len());
+    let mut c = 0;
+    while c < n {
+        if is_spoiled(combine(0, c + 1, blocks), added) {
+            return true;
+        }
+        c += 1;
+    }
+    false
+}
