@@ -1,6 +1,8 @@
 -- Tests that are computed, and the facts that they show. A table's rule is one test of the whole table, and a law turns the test into
 -- the rule at each entry.
 --
+--   tests                  a comparison of the code, as a test of a contract
+--   is                     a test has the value that the code found for it
 --   and-left, and-right    both sides of a test a && b pass
 --   neither, none          neither side of a test a || b passes
 --   every n p              the test p passes at each number below n
@@ -15,9 +17,14 @@ use Prim.Native.Nat.{ℕ, zero, suc, _*_, _/_, _%_, _<_}
 use native.Mathlib.Nat.{div-add-mod', mul-zero, zero-mul}
 use native.Mathlib.Omega.{arith}
 use native.Mathlib.Decide.{ℕ-discrete}
-use borrow.Author.Tests.{eq-eqb, ne-eqb}
+use borrow.Author.Tests.{lt-ltb, le-ltb, le-leb, lt-leb, eq-eqb, ne-eqb}
 use lib.Dec.{T, eqb, eqb→eq}
 use lib.IntN.{ℤ, pos, negsuc, _*ℤ_, *ℤ-zero, zero-*ℤ}
+
+pub ruleset tests = (lt-ltb, le-ltb, le-leb, lt-leb, eq-eqb, ne-eqb, arith)
+
+pub is : {b t v : Bool} → b ≡ t → b ≡ v → t ≡ v
+is e f = sym e ∙ f
 
 pub and-left : (a b : Bool) → T (a && b) → T a
 and-left true b t = tt

@@ -3,6 +3,7 @@
 --   badLevels .. spoiled     the conditions of lines 2 to 8
 --   planLines, planNumber    those lines; the lowest number that applies to a plan, 0 where it is accepted
 --   withPlan p lines         the lowest number of a call that takes a plan and has further lines of its own
+--   runCount p               the number of runs, for any plan
 --   lostIn p w               the effect of w is confounded, for any plan
 --   checkOutcome             the cases of the check's answer
 use mathlib.Core.Bool.{Bool, false, not, cond, _||_}
@@ -14,8 +15,8 @@ use Rattle.plan.specs.declared.types.Plan.{Plan}
 use Rattle.plan.specs.declared.types.Check.{Check}
 use Rattle.plan.specs.declared.types.Check.the-variants as check
 use Rattle.plan.specs.Outcome.{Line, line, lowest, Outcome, given, refused}
-use Rattle.plan.specs.Words.{letters, beyond, any, among, repeated}
-use Rattle.plan.specs.Plan.{addedWords, addedSigns, blockWords, someCombination, combinesTo, confoundedIn}
+use Rattle.words.specs.Words.{letters, beyond, any, among, repeated}
+use Rattle.plan.specs.Plan.{addedWords, addedSigns, blockWords, someCombination, combinesTo, confoundedIn, runsOf}
 
 -- ---- the conditions
 
@@ -84,6 +85,10 @@ withPlan p further = cond (eqb (planNumber p) 0) (lowest further) (planNumber p)
 -- whether the effect of a word is confounded, as a call can answer it for any plan: no effect of a plan that is refused
 unfoldable pub lostIn : Plan → ℕ → Bool
 lostIn p w = cond (eqb (planNumber p) 0) (confoundedIn p w) false
+
+-- the number of runs, and 0 where levels or k are out of range
+unfoldable pub runCount : Plan → ℕ
+runCount p = cond (badLevels (p .levels) || badFactors (p .levels) (p .k)) 0 (runsOf p)
 
 -- ---- the answer
 

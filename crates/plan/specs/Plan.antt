@@ -17,7 +17,7 @@ use Rattle.contrasts.specs.Factor.{Factor}
 use Rattle.contrasts.specs.Tables.{two, three}
 use Rattle.contrasts.specs.Totals.{size}
 use Rattle.plan.specs.declared.types.Plan.{Plan}
-use Rattle.plan.specs.Words.{combined}
+use Rattle.words.specs.Words.{combined}
 
 -- "Places beyond a plan's counts are ignored"
 abbrev pub addedWords : Plan → List ℕ

@@ -12,12 +12,11 @@ use super::conditions::bad_levels;
 use super::conditions::combines_to;
 use super::types::Check;
 use super::types::Plan;
-use super::words::is_repeated;
+use words::is_repeated;
 ghost use Rattle.plan.specs.Outcome.{outcome, lowest};
 ghost use Rattle.plan.specs.Check.{badWords, wordLines, planNumber, checkOutcome};
 
 fn bad_words(k: usize, words: &[u16], signs: &[u8], blocks: &[u16]) -> bool
-    requires { ⌜ k ≤ 16 ⌝ }
     ensures { λ r. ⌜ r ≡ badWords k (now (words .entry)) (now (signs .entry)) (now (blocks .entry)) ⌝ }
 {
     if any_bad_added(words, k) {
@@ -31,7 +30,7 @@ fn bad_words(k: usize, words: &[u16], signs: &[u8], blocks: &[u16]) -> bool
 
 // The lowest of the numbers 5 to 8 that applies, and 0 where none does.
 fn lowest_of_words(k: usize, words: &[u16], signs: &[u8], blocks: &[u16]) -> u8
-    requires { ⌜ (k ≤ 16) × (length (now blocks) ≤ 4) ⌝ }
+    requires { ⌜ length (now blocks) ≤ 4 ⌝ }
     ensures { λ r. ⌜ r ≡ lowest (wordLines k (now (words .entry)) (now (signs .entry)) (now (blocks .entry))) ⌝ }
 {
     if bad_words(k, words, signs, blocks) {
@@ -58,7 +57,7 @@ fn lowest_of_arrays(
     blocks: usize,
     blockwords: [u16; 4],
 ) -> u8
-    requires { ⌜ (k ≤ 16) × (added ≤ 6) × (blocks ≤ 4) ⌝ }
+    requires { ⌜ (added ≤ 6) × (blocks ≤ 4) ⌝ }
     ensures { λ r. ⌜ r ≡ lowest (wordLines k (take added words) (take added signs) (take blocks blockwords)) ⌝ }
 {
     lowest_of_words(k, &words[..added], &signs[..added], &blockwords[..blocks])

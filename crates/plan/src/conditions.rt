@@ -2,12 +2,11 @@
 ghost use mathlib.Core.Path.{_≡_};
 ghost use Prim.Native.Nat.{_-_, _^_, _≤_};
 ghost use lib.ListN.{length};
-use super::sets::power;
-use super::words::combine;
-use super::words::count_letters;
-use super::words::has_beyond;
-use super::words::is_among;
-ghost use Rattle.plan.specs.Words.{any};
+use words::combine;
+use words::count_letters;
+use words::has_beyond;
+use words::is_among;
+ghost use Rattle.words.specs.Words.{any};
 ghost use Rattle.plan.specs.Plan.{combinesTo};
 ghost use Rattle.plan.specs.Check.{badLevels, badFactors, badCounts, badAdded, badSign, badBlock, spoils, spoiled};
 
@@ -48,7 +47,6 @@ pub fn bad_counts(levels: u8, added: u8, blocks: u8) -> bool
 }
 
 fn bad_added(word: u16, k: usize) -> bool
-    requires { ⌜ k ≤ 16 ⌝ }
     ensures { λ r. ⌜ r ≡ badAdded k word ⌝ }
 {
     if has_beyond(word, k) {
@@ -58,7 +56,6 @@ fn bad_added(word: u16, k: usize) -> bool
 }
 
 fn bad_block(word: u16, k: usize) -> bool
-    requires { ⌜ k ≤ 16 ⌝ }
     ensures { λ r. ⌜ r ≡ badBlock k word ⌝ }
 {
     if has_beyond(word, k) {
@@ -68,7 +65,6 @@ fn bad_block(word: u16, k: usize) -> bool
 }
 
 pub fn any_bad_added(words: &[u16], k: usize) -> bool
-    requires { ⌜ k ≤ 16 ⌝ }
     ensures { λ r. ⌜ r ≡ any (badAdded k) (now (words .entry)) ⌝ }
 {
     let mut i = 0;
@@ -95,7 +91,6 @@ pub fn any_bad_sign(signs: &[u8]) -> bool
 }
 
 pub fn any_bad_block(words: &[u16], k: usize) -> bool
-    requires { ⌜ k ≤ 16 ⌝ }
     ensures { λ r. ⌜ r ≡ any (badBlock k) (now (words .entry)) ⌝ }
 {
     let mut i = 0;
@@ -113,7 +108,7 @@ fn choices(n: usize) -> u16
     requires { ⌜ n ≤ 4 ⌝ }
     ensures { λ r. ⌜ (r ≡ 2 ^ n - 1) × (r ≤ 15) ⌝ }
 {
-    power(n) - 1
+    (1u16 << n) - 1
 }
 
 // Whether one or more of the words combine to the given one.

@@ -1,4 +1,4 @@
-// A plan, and what the calls about one answer.
+// A plan, and what the check of one answers.
 
 // `added` and `blocks` say how many of the words are meant; places beyond them are ignored.
 pub struct Plan {
@@ -13,17 +13,5 @@ pub struct Plan {
 
 pub enum Check {
     Accepted,
-    Refused(u8),
-}
-
-// A run's letters that are high, as a set, and the number of its block.
-pub enum Run {
-    Treatment { high: u16, block: u8 },
-    Refused(u8),
-}
-
-// The base word that an effect reduces to, and whether the sign turns.
-pub enum Alias {
-    Reduced { word: u16, turned: bool },
     Refused(u8),
 }

@@ -19,7 +19,7 @@ use Rattle.algebra.specs.Tests.{neither}
 use Rattle.algebra.specs.Search.{some-at, none-at}
 use Rattle.contrasts.specs.Limits.{mostTwo, mostThree}
 use Rattle.plan.specs.declared.types.Plan.{Plan}
-use Rattle.plan.specs.Words.{letters, beyond, any, among, repeated, combined}
+use Rattle.words.specs.Words.{letters, beyond, any, among, repeated, combined}
 use Rattle.plan.specs.Plan.{addedWords, addedSigns, blockWords, someCombination, combinesTo, confoundedIn}
 use Rattle.plan.specs.Check.{badLevels, badFactors, badCounts, badAdded, badSign, badBlock, badWords, dependent, spoils, spoiled, planNumber}
 

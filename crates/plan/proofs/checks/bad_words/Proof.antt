@@ -1,6 +1,6 @@
 use borrow.Author.Needs.{needs}
 use Rattle.plan.specs.Check.{badWords}
-use Rattle.plan.proofs.Tests.{is}
+use Rattle.algebra.specs.Tests.{is}
 use Rattle.plan.proofs.checks.bad_words.Statement.{statement}
 use Rattle.plan.proofs.checks.bad_words.Tie as tie
 

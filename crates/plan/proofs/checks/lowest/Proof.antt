@@ -2,8 +2,8 @@ use mathlib.Core.Path.{refl}
 use native.Mathlib.Omega.{arith}
 use borrow.Author.Needs.{needs}
 use Rattle.plan.specs.Check.{planNumber}
-use Rattle.plan.specs.Laws.Accepted.{factors-known, at-most-ten, counts-known}
-use Rattle.plan.proofs.Tests.{is}
+use Rattle.plan.specs.Laws.Accepted.{counts-known}
+use Rattle.algebra.specs.Tests.{is}
 use Rattle.plan.proofs.checks.lowest.Statement.{statement}
 use Rattle.plan.proofs.checks.lowest.Tie as tie
 
@@ -21,5 +21,5 @@ lowest-spec =
     (λ c. search needs)
     (λ c. search needs)
     (λ c. search needs)
-    (λ c κs. omega (arith, at-most-ten _ (factors-known _ _ (is (c .before .before .before .before .before .before .before .before .before .bad-factors .ensures) (c .before .before .before .before .before .before .before .before .if2 .left)) .1), counts-known _ _ _ (is (c .before .before .before .before .before .before .before .bad-counts .ensures) (c .before .before .before .before .before .before .if3 .left)) .0, counts-known _ _ _ (is (c .before .before .before .before .before .before .before .bad-counts .ensures) (c .before .before .before .before .before .before .if3 .left)) .1))
+    (λ c κs. omega (arith, counts-known _ _ _ (is (c .before .before .before .before .before .before .before .bad-counts .ensures) (c .before .before .before .before .before .before .if3 .left)) .0, counts-known _ _ _ (is (c .before .before .before .before .before .before .before .bad-counts .ensures) (c .before .before .before .before .before .before .if3 .left)) .1))
     (λ c. rw (is (c .before .before .before .before .before .before .before .before .before .before .before .before .bad-levels .ensures) (c .before .before .before .before .before .before .before .before .before .before .before .if1 .left), is (c .before .before .before .before .before .before .before .before .before .before .bad-factors .ensures) (c .before .before .before .before .before .before .before .before .before .if2 .left), is (c .before .before .before .before .before .before .before .before .bad-counts .ensures) (c .before .before .before .before .before .before .before .if3 .left)) (c .lowest-of-arrays .ensures)))

@@ -1,7 +1,7 @@
 use mathlib.Core.Path.{refl}
 use borrow.Author.Needs.{needs}
 use Rattle.plan.specs.Check.{dependent}
-use Rattle.plan.proofs.Tests.{is}
+use Rattle.algebra.specs.Tests.{is}
 use Rattle.plan.proofs.checks.lowest_of_words.Statement.{statement}
 use Rattle.plan.proofs.checks.lowest_of_words.Tie as tie
 

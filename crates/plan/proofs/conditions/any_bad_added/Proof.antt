@@ -2,9 +2,9 @@ use Prim.Native.Nat.{_-_}
 use native.Mathlib.Omega.{arith}
 use lib.ListN.{length, getD}
 use Rattle.algebra.specs.Search.{Unfound, unfound, onward, found, nowhere}
-use Rattle.plan.specs.Words.{any}
+use Rattle.words.specs.Words.{any}
 use Rattle.plan.specs.Check.{badAdded}
-use Rattle.plan.proofs.Tests.{is}
+use Rattle.algebra.specs.Tests.{is}
 use Rattle.plan.proofs.conditions.any_bad_added.Statement.{statement}
 use Rattle.plan.proofs.conditions.any_bad_added.Tie as tie
 

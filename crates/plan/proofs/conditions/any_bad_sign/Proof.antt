@@ -3,7 +3,7 @@ use native.Mathlib.Omega.{arith}
 use lib.ListN.{length, getD}
 use borrow.Author.Tests.{lt-ltb, le-ltb}
 use Rattle.algebra.specs.Search.{Unfound, unfound, onward, found, nowhere}
-use Rattle.plan.specs.Words.{any}
+use Rattle.words.specs.Words.{any}
 use Rattle.plan.specs.Check.{badSign}
 use Rattle.plan.proofs.conditions.any_bad_sign.Statement.{statement}
 use Rattle.plan.proofs.conditions.any_bad_sign.Tie as tie

@@ -2,10 +2,10 @@ use Prim.Native.Nat.{_+_, _-_, _^_}
 use native.Mathlib.Omega.{arith}
 use lib.ListN.{length}
 use Rattle.algebra.specs.Search.{Unfound, unfound, onward, found, nowhere}
-use Rattle.plan.specs.Words.{combined}
+use Rattle.words.specs.Words.{combined}
 use Rattle.plan.specs.Plan.{someCombination}
 use Rattle.plan.specs.Check.{spoils, spoiled}
-use Rattle.plan.proofs.Tests.{is}
+use Rattle.algebra.specs.Tests.{is}
 use Rattle.plan.proofs.conditions.any_spoiled.Statement.{statement}
 use Rattle.plan.proofs.conditions.any_spoiled.Tie as tie
 

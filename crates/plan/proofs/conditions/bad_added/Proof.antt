@@ -1,6 +1,6 @@
 use native.Mathlib.Omega.{arith}
 use Rattle.plan.specs.Check.{badAdded}
-use Rattle.plan.proofs.Tests.{is}
+use Rattle.algebra.specs.Tests.{is}
 use Rattle.plan.proofs.conditions.bad_added.Statement.{statement}
 use Rattle.plan.proofs.conditions.bad_added.Tie as tie
 

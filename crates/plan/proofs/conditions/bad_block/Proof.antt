@@ -1,6 +1,6 @@
 use native.Mathlib.Omega.{arith}
 use Rattle.plan.specs.Check.{badBlock}
-use Rattle.plan.proofs.Tests.{is}
+use Rattle.algebra.specs.Tests.{is}
 use Rattle.plan.proofs.conditions.bad_block.Statement.{statement}
 use Rattle.plan.proofs.conditions.bad_block.Tie as tie
 

@@ -5,7 +5,7 @@ use lib.Dec.{eqb}
 use lib.ListN.{length}
 use borrow.Author.Tests.{eq-eqb, ne-eqb}
 use Rattle.algebra.specs.Search.{Unfound, unfound, onward, found, nowhere}
-use Rattle.plan.specs.Words.{combined}
+use Rattle.words.specs.Words.{combined}
 use Rattle.plan.specs.Plan.{someCombination, combinesTo}
 use Rattle.plan.proofs.conditions.combines_to.Statement.{statement}
 use Rattle.plan.proofs.conditions.combines_to.Tie as tie

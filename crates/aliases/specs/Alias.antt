@@ -1,0 +1,43 @@
+-- The alias call: the base word that an effect of all factors reduces to, and whether the sign turns.
+--
+--   baseWord k words e   the base word
+--   turnsOf, turns       how many of the replaced letters have sign 1, and whether the sign turns
+--   aliasValues p e      both, of a plan
+--   aliasNumber p e      the lowest number that applies, 0 where the alias is given
+--   aliasOutcome         the cases of the call's answer
+use mathlib.Core.Bool.{Bool, cond, _&&_}
+use mathlib.Core.List.{List, [], _∷_}
+use Prim.Native.Nat.{ℕ, _/_, _%_, _^_}
+use lib.Dec.{eqb}
+use lib.ListN.{length, getD}
+use Rattle.algebra.specs.Naturals.{Σℕ}
+use Rattle.plan.specs.declared.types.Plan.{Plan}
+use Rattle.aliases.specs.declared.types.Alias.{Alias}
+use Rattle.aliases.specs.declared.types.Alias.the-variants.{Reduced, Refused}
+use Rattle.plan.specs.Outcome.{line, Outcome, given, refused}
+use Rattle.words.specs.Words.{has, odd, beyond, combined}
+use Rattle.plan.specs.Plan.{addedWords, addedSigns, allLetters}
+use Rattle.plan.specs.Check.{withPlan}
+
+-- "Each added letter is replaced by its word": the effect's base letters are combined with the words that its added letters choose.
+unfoldable pub baseWord : ℕ → List ℕ → ℕ → ℕ
+baseWord k words e = combined (e % 2 ^ k) (e / 2 ^ k) words
+
+-- "the number of replaced letters with sign 1 is odd exactly when the sign turns"
+unfoldable pub turnsOf : ℕ → List ℕ → ℕ
+turnsOf replaced signs = Σℕ (length signs) (λ j. cond (has replaced j && eqb (getD signs j 0) 1) 1 0)
+
+unfoldable pub turns : ℕ → List ℕ → ℕ → Bool
+turns k signs e = odd (turnsOf (e / 2 ^ k) signs)
+
+-- the values of the alias call
+abbrev pub aliasValues : Plan → ℕ → ℕ × Bool
+aliasValues p e = (baseWord (p .k) (addedWords p) e, turns (p .k) (addedSigns p) e)
+
+-- 9: "estimate, alias or run call asked at three levels"; 10: "alias letter [..] not in the plan"
+unfoldable pub aliasNumber : Plan → ℕ → ℕ
+aliasNumber p e = withPlan p (line 9 (eqb (p .levels) 3) ∷ line 10 (beyond (allLetters p) e) ∷ [])
+
+abbrev pub aliasOutcome : Alias → Outcome (ℕ × Bool)
+aliasOutcome (Reduced word turned) = given (word, turned)
+aliasOutcome (Refused n) = refused n

@@ -1,6 +1,0 @@
-use Rattle.plan.specs.Laws.Words.{odd-ones}
-use Rattle.plan.proofs.words.is_odd.Statement.{statement}
-use Rattle.plan.proofs.words.is_odd.Tie as tie
-
-pub is-odd-spec : {M : Type 1} → statement M
-is-odd-spec = tie.close (tie.spec (λ c. odd-ones (c .args .run) (c .args .word) (c .fits .run .fits)))

@@ -1,0 +1,34 @@
+// How many runs a plan has.
+ghost use mathlib.Core.Path.{_≡_};
+ghost use Prim.Native.Nat.{_^_, _≤_};
+use super::conditions::bad_factors;
+use super::conditions::bad_levels;
+use super::types::Plan;
+ghost use Rattle.plan.specs.Check.{runCount};
+
+// The base multiplied k times.
+fn to_the_power(base: usize, k: usize) -> usize
+    requires { ⌜ (base ≤ 3) × (k ≤ 10) ⌝ }
+    ensures { λ r. ⌜ r ≡ base ^ k ⌝ }
+{
+    let mut n = 1;
+    let mut i = 0;
+    while i < k {
+        n *= base;
+        i += 1;
+    }
+    n
+}
+
+// How many runs there are, and 0 where the levels or the number of factors are refused.
+pub fn runs(p: Plan) -> usize
+    ensures { λ r. ⌜ r ≡ runCount p ⌝ }
+{
+    if bad_levels(p.levels) {
+        return 0;
+    }
+    if bad_factors(p.levels, p.k) {
+        return 0;
+    }
+    to_the_power(p.levels as usize, p.k as usize)
+}

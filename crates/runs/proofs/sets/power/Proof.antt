@@ -1,0 +1,13 @@
+use native.Mathlib.Omega.{arith}
+use borrow.Author.Needs.{needs}
+use Rattle.algebra.specs.Bits.{one-shifted}
+use Rattle.runs.proofs.sets.power.Statement.{statement}
+use Rattle.runs.proofs.sets.power.Tie as tie
+
+pub power-spec : {M : Type 1} → statement M
+power-spec =
+    tie.close
+    (tie.spec
+    (λ c. search needs)
+    (λ c. search needs)
+    (λ c. one-shifted (c .args .n) 16 (omega arith)))

@@ -1,0 +1,25 @@
+use mathlib.Core.Path.{refl, sym}
+use native.Mathlib.Omega.{arith}
+use lib.Seq.{length-take-le}
+use borrow.Author.Tests.{le-leb, lt-leb}
+use borrow.Author.Needs.{needs}
+use Rattle.runs.proofs.treatments.treatment.Statement.{statement}
+use Rattle.runs.proofs.treatments.treatment.Tie as tie
+
+pub treatment-spec : {M : Type 1} → statement M
+treatment-spec =
+    tie.close
+    (tie.spec
+    (λ c κs. search needs)
+    (λ c. search needs)
+    (λ c. rw (← (c .before .power .ensures), le-leb _ _ (c .if1 .taken)) refl)
+    (λ c. search needs)
+    (λ c. search needs)
+    (λ c. sym (length-take-le _ _ (omega arith)))
+    (λ c. search needs)
+    (λ c. sym (length-take-le _ _ (omega arith)))
+    (λ c κs. (omega (arith, c .before .before .before .power .ensures), omega (arith, length-take-le (c .before .before .before .before .args .added) (c .before .before .before .before .args .t4) (omega arith)), omega (arith, length-take-le (c .before .before .before .before .args .added) (c .before .before .before .before .args .t4) (omega arith), length-take-le (c .before .before .before .before .args .added) (c .before .before .before .before .args .t5) (omega arith))))
+    (λ c. search needs)
+    (λ c. sym (length-take-le _ _ (omega arith)))
+    (λ c κs. omega (arith, length-take-le (c .before .before .before .before .before .before .args .blocks) (c .before .before .before .before .before .before .args .t7) (omega arith)))
+    (λ c. rw (← (c .before .before .before .before .before .before .power .ensures), lt-leb _ _ (c .before .before .before .before .before .if1 .left), ← (c .before .before .high-letters .ensures), ← (c .block-number .ensures)) refl))

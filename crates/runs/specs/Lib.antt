@@ -1,0 +1,6 @@
+-- What the run call promises, and laws that callers cite.
+--
+--   Run     the call's answer
+--   Laws    laws on runs and blocks
+pub mod Run
+pub mod Laws

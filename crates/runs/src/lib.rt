@@ -1,0 +1,9 @@
+// Runs of two-level plans.
+//
+//   run(p, number)   the letters that are high in a run, added factors included, and its block
+mod sets;
+mod treatments;
+mod types;
+
+pub use treatments::run;
+pub use types::Run;

@@ -1,0 +1,35 @@
+// The letters of one word.
+ghost use mathlib.Core.Path.{_≡_};
+ghost use Rattle.words.specs.Words.{has, beyond, letters, oddIn};
+
+pub fn has_letter(word: u16, i: usize) -> bool
+    ensures { λ r. ⌜ r ≡ has word i ⌝ }
+{
+    if 16 <= i {
+        return false;
+    }
+    (word >> i) % 2 == 1
+}
+
+// Whether the word has a letter from n on.
+pub fn has_beyond(word: u16, n: usize) -> bool
+    ensures { λ r. ⌜ r ≡ beyond n word ⌝ }
+{
+    if 16 <= n {
+        return false;
+    }
+    word >> n != 0
+}
+
+pub fn count_letters(word: u16) -> u32
+    ensures { λ r. ⌜ r ≡ letters word ⌝ }
+{
+    u16::count_ones(word)
+}
+
+// Whether an odd number of the word's letters are high in the run.
+pub fn is_odd(run: u16, word: u16) -> bool
+    ensures { λ r. ⌜ r ≡ oddIn run word ⌝ }
+{
+    u16::count_ones(run & word) % 2 == 1
+}
