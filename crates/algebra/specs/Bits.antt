@@ -1,12 +1,14 @@
 -- Sets of small numbers as the binary digits of a number, and what the machine's `^`, `&` and count of ones make of them.
 --
 --   bit w i, isSet w i     digit i of w, and whether it is 1
+--   digit                  a digit by the test whether it is 1
 --   bits n f               the number whose digits below n are those of which f holds
 --   bits-lt, bits-at       it is below 2 ^ n, and has those digits
 --   bits-all               a number below 2 ^ n is that of its own digits
 --   bits-cong, bits-ext    by equal tests, and so equal digits make equal numbers
 --   bit-lt, bit-none       a digit is 0 or 1; a number below 2 ^ n has none from n on
 --   bits-none              nor has the number of a set
+--   bit-unset              a digit that is not 1 is 0
 --   bit-xor, bit-and       the digits of a ^ b, and of a & b
 --   one-shifted, room      1 shifted by n below the width w, and room for one bit more
 --   Gathered f n i set     a loop that gathers the set of f below n has done the numbers below i
@@ -22,6 +24,7 @@ use lib.Arith.{lt-one}
 use lib.Bits.{bitAnd, bitXor, and-shr, xor-shr, and-step, xor-add-and, and-le-l}
 use lib.Count.{ones, ones-step}
 use lib.Dec.{eqb}
+use borrow.Author.Tests.{eqb-false}
 use Rattle.algebra.specs.Naturals.{Σℕ, Σℕ-first, Σℕ-cong, Σℕ-mul}
 
 abbrev pub bit : ℕ → ℕ → ℕ
@@ -90,7 +93,7 @@ pub bits-cong : (n : ℕ) {f g : ℕ → Bool} → ((i : ℕ) → i < n → f i 
 unfolding bits
 bits-cong n h = Σℕ-cong n (λ i l. ap (λ (b : Bool). cond b (2 ^ i) 0) (h i l))
 
-digit : (x : ℕ) → x < 2 → cond (eqb x 1) 1 0 ≡ x
+pub digit : (x : ℕ) → x < 2 → cond (eqb x 1) 1 0 ≡ x
 digit zero h = refl
 digit (suc zero) h = refl
 digit (suc (suc x)) h = absurd (omega (arith, h))
@@ -113,6 +116,9 @@ bit-lt w i = mod-lt (w / 2 ^ i) (zero-lt-suc 1)
 
 pub bit-none : (n w i : ℕ) → w < 2 ^ n → n ≤ i → bit w i ≡ 0
 bit-none n w i h l = ap (λ (m : ℕ). m % 2) (div-eq-of-lt (lt-of-lt-of-le h (pow-le-pow-right {n = 2} (zero-lt-suc 1) l)))
+
+pub bit-unset : (w i : ℕ) → isSet w i ≡ false → bit w i ≡ 0
+bit-unset w i e = omega (arith, bit-lt w i, eqb-false (bit w i) 1 e)
 
 -- a set's number has no digit from n on
 pub bits-none : (n : ℕ) (f : ℕ → Bool) (i : ℕ) → n ≤ i → isSet (bits n f) i ≡ false

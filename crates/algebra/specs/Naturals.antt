@@ -5,6 +5,10 @@
 --   Σℕ-cong         equal terms give equal sums
 --   Σℕ-mul          a common factor
 --   Σℕ-first        the first term, and the rest
+--   Σℕ-none         terms that are all 0
+--   Σℕ-add          a sum of sums
+--   Σℕ-swap         the order of two sums
+--   Σℕ-parity       terms that are odd or even alike give sums that are
 --   Σℕ-ones         n times 1
 --   Σℕ-split        the sum over l * n numbers, by their lowest digit to the base l and the rest
 --   Σℕ-by           a sum sorted by a key: the parts of all keys add up to the whole
@@ -58,6 +62,27 @@ pub Σℕ-first : (n : ℕ) (f : ℕ → ℕ) → Σℕ (suc n) f ≡ f 0 + Σ�
 unfolding Σℕ
 Σℕ-first zero f = omega arith
 Σℕ-first (suc n) f = rw (Σℕ-first n f) (omega arith)
+
+pub Σℕ-none : (n : ℕ) (f : ℕ → ℕ) → ((i : ℕ) → i < n → f i ≡ 0) → Σℕ n f ≡ 0
+unfolding Σℕ
+Σℕ-none zero f h = refl
+Σℕ-none (suc n) f h = omega (arith, Σℕ-none n f (λ i l. h i (omega arith)), h n (omega arith))
+
+pub Σℕ-add : (n : ℕ) (f g : ℕ → ℕ) → Σℕ n (λ i. f i + g i) ≡ Σℕ n f + Σℕ n g
+unfolding Σℕ
+Σℕ-add zero f g = refl
+Σℕ-add (suc n) f g = rw (Σℕ-add n f g) (omega arith)
+
+pub Σℕ-swap : (m n : ℕ) (f : ℕ → ℕ → ℕ) → Σℕ m (λ i. Σℕ n (λ j. f i j)) ≡ Σℕ n (λ j. Σℕ m (λ i. f i j))
+unfolding Σℕ
+Σℕ-swap zero n f = sym (Σℕ-none n (λ j. 0) (λ j l. refl))
+Σℕ-swap (suc m) n f = rw (Σℕ-swap m n f) (sym (Σℕ-add n (λ j. Σℕ m (λ i. f i j)) (λ j. f m j)))
+
+-- sums of terms that are odd or even alike
+pub Σℕ-parity : (n : ℕ) (f g : ℕ → ℕ) → ((i : ℕ) → i < n → f i % 2 ≡ g i % 2) → Σℕ n f % 2 ≡ Σℕ n g % 2
+unfolding Σℕ
+Σℕ-parity zero f g h = refl
+Σℕ-parity (suc n) f g h = omega (arith, Σℕ-parity n f g (λ i l. h i (omega arith)), h n (omega arith))
 
 pub Σℕ-ones : (n : ℕ) → Σℕ n (λ i. 1) ≡ n
 unfolding Σℕ

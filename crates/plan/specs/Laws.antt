@@ -1,8 +1,14 @@
 -- Laws about plans that callers cite.
 --
 --   Accepted   what is known of a plan that is accepted
+--   Accepts    that this is all that acceptance asks
 --   Answers    the answers of calls that take a plan
+--   Confounded the confounded effects of an accepted plan
 --   Sizes      how many runs an accepted plan has
+--   Alike      places beyond the counts are ignored
 pub mod Accepted
+pub mod Accepts
 pub mod Answers
+pub mod Confounded
 pub mod Sizes
+pub mod Alike

@@ -1,6 +1,6 @@
 -- Words: definitions, and laws that callers cite.
 --
 --   Words    words and their letters, as the rules speak of them
---   Laws     what the machine's operations on words say of their letters
+--   Laws     laws on letters and combinations
 pub mod Words
 pub mod Laws

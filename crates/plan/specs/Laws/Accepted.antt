@@ -1,7 +1,7 @@
--- What is known of a plan that is accepted, as one record, and that this is all that acceptance asks.
+-- What is known of a plan that is accepted, as one record.
 --
 --   Accepted p              the plan's levels, counts, words and confounded effects are as the rules ask
---   accepted, accepts       so they are where the check gives no number, and it gives none where they are
+--   accepted                so they are where the check gives no number
 --   levels-known, factors-known, counts-known    what lines 2, 3 and 4 say where they do not apply
 --   levels-small            two or three levels are at most three
 --   at-most-ten, sizes      the most factors, as a number; the bounds of an accepted plan's counts

@@ -4,7 +4,7 @@ use native.Mathlib.Nat.{add-zero}
 use native.Mathlib.Omega.{arith}
 use lib.ListN.{length}
 use Rattle.algebra.specs.Bits.{Gathered, gathered-small, gathered-more, gathered-all}
-use Rattle.runs.specs.Laws.{base-high, added-high}
+use Rattle.runs.specs.Laws.High.{base-high, added-high}
 use Rattle.runs.specs.Run.{highIn, highLetters}
 use Rattle.runs.proofs.treatments.high_letters.Statement.{statement}
 use Rattle.runs.proofs.treatments.high_letters.Tie as tie

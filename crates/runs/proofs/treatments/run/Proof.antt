@@ -3,7 +3,7 @@ use borrow.Author.Needs.{needs}
 use Rattle.runs.specs.Run.{runNumber}
 use Rattle.plan.specs.Laws.Accepted.{sizes}
 use Rattle.plan.specs.Laws.Answers.{refused-by-plan, after-plan}
-use Rattle.runs.specs.Laws.{run-two}
+use Rattle.runs.specs.Laws.High.{run-two}
 use Rattle.runs.proofs.treatments.run.Statement.{statement}
 use Rattle.runs.proofs.treatments.run.Tie as tie
 

@@ -1,4 +1,4 @@
-use Rattle.words.specs.Laws.{letters-ones}
+use Rattle.words.specs.Laws.Letters.{letters-ones}
 use Rattle.words.proofs.letters.count_letters.Statement.{statement}
 use Rattle.words.proofs.letters.count_letters.Tie as tie
 

@@ -1,7 +1,7 @@
 use mathlib.Core.Path.{sym}
 use borrow.Author.Needs.{needs}
 use native.Mathlib.Omega.{arith}
-use Rattle.words.specs.Laws.{beyond-most, beyond-shifted}
+use Rattle.words.specs.Laws.Letters.{beyond-most, beyond-shifted}
 use Rattle.words.proofs.letters.has_beyond.Statement.{statement}
 use Rattle.words.proofs.letters.has_beyond.Tie as tie
 

@@ -1,4 +1,4 @@
-use Rattle.words.specs.Laws.{odd-ones}
+use Rattle.words.specs.Laws.Letters.{odd-ones}
 use Rattle.words.proofs.letters.is_odd.Statement.{statement}
 use Rattle.words.proofs.letters.is_odd.Tie as tie
 

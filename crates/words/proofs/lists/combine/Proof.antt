@@ -1,7 +1,7 @@
 use Prim.Native.Nat.{_-_}
 use native.Mathlib.Omega.{arith}
 use lib.ListN.{length}
-use Rattle.words.specs.Laws.{Combining, combining-start, combining-more, combining-end}
+use Rattle.words.specs.Laws.Combined.{Combining, combining-start, combining-more, combining-end}
 use Rattle.words.proofs.lists.combine.Statement.{statement}
 use Rattle.words.proofs.lists.combine.Tie as tie
 

@@ -1,0 +1,122 @@
+-- The small inputs of the table of refusals, 2 to 8, and the starred run on block words AD and ABC, computed over the definitions.
+--
+--   plan levels k words signs blocks    a plan with these words, whose other places hold 0
+--   small-inputs, other-numbers         the numbers of plans that are refused
+--   all-accepted, BCD-lost              plans that are accepted, and the confounded effects of one
+use mathlib.Core.Path.{_≡_, refl}
+use mathlib.Core.Bool.{_||_}
+use mathlib.Core.List.{List, [], _∷_, _++_, map}
+use Prim.Native.Nat.{ℕ, _-_}
+use lib.Dec.{eqb}
+use lib.ListN.{length, replicate}
+use Rattle.algebra.specs.Naturals.{Σℕ}
+use Rattle.algebra.specs.Bits.{bits}
+use Rattle.algebra.specs.Search.{some}
+use Rattle.algebra.specs.Tab.{tab, tabFrom}
+use Rattle.contrasts.specs.Limits.{mostTwo, mostThree}
+use Rattle.words.specs.Words.{letters, beyond, times, combined, any, among, repeated}
+use Rattle.plan.specs.declared.types.Plan.{Plan}
+use Rattle.plan.specs.Plan.{someCombination, combinesTo, confoundedIn}
+use Rattle.plan.specs.Check.{badLevels, badFactors, badCounts, badAdded, badSign, badBlock, badWords, dependent, spoils, spoiled, planNumber}
+
+-- ---- words by their letters
+
+abbrev pub A : ℕ
+A = 1
+
+abbrev pub AB : ℕ
+AB = 3
+
+abbrev pub C : ℕ
+C = 4
+
+abbrev pub BC : ℕ
+BC = 6
+
+abbrev pub ABC : ℕ
+ABC = 7
+
+abbrev pub AD : ℕ
+AD = 9
+
+abbrev pub BCD : ℕ
+BCD = 14
+
+abbrev pub filled : ℕ → List ℕ → List ℕ
+filled n ws = ws ++ replicate (n - length ws) 0
+
+abbrev pub plan : ℕ → ℕ → List ℕ → List ℕ → List ℕ → Plan
+plan levels k words signs blocks = record {
+  levels = levels;
+  k = k;
+  added = length words;
+  words = filled 6 words;
+  signs = filled 6 signs;
+  blocks = length blocks;
+  blockwords = filled 4 blocks;
+}
+
+-- ---- refusals
+
+-- the small inputs of lines 2 to 8, in the order of the table; lines 7 and 8 "with k = 3"
+abbrev smallInputs : List Plan
+smallInputs =
+    plan 4 1 [] [] []
+    ∷ plan 3 7 [] [] []
+    ∷ plan 3 2 [] [] (AB ∷ [])
+    ∷ plan 2 2 [] [] (C ∷ [])
+    ∷ plan 2 3 (AB ∷ AB ∷ []) (0 ∷ 0 ∷ []) []
+    ∷ plan 2 3 [] [] (AB ∷ AB ∷ [])
+    ∷ plan 2 3 [] [] (AB ∷ ABC ∷ [])
+    ∷ []
+
+small-inputs : map planNumber smallInputs ≡ 2 ∷ 3 ∷ 4 ∷ 5 ∷ 6 ∷ 7 ∷ 8 ∷ []
+unfolding planNumber badLevels badFactors mostTwo mostThree badCounts badWords badAdded badSign badBlock repeated dependent spoiled spoils any among beyond letters combined times someCombination combinesTo some bits Σℕ
+small-inputs = refl
+
+-- other ways into a line, and plans to which two lines apply, of which the lower counts
+abbrev others : List Plan
+others =
+    -- no factor; eleven at two levels
+    plan 2 0 [] [] []
+    ∷ plan 2 11 [] [] []
+    -- seven added factors; five block words
+    ∷ plan 2 4 (replicate 7 AB) (replicate 7 0) []
+    ∷ plan 2 4 [] [] (replicate 5 AB)
+    -- an added word of one letter, a letter of it beyond k, a sign over 1, an empty block word
+    ∷ plan 2 3 (A ∷ []) (0 ∷ []) []
+    ∷ plan 2 3 (AD ∷ []) (0 ∷ []) []
+    ∷ plan 2 3 (AB ∷ []) (2 ∷ []) []
+    ∷ plan 2 3 [] [] (0 ∷ [])
+    -- a confounded effect is an added factor's word
+    ∷ plan 2 3 (BC ∷ []) (0 ∷ []) (BC ∷ [])
+    -- 4 and 5, 5 and 7, 6 and 8
+    ∷ plan 3 2 [] [] (C ∷ [])
+    ∷ plan 2 2 [] [] (C ∷ C ∷ [])
+    ∷ plan 2 3 (AB ∷ AB ∷ []) (0 ∷ 0 ∷ []) (A ∷ [])
+    ∷ []
+
+other-numbers : map planNumber others ≡ 3 ∷ 3 ∷ 4 ∷ 4 ∷ 5 ∷ 5 ∷ 5 ∷ 5 ∷ 8 ∷ 4 ∷ 5 ∷ 6 ∷ []
+unfolding planNumber badLevels badFactors mostTwo mostThree badCounts badWords badAdded badSign badBlock repeated dependent spoiled spoils any among beyond letters combined times someCombination combinesTo some bits Σℕ
+other-numbers = refl
+
+-- ---- accepted plans
+
+-- "k = 4, block words AD, ABC: accepted, BCD confounded too."; the largest plans of both level counts; D = ABC with either sign
+abbrev acceptedPlans : List Plan
+acceptedPlans =
+    plan 2 4 [] [] (AD ∷ ABC ∷ [])
+    ∷ plan 2 10 [] [] []
+    ∷ plan 3 6 [] [] []
+    ∷ plan 2 3 (ABC ∷ []) (0 ∷ []) []
+    ∷ plan 2 3 (ABC ∷ []) (1 ∷ []) []
+    ∷ []
+
+all-accepted : map planNumber acceptedPlans ≡ 0 ∷ 0 ∷ 0 ∷ 0 ∷ 0 ∷ []
+unfolding planNumber badLevels badFactors mostTwo mostThree badCounts badWords badAdded badSign badBlock repeated dependent spoiled spoils any among beyond letters combined times someCombination combinesTo some bits Σℕ
+all-accepted = refl
+
+-- of the sixteen effects of that plan just AD, ABC and BCD are confounded
+BCD-lost : tab 16 (confoundedIn (plan 2 4 [] [] (AD ∷ ABC ∷ []))) ≡ tab 16 (λ w. eqb w AD || (eqb w ABC || eqb w BCD))
+unfolding combinesTo someCombination combined times some bits Σℕ tabFrom
+BCD-lost = refl

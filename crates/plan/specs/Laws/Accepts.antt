@@ -1,0 +1,84 @@
+-- What is known of an accepted plan is all that acceptance asks: the check refuses no plan of which it holds.
+--
+--   accepts    a plan of which `Accepted` holds gets no number
+use mathlib.Core.Path.{_≡_, refl, sym, _∙_}
+use mathlib.Core.Logic.{_⊎_, inl, inr}
+use mathlib.Core.Bool.{true, false, cond, not, _||_}
+use Prim.Native.Nat.{ℕ, _+_, _-_, _^_, _<_}
+use native.Mathlib.Omega.{arith}
+use lib.Dec.{eqb, ltb}
+use lib.ListN.{length, getD, take}
+use lib.Seq.{length-take-le, getD-take}
+use borrow.Author.Tests.{eq-eqb, ne-eqb, le-ltb}
+use Rattle.algebra.specs.Tests.{none}
+use Rattle.algebra.specs.Search.{some-true, some-false}
+use Rattle.contrasts.specs.Limits.{mostTwo, mostThree}
+use Rattle.words.specs.Words.{letters, any, among, repeated, combined}
+use Rattle.plan.specs.declared.types.Plan.{Plan}
+use Rattle.plan.specs.Plan.{addedWords, addedSigns, blockWords, someCombination, combinesTo, confoundedIn}
+use Rattle.plan.specs.Check.{badLevels, badFactors, badCounts, badAdded, badSign, badBlock, badWords, dependent, spoils, spoiled, planNumber}
+use Rattle.plan.specs.Laws.Accepted.{Accepted}
+
+module _ {p : Plan} (a : Accepted p) where
+  levels-right : badLevels (p .levels) ≡ false
+  unfolding badLevels
+  levels-right = by (a .levels)
+    where
+      by : (p .levels ≡ 2) ⊎ (p .levels ≡ 3) → not (eqb (p .levels) 2 || eqb (p .levels) 3) ≡ false
+      by (inl e) = rw e refl
+      by (inr e) = rw e refl
+
+  factors-right : badFactors (p .levels) (p .k) ≡ false
+  unfolding badFactors mostTwo mostThree
+  factors-right = none (ne-eqb (p .k) 0 (λ e. omega (arith, e, a .factors .0))) (by (a .levels))
+    where
+      by : (p .levels ≡ 2) ⊎ (p .levels ≡ 3) → cond (eqb (p .levels) 2) (ltb 10 (p .k)) (ltb 6 (p .k)) ≡ false
+      by (inl e) = rw e (le-ltb 10 (p .k) (a .factors .1))
+      by (inr e) = rw e (le-ltb 6 (p .k) (a .factors .2 e))
+
+  counts-right : badCounts (p .levels) (p .added) (p .blocks) ≡ false
+  unfolding badCounts
+  counts-right = none (le-ltb 6 (p .added) (a .counts .0)) (none (le-ltb 4 (p .blocks) (a .counts .1)) (by (a .levels)))
+    where
+      by : (p .levels ≡ 2) ⊎ (p .levels ≡ 3) → cond (eqb (p .levels) 3) (ltb 0 (p .added) || ltb 0 (p .blocks)) false ≡ false
+      by (inl e) = rw e refl
+      by (inr e) = let z = a .counts .2 e in rw (e, z .0, z .1) refl
+
+  words-right : badWords (p .k) (addedWords p) (addedSigns p) (blockWords p) ≡ false
+  unfolding badWords any badAdded badSign badBlock
+  words-right =
+      none (some-false (length (addedWords p)) _ (λ j h. none (a .words j h .0) (le-ltb (letters (getD (addedWords p) j 0)) 2 (a .words j h .1))))
+      (none (some-false (length (addedSigns p)) _ (λ j h. le-ltb 1 (getD (addedSigns p) j 0) (a .signs j h)))
+      (some-false (length (blockWords p)) _ (λ j h. none (a .blocks j h .0) (ne-eqb (getD (blockWords p) j 0) 0 (a .blocks j h .1)))))
+
+  apart-right : repeated (addedWords p) ≡ false
+  unfolding repeated among any
+  apart-right = some-false (length (addedWords p)) _ (λ j h. at j h)
+    where
+      at : (j : ℕ) → j < length (addedWords p) → among (getD (addedWords p) j 0) (take j (addedWords p)) ≡ false
+      at j h =
+          let n : length (take j (addedWords p)) ≡ j = length-take-le j (addedWords p) (omega arith) in
+          some-false (length (take j (addedWords p))) _
+          (λ i l.
+          let i<j : i < j = omega (arith, n, l) in
+          ne-eqb (getD (take j (addedWords p)) i 0) (getD (addedWords p) j 0)
+          (λ e. a .apart i j i<j h (sym (getD-take j (addedWords p) i 0 i<j) ∙ e)))
+
+  lost : (c : ℕ) → c < 2 ^ length (blockWords p) - 1 → confoundedIn p (combined 0 (c + 1) (blockWords p)) ≡ true
+  unfolding combinesTo someCombination
+  lost c h = some-true (2 ^ length (blockWords p) - 1) _ c h (eq-eqb (combined 0 (c + 1) (blockWords p)) _ refl)
+
+  independent-right : dependent (blockWords p) ≡ false
+  unfolding dependent combinesTo someCombination
+  independent-right = some-false _ _ (λ c h. ne-eqb (combined 0 (c + 1) (blockWords p)) 0 (a .lost _ (lost c h) .0))
+
+  clear-right : spoiled (addedWords p) (blockWords p) ≡ false
+  unfolding spoiled spoils someCombination
+  clear-right =
+      some-false _ _
+      (λ c h. none (ne-eqb (letters (combined 0 (c + 1) (blockWords p))) 1 (a .lost _ (lost c h) .1)) (a .lost _ (lost c h) .2))
+
+pub accepts : (p : Plan) → Accepted p → planNumber p ≡ 0
+unfolding planNumber
+accepts p a =
+    rw (levels-right a, factors-right a, counts-right a, words-right a, apart-right a, independent-right a, clear-right a) refl

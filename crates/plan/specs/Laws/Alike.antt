@@ -1,0 +1,32 @@
+-- "Places beyond a plan's counts are ignored": plans that agree as far as their counts reach get the same answers.
+--
+--   Alike p q       the plans agree so far
+--   same-number     the check gives them the same number
+--   same-factors    they have the same base factors
+--   same-lost       the same effects are confounded
+use mathlib.Core.Path.{_≡_, refl}
+use Prim.Native.Nat.{ℕ}
+use Rattle.plan.specs.declared.types.Plan.{Plan}
+use Rattle.plan.specs.Plan.{addedWords, addedSigns, blockWords, factorsOf, confoundedIn}
+use Rattle.plan.specs.Check.{planNumber}
+
+pub record Alike (p q : Plan) : Type 0 where
+  pub levels : p .levels ≡ q .levels
+  pub k : p .k ≡ q .k
+  pub added : p .added ≡ q .added
+  pub words : addedWords p ≡ addedWords q
+  pub signs : addedSigns p ≡ addedSigns q
+  pub blocks : p .blocks ≡ q .blocks
+  pub blockwords : blockWords p ≡ blockWords q
+
+module _ {p q : Plan} (a : Alike p q) where
+  pub same-number : planNumber p ≡ planNumber q
+  unfolding planNumber
+  same-number = rw (a .words, a .signs, a .blockwords, a .levels, a .k, a .added, a .blocks) refl
+
+  pub same-factors : factorsOf p ≡ factorsOf q
+  unfolding factorsOf
+  same-factors = rw (a .levels, a .k) refl
+
+  pub same-lost : (w : ℕ) → confoundedIn p w ≡ confoundedIn q w
+  same-lost w = rw (a .blockwords) refl

@@ -1,0 +1,48 @@
+-- Runs of small plans, computed over the definitions.
+--
+--   high-D, high-turned       D = ABC with sign 0 and with sign 1, in all eight runs
+--   two-blocks, four-blocks   the blocks of ABC, and of AD and ABC
+--   line-9, line-10           "levels 3, k = 1"; a run number that the plan does not have
+use mathlib.Core.Path.{_≡_, refl}
+use mathlib.Core.Bool.{cond}
+use mathlib.Core.List.{List, [], _∷_}
+use Prim.Native.Nat.{ℕ, _+_}
+use Rattle.algebra.specs.Naturals.{Σℕ}
+use Rattle.algebra.specs.Bits.{bits}
+use Rattle.algebra.specs.Search.{some}
+use Rattle.algebra.specs.Tab.{tab, tabFrom}
+use Rattle.contrasts.specs.Limits.{mostTwo, mostThree}
+use Rattle.contrasts.specs.Tables.{two, three}
+use Rattle.contrasts.specs.Totals.{size}
+use Rattle.words.specs.Words.{letters, beyond, shared, oddIn, times, combined, any, among, repeated}
+use Rattle.plan.specs.Examples.{plan, AB, ABC, AD}
+use Rattle.plan.specs.Plan.{factorsOf, someCombination, combinesTo}
+use Rattle.plan.specs.Check.{badLevels, badFactors, badCounts, badAdded, badSign, badBlock, badWords, dependent, spoils, spoiled, planNumber, withPlan}
+use Rattle.runs.specs.Run.{highBy, highIn, highLetters, blockNumber, runNumber}
+
+-- the eight runs (1), a, b, ab, c, ac, bc, abc; D is 8
+high-D : tab 8 (highLetters 3 (ABC ∷ []) (0 ∷ [])) ≡ 0 ∷ 9 ∷ 10 ∷ 3 ∷ 12 ∷ 5 ∷ 6 ∷ 15 ∷ []
+unfolding highLetters highIn highBy oddIn shared bits Σℕ tabFrom
+high-D = refl
+
+high-turned : tab 8 (highLetters 3 (ABC ∷ []) (1 ∷ [])) ≡ 8 ∷ 1 ∷ 2 ∷ 11 ∷ 4 ∷ 13 ∷ 14 ∷ 7 ∷ []
+unfolding highLetters highIn highBy oddIn shared bits Σℕ tabFrom
+high-turned = refl
+
+-- bit 0 for the first block word
+two-blocks : tab 8 (blockNumber (ABC ∷ [])) ≡ 0 ∷ 1 ∷ 1 ∷ 0 ∷ 1 ∷ 0 ∷ 0 ∷ 1 ∷ []
+unfolding blockNumber oddIn shared bits Σℕ tabFrom
+two-blocks = refl
+
+four-blocks : tab 16 (blockNumber (AD ∷ ABC ∷ [])) ≡ 0 ∷ 3 ∷ 2 ∷ 1 ∷ 2 ∷ 1 ∷ 0 ∷ 3 ∷ 1 ∷ 2 ∷ 3 ∷ 0 ∷ 3 ∷ 0 ∷ 1 ∷ 2 ∷ []
+unfolding blockNumber oddIn shared bits Σℕ tabFrom
+four-blocks = refl
+
+line-9 : runNumber (plan 3 1 [] [] []) 0 ≡ 9
+unfolding runNumber withPlan planNumber badLevels badFactors mostTwo mostThree badCounts badWords badAdded badSign badBlock repeated dependent spoiled spoils any among beyond letters combined times someCombination combinesTo some bits Σℕ
+line-9 = refl
+
+-- k = 2: runs 3 and 4
+line-10 : tab 2 (λ i. runNumber (plan 2 2 [] [] []) (3 + i)) ≡ 0 ∷ 10 ∷ []
+unfolding runNumber withPlan planNumber badLevels badFactors mostTwo mostThree badCounts badWords badAdded badSign badBlock repeated dependent spoiled spoils any among beyond letters combined times someCombination combinesTo some bits Σℕ tabFrom factorsOf size two
+line-10 = refl

@@ -1,0 +1,70 @@
+-- Which runs share a block, and what confounding means.
+--
+--   block-bit, block-small        a block number's bits; it is below 2 ^ (number of block words)
+--   same-parities, same-block     runs share a block exactly when they agree in the parity of every block word
+--   constant                      an effect that is confounded is odd in all runs of a block, or in none
+--   no-block-words                without block words every run is in block 0
+use mathlib.Core.Path.{_≡_, refl, sym, ap, _∙_}
+use mathlib.Core.Bool.{Bool, true, false}
+use mathlib.Core.List.{List, []}
+use Prim.Native.Nat.{ℕ, _+_, _*_, _-_, _%_, _^_, _<_}
+use native.Mathlib.Omega.{arith}
+use lib.Dec.{eqb}
+use lib.ListN.{length, getD}
+use borrow.Author.Tests.{eqb-true}
+use Rattle.algebra.specs.Naturals.{Σℕ, Σℕ-parity}
+use Rattle.algebra.specs.Bits.{bits, bit-lt, bits-lt, bits-at, bits-cong}
+use Rattle.algebra.specs.Search.{some-at}
+use Rattle.words.specs.Words.{letter, has, shared, oddIn, odd, combined}
+use Rattle.words.specs.Laws.Letters.{odd-same, shared-none}
+use Rattle.words.specs.Laws.Combined.{keeps-odd, shared-combined}
+use Rattle.plan.specs.Plan.{someCombination, combinesTo}
+use Rattle.runs.specs.Run.{blockNumber}
+
+module _ (ws : List ℕ) where
+  pub block-small : (r : ℕ) → blockNumber ws r < 2 ^ length ws
+  unfolding blockNumber
+  block-small r = bits-lt (length ws) (λ j. oddIn r (getD ws j 0))
+
+  pub block-bit : (r j : ℕ) → j < length ws → has (blockNumber ws r) j ≡ oddIn r (getD ws j 0)
+  unfolding blockNumber
+  block-bit r j h = bits-at (length ws) (λ i. oddIn r (getD ws i 0)) j h
+
+  pub same-parities : (r s : ℕ) → blockNumber ws r ≡ blockNumber ws s
+      → (j : ℕ) → j < length ws → oddIn r (getD ws j 0) ≡ oddIn s (getD ws j 0)
+  same-parities r s e j h = sym (block-bit r j h) ∙ ap (λ (b : ℕ). has b j) e ∙ block-bit s j h
+
+  pub same-block : (r s : ℕ) → ((j : ℕ) → j < length ws → oddIn r (getD ws j 0) ≡ oddIn s (getD ws j 0))
+      → blockNumber ws r ≡ blockNumber ws s
+  unfolding blockNumber
+  same-block r s h = bits-cong (length ws) h
+
+pub no-block-words : (r : ℕ) → blockNumber [] r ≡ 0
+unfolding blockNumber bits Σℕ
+no-block-words r = refl
+
+parity : (ws : List ℕ) (r s : ℕ) → blockNumber ws r ≡ blockNumber ws s
+    → (j : ℕ) → j < length ws → shared r (getD ws j 0) % 2 ≡ shared s (getD ws j 0) % 2
+unfolding oddIn
+parity ws r s e j h = odd-same (shared r (getD ws j 0)) (shared s (getD ws j 0)) (same-parities ws r s e j h)
+
+-- how many letters two runs of one block share with a combination of its block words, up to an even number
+combination : (ws : List ℕ) (r s c : ℕ) → blockNumber ws r ≡ blockNumber ws s
+    → shared r (combined 0 c ws) % 2 ≡ shared s (combined 0 c ws) % 2
+combination ws r s c e =
+    let f : ℕ → ℕ → ℕ = λ q j. letter c j * shared q (getD ws j 0) in
+    let t : Σℕ (length ws) (f r) % 2 ≡ Σℕ (length ws) (f s) % 2 = Σℕ-parity (length ws) (f r) (f s) alike in
+    rw (shared-combined r 0 c ws, shared-combined s 0 c ws, shared-none r, shared-none s) (omega (arith, t))
+  where
+    alike : (j : ℕ) → j < length ws → (letter c j * shared r (getD ws j 0)) % 2 ≡ (letter c j * shared s (getD ws j 0)) % 2
+    alike j h =
+        sym (keeps-odd (letter c j) (shared r (getD ws j 0)) (bit-lt c j))
+        ∙ ap (λ (m : ℕ). (letter c j * m) % 2) (parity ws r s e j h)
+        ∙ keeps-odd (letter c j) (shared s (getD ws j 0)) (bit-lt c j)
+
+pub constant : (ws : List ℕ) (w r s : ℕ) → combinesTo w ws ≡ true → blockNumber ws r ≡ blockNumber ws s → oddIn r w ≡ oddIn s w
+unfolding combinesTo someCombination oddIn
+constant ws w r s t e =
+    let c = some-at (2 ^ length ws - 1) (λ c. eqb (combined 0 (c + 1) ws) w) t in
+    rw (← (eqb-true (combined 0 (c .0 + 1) ws) w (c .2)))
+    (ap (λ (m : ℕ). eqb m 1) (combination ws r s (c .0 + 1) e))

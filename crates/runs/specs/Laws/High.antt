@@ -1,0 +1,37 @@
+-- Laws on runs.
+--
+--   base-high     the base letters that are high in a run are those of its number
+--   added-high    letter k + j is high where added factor j is
+--   run-two       of an accepted plan of two levels only line 10 is left
+use mathlib.Core.Path.{_≡_, refl, sym, _∙_, ap}
+use mathlib.Core.Logic.{inl}
+use mathlib.Core.Bool.{cond}
+use mathlib.Core.List.{List}
+use Prim.Native.Nat.{ℕ, _+_, _-_, _^_, _<_}
+use native.Mathlib.Omega.{arith}
+use lib.Dec.{leb}
+use lib.ListN.{getD}
+use borrow.Author.Tests.{lt-ltb, le-ltb, ne-eqb}
+use Rattle.algebra.specs.Bits.{bits, bits-all, bits-cong}
+use Rattle.plan.specs.declared.types.Plan.{Plan}
+use Rattle.plan.specs.Plan.{runsOf}
+use Rattle.plan.specs.Check.{planNumber}
+use Rattle.runs.specs.Run.{highBy, highIn, runNumber}
+use Rattle.plan.specs.Laws.Sizes.{two-levels, runs-power}
+use Rattle.plan.specs.Laws.Answers.{after-plan}
+
+module _ (k : ℕ) (words signs : List ℕ) (r : ℕ) where
+  pub base-high : r < 2 ^ k → r ≡ bits k (highIn k words signs r)
+  unfolding highIn
+  base-high h = sym (bits-all k r h) ∙ bits-cong k (λ i l. rw (lt-ltb i k l))
+
+  pub added-high : (j : ℕ) → highIn k words signs r (k + j) ≡ highBy (getD signs j 0) (getD words j 0) r
+  unfolding highIn
+  added-high j = let e : k + j - k ≡ j = omega arith in rw (le-ltb (k + j) k (omega arith), e)
+
+pub run-two : (p : Plan) (r : ℕ) → planNumber p ≡ 0 → (p .levels ≡ 3 → ⊥) → runNumber p r ≡ cond (leb (2 ^ p .k) r) 10 0
+unfolding runNumber
+run-two p r z t =
+    let e : p .levels ≡ 2 = two-levels p z t in
+    let n : runsOf p ≡ 2 ^ p .k = runs-power p (inl e) ∙ ap (λ (b : ℕ). b ^ p .k) e in
+    after-plan p _ z ∙ rw (ne-eqb (p .levels) 3 t, n) refl

@@ -1,0 +1,130 @@
+-- Laws on combinations of words.
+--
+--   Combining, combining-start, combining-more, combining-end    the loop that combines words
+--   combined-small         a combination is a 16-bit word
+--   combined-at            its letters
+--   combined-beyond        it has no letter beyond k where none of its words has one
+--   keeps-odd              a digit times a number is odd or even as it is times the number's lowest digit
+--   shared-combined        how many letters it shares with a run is odd or even as the sum over its words is
+use mathlib.Core.Path.{_≡_, refl, sym, ap, _∙_, subst}
+use mathlib.Core.Bool.{Bool, true, false, cond, not, _&&_, true≢false}
+use mathlib.Core.List.{List}
+use Prim.Native.Nat.{ℕ, zero, suc, _+_, _*_, _/_, _%_, _^_, _<_, _≤_}
+use native.Mathlib.Nat.{div-div-eq-div-mul, div-lt-iff-lt-mul, one-mul, mul-zero, zero-mul, mul-add, mul-left-comm, mod-lt, zero-lt-suc, one-le-pow, lt-of-le-of-lt, lt-of-lt-of-le, pow-le-pow-right, div-le-self, zero-div}
+use native.Mathlib.Omega.{arith}
+use native.Mathlib.Numerals.{add-one}
+use lib.Bits.{bitAnd, bitXor, xor-lt}
+use lib.Count.{ones}
+use lib.Dec.{eqb, leb}
+use lib.ListN.{length, getD}
+use lib.Pow.{pow-add}
+use borrow.Author.Tests.{ne-eqb, leb-true, leb-false, le-leb, eqb-true, eqb-false}
+use Rattle.algebra.specs.Bits.{bit, isSet, bit-lt, bit-none, bit-xor, bit-unset, digit, bits-lt, bits-at, bits-all, bits-cong, bits-ext, ones-bits, ones-and}
+use Rattle.algebra.specs.Naturals.{Σℕ, Σℕ-none, Σℕ-add, Σℕ-mul, Σℕ-cong, Σℕ-swap, Σℕ-parity}
+use Rattle.algebra.specs.Search.{some-false, none-at}
+use Rattle.words.specs.Words.{letter, has, letters, beyond, shared, oddIn, odd, times, combined}
+use Rattle.words.specs.Laws.Letters.{no-letter}
+
+-- ---- the loop
+
+-- after the first j words: letter i stands where it has occurred an odd number of times
+pub record Combining (first choice : ℕ) (ws : List ℕ) (j word : ℕ) : Type 0 where
+  pub within : j ≤ length ws
+  pub small : word < 2 ^ 16
+  pub at : (i : ℕ) → bit word i ≡ (letter first i + Σℕ j (λ m. letter choice m * letter (getD ws m 0) i)) % 2
+
+pub combining-start : (first choice : ℕ) (ws : List ℕ) → first < 2 ^ 16 → Combining first choice ws 0 first
+unfolding Σℕ
+combining-start first choice ws h = record { within = omega arith; small = h; at = λ i. omega (arith, bit-lt first i) }
+
+module _ {first choice : ℕ} {ws : List ℕ} {j word : ℕ} (w : Combining first choice ws j word) where
+  pub combining-more : j < length ws → (new : ℕ) {taken : Bool} → taken ≡ has choice j → getD ws j 0 < 2 ^ 16
+      → new ≡ cond taken (bitXor word (getD ws j 0)) word → Combining first choice ws (j + 1) new
+  unfolding Σℕ
+  combining-more l new t h e = rw (add-one j) (by (has choice j) refl (e ∙ ap (λ (b : Bool). cond b (bitXor word (getD ws j 0)) word) t))
+    where
+      by : (b : Bool) → has choice j ≡ b → new ≡ cond b (bitXor word (getD ws j 0)) word → Combining first choice ws (suc j) new
+      by true b d = record {
+        within = omega arith;
+        small = rw d (xor-lt 16 word (getD ws j 0) (w .small) h);
+        at = λ i. rw (d, bit-xor word (getD ws j 0) i, w .at i, eqb-true (letter choice j) 1 b) (omega arith);
+      }
+      by false b d = record {
+        within = omega arith;
+        small = rw d (w .small);
+        at = λ i. let z : letter choice j ≡ 0 = omega (arith, bit-lt choice j, eqb-false (letter choice j) 1 b) in rw (d, w .at i, z) (omega arith);
+      }
+
+  pub combining-end : length ws ≤ j → word ≡ combined first choice ws
+  unfolding combined times
+  combining-end l =
+      let e : j ≡ length ws = omega (arith, w .within) in
+      sym (bits-all 16 word (w .small)) ∙ bits-cong 16 (λ i k. rw (w .at i, e))
+
+-- ---- what a combination is
+
+pub combined-small : (w choice : ℕ) (ws : List ℕ) → combined w choice ws < 2 ^ 16
+unfolding combined
+combined-small w choice ws = bits-lt 16 (λ i. odd (times w choice ws i))
+
+-- letter i of a combination
+pub combined-at : (w choice : ℕ) (ws : List ℕ) (i : ℕ) → i < 16 → has (combined w choice ws) i ≡ odd (times w choice ws i)
+unfolding combined
+combined-at w choice ws i l = bits-at 16 (λ j. odd (times w choice ws j)) i l
+
+times-none : (w choice : ℕ) (ws : List ℕ) (i : ℕ) → letter w i ≡ 0 → ((j : ℕ) → j < length ws → letter (getD ws j 0) i ≡ 0)
+    → times w choice ws i ≡ 0
+unfolding times
+times-none w choice ws i h hs =
+    omega (arith, h, Σℕ-none (length ws) (λ j. letter choice j * letter (getD ws j 0) i) (λ j l. rw (hs j l) (mul-zero (letter choice j))))
+
+-- a combination has no letter beyond where none of its words has one
+pub combined-beyond : (k w choice : ℕ) (ws : List ℕ) → beyond k w ≡ false
+    → ((j : ℕ) → j < length ws → beyond k (getD ws j 0) ≡ false) → beyond k (combined w choice ws) ≡ false
+unfolding beyond
+combined-beyond k w choice ws h hs = some-false 16 _ (λ i l. by i l (leb k i) refl)
+  where
+    never : (i : ℕ) → i < 16 → k ≤ i → times w choice ws i ≡ 0
+    never i l g = times-none w choice ws i (no-letter k w h i l g) (λ j m. no-letter k (getD ws j 0) (hs j m) i l g)
+
+    by : (i : ℕ) → i < 16 → (b : Bool) → leb k i ≡ b → (leb k i && has (combined w choice ws) i) ≡ false
+    by i l false e = rw e
+    by i l true e = rw (e, combined-at w choice ws i l, never i l (leb-true k i e)) refl
+
+-- ---- odd or even
+
+-- of a product with a digit
+pub keeps-odd : (r t : ℕ) → r < 2 → (r * (t % 2)) % 2 ≡ (r * t) % 2
+keeps-odd zero t h = rw (zero-mul (t % 2), zero-mul t) refl
+keeps-odd (suc zero) t h = omega arith
+keeps-odd (suc (suc r)) t h = absurd (omega (arith, h))
+
+letter-odd : (w choice : ℕ) (ws : List ℕ) (i : ℕ) → i < 16 → letter (combined w choice ws) i ≡ times w choice ws i % 2
+letter-odd w choice ws i l =
+    sym (digit (letter (combined w choice ws) i) (bit-lt (combined w choice ws) i))
+    ∙ rw (combined-at w choice ws i l) (digit (times w choice ws i % 2) (mod-lt (times w choice ws i) (zero-lt-suc 1)))
+
+module _ (r w choice : ℕ) (ws : List ℕ) where
+  -- a run's letter times how often the letter occurs, by words
+  by-words : (i : ℕ) → letter r i * times w choice ws i
+      ≡ letter r i * letter w i + Σℕ (length ws) (λ j. letter choice j * (letter r i * letter (getD ws j 0) i))
+  unfolding times
+  by-words i =
+      let f : ℕ → ℕ = λ j. letter choice j * letter (getD ws j 0) i in
+      mul-add (letter r i) (letter w i) (Σℕ (length ws) f)
+      ∙ ap (λ (m : ℕ). letter r i * letter w i + m)
+      (sym (Σℕ-mul (letter r i) (length ws) f) ∙ Σℕ-cong (length ws) (λ j l. mul-left-comm (letter r i) (letter choice j) (letter (getD ws j 0) i)))
+
+  pub shared-combined : shared r (combined w choice ws) % 2
+      ≡ (shared r w + Σℕ (length ws) (λ j. letter choice j * shared r (getD ws j 0))) % 2
+  unfolding shared
+  shared-combined =
+      let n = length ws in
+      let g : ℕ → ℕ → ℕ = λ i j. letter choice j * (letter r i * letter (getD ws j 0) i) in
+      Σℕ-parity 16 (λ i. letter r i * letter (combined w choice ws) i) (λ i. letter r i * times w choice ws i)
+      (λ i l. rw (letter-odd w choice ws i l) (keeps-odd (letter r i) (times w choice ws i) (bit-lt r i)))
+      ∙ ap (λ (m : ℕ). m % 2)
+      (Σℕ-cong 16 (λ i l. by-words i)
+      ∙ Σℕ-add 16 (λ i. letter r i * letter w i) (λ i. Σℕ n (g i))
+      ∙ ap (λ (m : ℕ). shared r w + m)
+      (Σℕ-swap 16 n g ∙ Σℕ-cong n (λ j l. Σℕ-mul (letter choice j) 16 (λ i. letter r i * letter (getD ws j 0) i))))
