@@ -4,18 +4,17 @@
 --   two-blocks, four-blocks   the blocks of ABC, and of AD and ABC
 --   line-9, line-10           "levels 3, k = 1"; a run number that the plan does not have
 use mathlib.Core.Path.{_≡_, refl}
-use mathlib.Core.Bool.{cond}
-use mathlib.Core.List.{List, [], _∷_}
-use Prim.Native.Nat.{ℕ, _+_}
+use mathlib.Core.List.{[], _∷_}
+use Prim.Native.Nat.{_+_}
 use Rattle.algebra.specs.Naturals.{Σℕ}
 use Rattle.algebra.specs.Bits.{bits}
 use Rattle.algebra.specs.Search.{some}
 use Rattle.algebra.specs.Tab.{tab, tabFrom}
 use Rattle.contrasts.specs.Limits.{mostTwo, mostThree}
-use Rattle.contrasts.specs.Tables.{two, three}
+use Rattle.contrasts.specs.Tables.{two}
 use Rattle.contrasts.specs.Totals.{size}
 use Rattle.words.specs.Words.{letters, beyond, shared, oddIn, times, combined, any, among, repeated}
-use Rattle.plan.specs.Examples.{plan, AB, ABC, AD}
+use Rattle.plan.specs.Examples.{plan, ABC, AD}
 use Rattle.plan.specs.Plan.{factorsOf, someCombination, combinesTo}
 use Rattle.plan.specs.Check.{badLevels, badFactors, badCounts, badAdded, badSign, badBlock, badWords, dependent, spoils, spoiled, planNumber, withPlan}
 use Rattle.runs.specs.Run.{highBy, highIn, highLetters, blockNumber, runNumber}

@@ -5,7 +5,7 @@
 --   constant                      an effect that is confounded is odd in all runs of a block, or in none
 --   no-block-words                without block words every run is in block 0
 use mathlib.Core.Path.{_≡_, refl, sym, ap, _∙_}
-use mathlib.Core.Bool.{Bool, true, false}
+use mathlib.Core.Bool.{true}
 use mathlib.Core.List.{List, []}
 use Prim.Native.Nat.{ℕ, _+_, _*_, _-_, _%_, _^_, _<_}
 use native.Mathlib.Omega.{arith}
@@ -15,7 +15,7 @@ use borrow.Author.Tests.{eqb-true}
 use Rattle.algebra.specs.Naturals.{Σℕ, Σℕ-parity}
 use Rattle.algebra.specs.Bits.{bits, bit-lt, bits-lt, bits-at, bits-cong}
 use Rattle.algebra.specs.Search.{some-at}
-use Rattle.words.specs.Words.{letter, has, shared, oddIn, odd, combined}
+use Rattle.words.specs.Words.{letter, has, shared, oddIn, combined}
 use Rattle.words.specs.Laws.Letters.{odd-same, shared-none}
 use Rattle.words.specs.Laws.Combined.{keeps-odd, shared-combined}
 use Rattle.plan.specs.Plan.{someCombination, combinesTo}

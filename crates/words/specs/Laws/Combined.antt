@@ -6,23 +6,21 @@
 --   combined-beyond        it has no letter beyond k where none of its words has one
 --   keeps-odd              a digit times a number is odd or even as it is times the number's lowest digit
 --   shared-combined        how many letters it shares with a run is odd or even as the sum over its words is
-use mathlib.Core.Path.{_≡_, refl, sym, ap, _∙_, subst}
-use mathlib.Core.Bool.{Bool, true, false, cond, not, _&&_, true≢false}
+use mathlib.Core.Path.{_≡_, refl, sym, ap, _∙_}
+use mathlib.Core.Bool.{Bool, true, false, cond, _&&_}
 use mathlib.Core.List.{List}
-use Prim.Native.Nat.{ℕ, zero, suc, _+_, _*_, _/_, _%_, _^_, _<_, _≤_}
-use native.Mathlib.Nat.{div-div-eq-div-mul, div-lt-iff-lt-mul, one-mul, mul-zero, zero-mul, mul-add, mul-left-comm, mod-lt, zero-lt-suc, one-le-pow, lt-of-le-of-lt, lt-of-lt-of-le, pow-le-pow-right, div-le-self, zero-div}
+use Prim.Native.Nat.{ℕ, zero, suc, _+_, _*_, _%_, _^_, _<_, _≤_}
+use native.Mathlib.Nat.{mul-zero, zero-mul, mul-add, mul-left-comm, mod-lt, zero-lt-suc}
 use native.Mathlib.Omega.{arith}
 use native.Mathlib.Numerals.{add-one}
-use lib.Bits.{bitAnd, bitXor, xor-lt}
-use lib.Count.{ones}
-use lib.Dec.{eqb, leb}
+use lib.Bits.{bitXor, xor-lt}
+use lib.Dec.{leb}
 use lib.ListN.{length, getD}
-use lib.Pow.{pow-add}
-use borrow.Author.Tests.{ne-eqb, leb-true, leb-false, le-leb, eqb-true, eqb-false}
-use Rattle.algebra.specs.Bits.{bit, isSet, bit-lt, bit-none, bit-xor, bit-unset, digit, bits-lt, bits-at, bits-all, bits-cong, bits-ext, ones-bits, ones-and}
+use borrow.Author.Tests.{leb-true, eqb-true, eqb-false}
+use Rattle.algebra.specs.Bits.{bit, bit-lt, bit-xor, digit, bits-lt, bits-at, bits-all, bits-cong}
 use Rattle.algebra.specs.Naturals.{Σℕ, Σℕ-none, Σℕ-add, Σℕ-mul, Σℕ-cong, Σℕ-swap, Σℕ-parity}
-use Rattle.algebra.specs.Search.{some-false, none-at}
-use Rattle.words.specs.Words.{letter, has, letters, beyond, shared, oddIn, odd, times, combined}
+use Rattle.algebra.specs.Search.{some-false}
+use Rattle.words.specs.Words.{letter, has, beyond, shared, odd, times, combined}
 use Rattle.words.specs.Laws.Letters.{no-letter}
 
 -- ---- the loop

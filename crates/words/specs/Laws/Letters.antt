@@ -10,21 +10,18 @@
 --   no-letter              a word with no letter beyond k lacks each of them
 use mathlib.Core.Path.{_≡_, refl, sym, ap, _∙_, subst}
 use mathlib.Core.Bool.{Bool, true, false, cond, not, _&&_, true≢false}
-use mathlib.Core.List.{List}
-use Prim.Native.Nat.{ℕ, suc, _+_, _*_, _/_, _%_, _^_, _<_, _≤_}
+use Prim.Native.Nat.{ℕ, _+_, _*_, _/_, _%_, _^_, _<_, _≤_}
 use native.Mathlib.Nat.{div-div-eq-div-mul, div-lt-iff-lt-mul, one-mul, mul-zero, mod-lt, zero-lt-suc, one-le-pow, lt-of-le-of-lt, lt-of-lt-of-le, pow-le-pow-right, div-le-self, zero-div}
 use native.Mathlib.Omega.{arith}
-use native.Mathlib.Numerals.{add-one}
-use lib.Bits.{bitAnd, bitXor, xor-lt}
+use lib.Bits.{bitAnd}
 use lib.Count.{ones}
 use lib.Dec.{eqb, leb}
-use lib.ListN.{length, getD}
 use lib.Pow.{pow-add}
-use borrow.Author.Tests.{ne-eqb, leb-true, leb-false, le-leb, eqb-true, eqb-false}
-use Rattle.algebra.specs.Bits.{digit, bit, isSet, bit-lt, bit-none, bit-xor, bit-unset, bits-lt, bits-at, bits-all, bits-cong, bits-ext, ones-bits, ones-and}
-use Rattle.algebra.specs.Naturals.{Σℕ, Σℕ-none}
+use borrow.Author.Tests.{ne-eqb, leb-true, leb-false, le-leb}
+use Rattle.algebra.specs.Bits.{digit, bit, isSet, bit-none, bit-unset, bits-ext, ones-bits, ones-and}
+use Rattle.algebra.specs.Naturals.{Σℕ-none}
 use Rattle.algebra.specs.Search.{some-false, none-at}
-use Rattle.words.specs.Words.{letter, has, letters, beyond, shared, oddIn, odd, times, combined}
+use Rattle.words.specs.Words.{letter, has, letters, beyond, shared, oddIn, odd}
 
 pub letters-ones : (w : ℕ) → w < 2 ^ 16 → ones w ≡ letters w
 unfolding letters
