@@ -7,10 +7,10 @@
 --   someCombination ws f                        f holds of a combination of one or more of the words
 --   combinesTo w ws                             one of those combinations is w
 --   confoundedIn p w                            the effect of the word w is confounded
-use mathlib.Core.Bool.{Bool, cond}
+use mathlib.Core.Bool.{Bool, cond, _&&_}
 use mathlib.Core.List.{List}
-use Prim.Native.Nat.{ℕ, _+_, _-_, _^_}
-use lib.Dec.{eqb}
+use Prim.Native.Nat.{ℕ, _+_, _^_}
+use lib.Dec.{eqb, ltb}
 use lib.ListN.{length, take, replicate}
 use Rattle.algebra.specs.Search.{some}
 use Rattle.contrasts.specs.Factor.{Factor}
@@ -41,9 +41,9 @@ runsOf p = size (factorsOf p)
 abbrev pub allLetters : Plan → ℕ
 allLetters p = p .k + length (addedWords p)
 
--- The choices of one or more of n words are the numbers from 1 to 2 ^ n - 1.
+-- "combinations of one or more block words": the choices of one or more of n words are the numbers from 1 to 2 ^ n - 1
 unfoldable pub someCombination : List ℕ → (ℕ → Bool) → Bool
-someCombination ws f = some (2 ^ length ws - 1) (λ c. f (combined 0 (c + 1) ws))
+someCombination ws f = some (2 ^ length ws) (λ c. ltb 0 c && f (combined 0 c ws))
 
 -- one or more of the words combine to w
 unfoldable pub combinesTo : ℕ → List ℕ → Bool

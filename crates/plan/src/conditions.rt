@@ -1,6 +1,6 @@
 // The conditions of lines 2 to 8 of the table of refusals, a function each.
 ghost use mathlib.Core.Path.{_≡_};
-ghost use Prim.Native.Nat.{_-_, _^_, _≤_};
+ghost use Prim.Native.Nat.{_^_, _≤_};
 ghost use lib.ListN.{length};
 use words::combine;
 use words::count_letters;
@@ -103,12 +103,12 @@ pub fn any_bad_block(words: &[u16], k: usize) -> bool
     false
 }
 
-// How many choices there are of one or more of n words.
+// How many choices there are of some of n words, none of them included.
 fn choices(n: usize) -> u16
     requires { ⌜ n ≤ 4 ⌝ }
-    ensures { λ r. ⌜ (r ≡ 2 ^ n - 1) × (r ≤ 15) ⌝ }
+    ensures { λ r. ⌜ (r ≡ 2 ^ n) × (r ≤ 16) ⌝ }
 {
-    (1u16 << n) - 1
+    1u16 << n
 }
 
 // Whether one or more of the words combine to the given one.
@@ -117,16 +117,17 @@ pub fn combines_to(word: u16, words: &[u16]) -> bool
     ensures { λ r. ⌜ r ≡ combinesTo word (now (words .entry)) ⌝ }
 {
     let n = choices(words.len());
-    let mut c = 0;
-    while c < n {
-        if combine(0, c + 1, words) == word {
+    let mut choice = 1;
+    while choice < n {
+        if combine(0, choice, words) == word {
             return true;
         }
-        c += 1;
+        choice += 1;
     }
     false
 }
 
+// Whether a confounded effect may not be: it is one letter or an added factor's word.
 fn is_spoiled(word: u16, added: &[u16]) -> bool
     ensures { λ r. ⌜ r ≡ spoils word (now (added .entry)) ⌝ }
 {
@@ -136,18 +137,18 @@ fn is_spoiled(word: u16, added: &[u16]) -> bool
     is_among(word, added)
 }
 
-// Whether one or more of the block words combine to one letter or to an added factor's word.
+// Whether one or more of the block words combine to such an effect.
 pub fn any_spoiled(added: &[u16], blocks: &[u16]) -> bool
     requires { ⌜ length (now blocks) ≤ 4 ⌝ }
     ensures { λ r. ⌜ r ≡ spoiled (now (added .entry)) (now (blocks .entry)) ⌝ }
 {
     let n = choices(blocks.len());
-    let mut c = 0;
-    while c < n {
-        if is_spoiled(combine(0, c + 1, blocks), added) {
+    let mut chosen = 1;
+    while chosen < n {
+        if is_spoiled(combine(0, chosen, blocks), added) {
             return true;
         }
-        c += 1;
+        chosen += 1;
     }
     false
 }

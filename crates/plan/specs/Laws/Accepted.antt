@@ -9,18 +9,19 @@ use mathlib.Core.Path.{_≡_, refl, sym, ap, _∙_}
 use mathlib.Core.Logic.{_⊎_, inl, inr}
 use mathlib.Core.Bool.{Bool, true, false, cond, _||_, true≢false}
 use mathlib.Core.List.{List}
-use Prim.Native.Nat.{ℕ, _+_, _-_, _^_, _<_, _≤_}
+use Prim.Native.Nat.{ℕ, _<_, _≤_}
 use native.Mathlib.Omega.{arith}
 use lib.Dec.{eqb, ltb}
 use lib.ListN.{length, getD, take}
 use lib.Seq.{length-take-le, getD-take}
 use borrow.Author.Tests.{eqb-true, eqb-false, ltb-false, not-false}
 use Rattle.algebra.specs.Tests.{neither}
-use Rattle.algebra.specs.Search.{some-at, none-at}
+use Rattle.algebra.specs.Search.{none-at}
 use Rattle.contrasts.specs.Limits.{mostTwo, mostThree}
 use Rattle.plan.specs.declared.types.Plan.{Plan}
 use Rattle.words.specs.Words.{letters, beyond, any, among, repeated, combined}
-use Rattle.plan.specs.Plan.{addedWords, addedSigns, blockWords, someCombination, combinesTo, confoundedIn}
+use Rattle.plan.specs.Plan.{addedWords, addedSigns, blockWords, combinesTo, confoundedIn}
+use Rattle.plan.specs.Laws.Combinations.{the-combination, each-fails}
 use Rattle.plan.specs.Check.{badLevels, badFactors, badCounts, badAdded, badSign, badBlock, badWords, dependent, spoils, spoiled, planNumber}
 
 -- ---- what each condition says where it does not hold
@@ -135,15 +136,14 @@ apart-of ws e i j h l d =
 
 lost-of : (words blocks : List ℕ) → dependent blocks ≡ false → spoiled words blocks ≡ false
     → (w : ℕ) → combinesTo w blocks ≡ true → (w ≡ 0 → ⊥) × (letters w ≡ 1 → ⊥) × (among w words ≡ false)
-unfolding dependent spoiled spoils combinesTo someCombination
+unfolding dependent spoiled spoils combinesTo
 lost-of words blocks e f w t =
-    let n = 2 ^ length blocks - 1 in
-    let at : ℕ → ℕ = λ c. combined 0 (c + 1) blocks in
-    let c = some-at n (λ c. eqb (at c) w) t in
-    let is : at (c .0) ≡ w = eqb-true (at (c .0)) w (c .2) in
-    let z : eqb (at (c .0)) 0 ≡ false = none-at n (λ c. eqb (at c) 0) e (c .0) (c .1) in
-    let s = neither (eqb (letters (at (c .0))) 1) (among (at (c .0)) words) (none-at n (λ c. spoils (at c) words) f (c .0) (c .1)) in
-    (λ d. eqb-false (at (c .0)) 0 z (is ∙ d), λ d. eqb-false (letters (at (c .0))) 1 (s .0) (ap letters is ∙ d), rw (← is) (s .1))
+    let c = the-combination blocks (λ v. eqb v w) t in
+    let v = combined 0 (c .0) blocks in
+    let is : v ≡ w = eqb-true v w (c .3) in
+    let z : eqb v 0 ≡ false = each-fails blocks (λ v. eqb v 0) e (c .0) (c .1) (c .2) in
+    let s = neither (eqb (letters v) 1) (among v words) (each-fails blocks (λ v. spoils v words) f (c .0) (c .1) (c .2)) in
+    (λ d. eqb-false v 0 z (is ∙ d), λ d. eqb-false (letters v) 1 (s .0) (ap letters is ∙ d), rw (← is) (s .1))
 
 pub accepted : (p : Plan) → planNumber p ≡ 0 → Accepted p
 unfolding planNumber

@@ -4,19 +4,20 @@
 use mathlib.Core.Path.{_≡_, refl, sym, _∙_}
 use mathlib.Core.Logic.{_⊎_, inl, inr}
 use mathlib.Core.Bool.{true, false, cond, not, _||_}
-use Prim.Native.Nat.{ℕ, _+_, _-_, _^_, _<_}
+use Prim.Native.Nat.{ℕ, _^_, _<_}
 use native.Mathlib.Omega.{arith}
 use lib.Dec.{eqb, ltb}
 use lib.ListN.{length, getD, take}
 use lib.Seq.{length-take-le, getD-take}
 use borrow.Author.Tests.{eq-eqb, ne-eqb, le-ltb}
 use Rattle.algebra.specs.Tests.{none}
-use Rattle.algebra.specs.Search.{some-true, some-false}
+use Rattle.algebra.specs.Search.{some-false}
 use Rattle.contrasts.specs.Limits.{mostTwo, mostThree}
 use Rattle.words.specs.Words.{letters, any, among, repeated, combined}
 use Rattle.plan.specs.declared.types.Plan.{Plan}
-use Rattle.plan.specs.Plan.{addedWords, addedSigns, blockWords, someCombination, combinesTo, confoundedIn}
+use Rattle.plan.specs.Plan.{addedWords, addedSigns, blockWords, combinesTo, confoundedIn}
 use Rattle.plan.specs.Check.{badLevels, badFactors, badCounts, badAdded, badSign, badBlock, badWords, dependent, spoils, spoiled, planNumber}
+use Rattle.plan.specs.Laws.Combinations.{combination, no-combination}
 use Rattle.plan.specs.Laws.Accepted.{Accepted}
 
 module _ {p : Plan} (a : Accepted p) where
@@ -64,19 +65,19 @@ module _ {p : Plan} (a : Accepted p) where
           ne-eqb (getD (take j (addedWords p)) i 0) (getD (addedWords p) j 0)
           (λ e. a .apart i j i<j h (sym (getD-take j (addedWords p) i 0 i<j) ∙ e)))
 
-  lost : (c : ℕ) → c < 2 ^ length (blockWords p) - 1 → confoundedIn p (combined 0 (c + 1) (blockWords p)) ≡ true
-  unfolding combinesTo someCombination
-  lost c h = some-true (2 ^ length (blockWords p) - 1) _ c h (eq-eqb (combined 0 (c + 1) (blockWords p)) _ refl)
+  lost : (c : ℕ) → 0 < c → c < 2 ^ length (blockWords p) → confoundedIn p (combined 0 c (blockWords p)) ≡ true
+  unfolding combinesTo
+  lost c h l = combination (blockWords p) _ c h l (eq-eqb (combined 0 c (blockWords p)) _ refl)
 
   independent-right : dependent (blockWords p) ≡ false
-  unfolding dependent combinesTo someCombination
-  independent-right = some-false _ _ (λ c h. ne-eqb (combined 0 (c + 1) (blockWords p)) 0 (a .lost _ (lost c h) .0))
+  unfolding dependent combinesTo
+  independent-right = no-combination (blockWords p) _ (λ c h l. ne-eqb (combined 0 c (blockWords p)) 0 (a .lost _ (lost c h l) .0))
 
   clear-right : spoiled (addedWords p) (blockWords p) ≡ false
-  unfolding spoiled spoils someCombination
+  unfolding spoiled spoils
   clear-right =
-      some-false _ _
-      (λ c h. none (ne-eqb (letters (combined 0 (c + 1) (blockWords p))) 1 (a .lost _ (lost c h) .1)) (a .lost _ (lost c h) .2))
+      no-combination (blockWords p) _
+      (λ c h l. none (ne-eqb (letters (combined 0 c (blockWords p))) 1 (a .lost _ (lost c h l) .1)) (a .lost _ (lost c h l) .2))
 
 pub accepts : (p : Plan) → Accepted p → planNumber p ≡ 0
 unfolding planNumber

@@ -6,17 +6,17 @@
 use mathlib.Core.Path.{_≡_, refl}
 use mathlib.Core.Bool.{true, false}
 use mathlib.Core.List.{[]}
-use Prim.Native.Nat.{ℕ, _+_, _-_, _^_, _<_}
+use Prim.Native.Nat.{ℕ, _^_, _<_}
 use native.Mathlib.Nat.{one-le-pow, zero-lt-suc}
 use lib.Dec.{eqb}
-use lib.ListN.{length}
 use borrow.Author.Tests.{eqb-true}
-use Rattle.algebra.specs.Search.{some, some-at}
+use Rattle.algebra.specs.Search.{some}
 use Rattle.words.specs.Words.{letters, combined}
 use Rattle.words.specs.Laws.Letters.{within, beyond-none}
 use Rattle.words.specs.Laws.Combined.{combined-beyond, combined-small}
 use Rattle.plan.specs.declared.types.Plan.{Plan}
 use Rattle.plan.specs.Plan.{blockWords, someCombination, combinesTo, confoundedIn}
+use Rattle.plan.specs.Laws.Combinations.{the-combination}
 use Rattle.plan.specs.Laws.Accepted.{Accepted}
 
 module _ {p : Plan} (a : Accepted p) (w : ℕ) (e : confoundedIn p w ≡ true) where
@@ -27,13 +27,13 @@ module _ {p : Plan} (a : Accepted p) (w : ℕ) (e : confoundedIn p w ≡ true) w
   not-one-letter = a .lost w e .1
 
   pub base-letters-only : w < 2 ^ p .k
-  unfolding combinesTo someCombination
+  unfolding combinesTo
   base-letters-only =
-      let c = some-at (2 ^ length (blockWords p) - 1) (λ c. eqb (combined 0 (c + 1) (blockWords p)) w) e in
-      let v = combined 0 (c .0 + 1) (blockWords p) in
-      rw (← (eqb-true v w (c .2)))
-      (within (p .k) v (combined-small 0 (c .0 + 1) (blockWords p))
-      (combined-beyond (p .k) 0 (c .0 + 1) (blockWords p) (beyond-none (p .k) 0 (one-le-pow (p .k) 2 (zero-lt-suc 1))) (λ j h. a .blocks j h .0)))
+      let c = the-combination (blockWords p) (λ v. eqb v w) e in
+      let v = combined 0 (c .0) (blockWords p) in
+      rw (← (eqb-true v w (c .3)))
+      (within (p .k) v (combined-small 0 (c .0) (blockWords p))
+      (combined-beyond (p .k) 0 (c .0) (blockWords p) (beyond-none (p .k) 0 (one-le-pow (p .k) 2 (zero-lt-suc 1))) (λ j h. a .blocks j h .0)))
 
 pub no-blocks : (w : ℕ) → combinesTo w [] ≡ false
 unfolding combinesTo someCombination some

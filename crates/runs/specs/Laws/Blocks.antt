@@ -7,18 +7,18 @@
 use mathlib.Core.Path.{_≡_, refl, sym, ap, _∙_}
 use mathlib.Core.Bool.{true}
 use mathlib.Core.List.{List, []}
-use Prim.Native.Nat.{ℕ, _+_, _*_, _-_, _%_, _^_, _<_}
+use Prim.Native.Nat.{ℕ, _*_, _%_, _^_, _<_}
 use native.Mathlib.Omega.{arith}
 use lib.Dec.{eqb}
 use lib.ListN.{length, getD}
 use borrow.Author.Tests.{eqb-true}
 use Rattle.algebra.specs.Naturals.{Σℕ, Σℕ-parity}
 use Rattle.algebra.specs.Bits.{bits, bit-lt, bits-lt, bits-at, bits-cong}
-use Rattle.algebra.specs.Search.{some-at}
 use Rattle.words.specs.Words.{letter, has, shared, oddIn, combined}
 use Rattle.words.specs.Laws.Letters.{odd-same, shared-none}
 use Rattle.words.specs.Laws.Combined.{keeps-odd, shared-combined}
-use Rattle.plan.specs.Plan.{someCombination, combinesTo}
+use Rattle.plan.specs.Plan.{combinesTo}
+use Rattle.plan.specs.Laws.Combinations.{the-combination}
 use Rattle.runs.specs.Run.{blockNumber}
 
 module _ (ws : List ℕ) where
@@ -63,8 +63,8 @@ combination ws r s c e =
         ∙ keeps-odd (letter c j) (shared s (getD ws j 0)) (bit-lt c j)
 
 pub constant : (ws : List ℕ) (w r s : ℕ) → combinesTo w ws ≡ true → blockNumber ws r ≡ blockNumber ws s → oddIn r w ≡ oddIn s w
-unfolding combinesTo someCombination oddIn
+unfolding combinesTo oddIn
 constant ws w r s t e =
-    let c = some-at (2 ^ length ws - 1) (λ c. eqb (combined 0 (c + 1) ws) w) t in
-    rw (← (eqb-true (combined 0 (c .0 + 1) ws) w (c .2)))
-    (ap (λ (m : ℕ). eqb m 1) (combination ws r s (c .0 + 1) e))
+    let c = the-combination ws (λ v. eqb v w) t in
+    rw (← (eqb-true (combined 0 (c .0) ws) w (c .3)))
+    (ap (λ (m : ℕ). eqb m 1) (combination ws r s (c .0) e))

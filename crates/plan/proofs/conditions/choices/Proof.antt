@@ -1,5 +1,5 @@
 use mathlib.Core.Path.{refl}
-use native.Mathlib.Nat.{one-le-pow, pow-le-pow-right}
+use native.Mathlib.Nat.{pow-le-pow-right}
 use native.Mathlib.Omega.{arith}
 use borrow.Author.Needs.{needs}
 use Rattle.algebra.specs.Bits.{one-shifted}
@@ -12,5 +12,4 @@ choices-spec =
     (tie.spec
     (λ c. search needs)
     (λ c. omega arith)
-    (λ c. rw (one-shifted (c .args .n) 16 (omega arith)) (one-le-pow (c .args .n) 2 (omega arith)))
-    (λ c. rw (one-shifted (c .args .n) 16 (omega arith)) (refl, omega (arith, pow-le-pow-right {n = 2} (omega arith) {i = c .args .n} {j = 4} (omega arith)))))
+    (λ c. rw (one-shifted (c .args .n) 16 (omega arith)) (refl, pow-le-pow-right {n = 2} (omega arith) {i = c .args .n} {j = 4} (omega arith))))
