@@ -15,7 +15,7 @@ pub fn has_letter(word: u16, i: usize) -> bool
 pub fn has_beyond(word: u16, n: usize) -> bool
     ensures { λ r. ⌜ r ≡ beyond n word ⌝ }
 {
-    if 16 <= n {
+    if n >= 16 {
         return false;
     }
     word >> n != 0

@@ -12,7 +12,7 @@ treatment-spec =
     (tie.spec
     (λ c κs. search needs)
     (λ c. search needs)
-    (λ c. rw (← (c .before .power .ensures), le-leb _ _ (c .if1 .taken)) refl)
+    (λ c. rw (← (c .before .power .ensures), le-leb (c .before .power .result) (c .before .before .args .number) (omega arith)) refl)
     (λ c. search needs)
     (λ c. search needs)
     (λ c. sym (length-take-le _ _ (omega arith)))
@@ -22,4 +22,4 @@ treatment-spec =
     (λ c. search needs)
     (λ c. sym (length-take-le _ _ (omega arith)))
     (λ c κs. omega (arith, length-take-le (c .before .before .before .before .before .before .args .blocks) (c .before .before .before .before .before .before .args .t7) (omega arith)))
-    (λ c. rw (← (c .before .before .before .before .before .before .power .ensures), lt-leb _ _ (c .before .before .before .before .before .if1 .left), ← (c .before .before .high-letters .ensures), ← (c .block-number .ensures)) refl))
+    (λ c. rw (← (c .before .before .before .before .before .before .power .ensures), lt-leb (c .before .before .before .before .before .before .power .result) (c .before .before .before .before .before .before .before .args .number) (omega arith), ← (c .before .before .high-letters .ensures), ← (c .block-number .ensures)) refl))
