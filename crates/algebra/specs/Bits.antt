@@ -8,6 +8,7 @@
 --   bits-cong, bits-ext    by equal tests, and so equal digits make equal numbers
 --   bit-lt, bit-none       a digit is 0 or 1; a number below 2 ^ n has none from n on
 --   bits-none              nor has the number of a set
+--   bit-mod                the digits of a remainder by 2 ^ k
 --   bit-unset              a digit that is not 1 is 0
 --   bit-xor, bit-and       the digits of a ^ b, and of a & b
 --   one-shifted, room      1 shifted by n below the width w, and room for one bit more
@@ -16,12 +17,13 @@
 --   ones-bits, ones-and    the count of ones is the sum of the digits; in a & b, of products of digits
 use mathlib.Core.Path.{_≡_, refl, sym, ap, ap₂, _∙_, subst}
 use mathlib.Core.Bool.{Bool, true, false, cond}
-use Prim.Native.Nat.{ℕ, zero, suc, _+_, _*_, _/_, _%_, _^_, _<_, _≤_, min}
+use Prim.Native.Nat.{ℕ, zero, suc, _+_, _*_, _-_, _/_, _%_, _^_, _<_, _≤_, min}
 use native.Mathlib.Nat.{div-one, div-div-eq-div-mul, div-eq-of-lt, div-lt-iff-lt-mul, pow-succ', pow-suc, pow-le-pow-right, lt-of-lt-of-le, mod-lt, zero-lt-suc, one-mul, mod-eq-of-lt, one-le-pow}
 use native.Mathlib.Numerals.{add-one}
 use native.Mathlib.Omega.{arith}
 use lib.Arith.{lt-one}
 use lib.Bits.{bitAnd, bitXor, and-shr, xor-shr, and-step, xor-add-and, and-le-l}
+use lib.Pow.{field, mod-mod-pow}
 use lib.Count.{ones, ones-step}
 use lib.Dec.{eqb}
 use borrow.Author.Tests.{eqb-false}
@@ -116,6 +118,14 @@ bit-lt w i = mod-lt (w / 2 ^ i) (zero-lt-suc 1)
 
 pub bit-none : (n w i : ℕ) → w < 2 ^ n → n ≤ i → bit w i ≡ 0
 bit-none n w i h l = ap (λ (m : ℕ). m % 2) (div-eq-of-lt (lt-of-lt-of-le h (pow-le-pow-right {n = 2} (zero-lt-suc 1) l)))
+
+-- the digits below k are those of the remainder
+pub bit-mod : (w k i : ℕ) → i < k → bit (w % 2 ^ k) i ≡ bit w i
+bit-mod w k i h =
+    let e : k ≡ (k - i - 1 + 1) + i = omega arith in
+    ap (λ (n : ℕ). w % 2 ^ n / 2 ^ i % 2) e
+    ∙ ap (λ (n : ℕ). n % 2) (field w (k - i - 1 + 1) i)
+    ∙ mod-mod-pow (w / 2 ^ i) (k - i - 1) 1
 
 pub bit-unset : (w i : ℕ) → isSet w i ≡ false → bit w i ≡ 0
 bit-unset w i e = omega (arith, bit-lt w i, eqb-false (bit w i) 1 e)

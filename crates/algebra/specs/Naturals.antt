@@ -7,6 +7,8 @@
 --   Σℕ-first        the first term, and the rest
 --   Σℕ-none         terms that are all 0
 --   Σℕ-add          a sum of sums
+--   Σℕ-plus         the sum over m + n numbers, by the first m and the rest
+--   Σℕ-upto         terms that are 0 from m on may be left out
 --   Σℕ-swap         the order of two sums
 --   Σℕ-parity       terms that are odd or even alike give sums that are
 --   Σℕ-ones         n times 1
@@ -18,17 +20,17 @@
 --   Σℕ-term         and so is one term
 --   most n f        the largest of f 0, .., f (n - 1)
 --   most-ge         it is at least each of them
-use mathlib.Core.Path.{_≡_, refl, sym, _∙_, ap}
+use mathlib.Core.Path.{_≡_, refl, sym, _∙_, ap, ap₂}
 use mathlib.Core.Bool.{Bool, true, false, cond}
-use Prim.Native.Nat.{ℕ, zero, suc, _+_, _*_, _/_, _%_, _<_, _≤_, max}
-use native.Mathlib.Nat.{le-refl, suc-mul, le-trans}
+use Prim.Native.Nat.{ℕ, zero, suc, _+_, _*_, _-_, _/_, _%_, _<_, _≤_, max}
+use native.Mathlib.Nat.{add-zero, le-refl, suc-mul, le-trans}
 use native.Mathlib.Numerals.{add-one}
 use native.Mathlib.Omega.{arith}
 use native.Mathlib.Decide.{ℕ-discrete}
 use lib.Arith.{le-zero}
 use lib.Dec.{eqb}
 use lib.IntN.{pos, natAbs, _+ℤ_, _*ℤ_}
-use Rattle.algebra.specs.Sum.{Σ, Σ-cong, Σ-ext, Σ-mul, Σ-swap, Σ-split, Σ-one}
+use Rattle.algebra.specs.Sum.{Σ, Σ-cong, Σ-ext, Σ-mul, Σ-swap, Σ-plus, Σ-split, Σ-one}
 
 unfoldable pub Σℕ : ℕ → (ℕ → ℕ) → ℕ
 Σℕ zero f = 0
@@ -72,6 +74,15 @@ pub Σℕ-add : (n : ℕ) (f g : ℕ → ℕ) → Σℕ n (λ i. f i + g i) ≡ 
 unfolding Σℕ
 Σℕ-add zero f g = refl
 Σℕ-add (suc n) f g = rw (Σℕ-add n f g) (omega arith)
+
+pub Σℕ-plus : (m n : ℕ) (f : ℕ → ℕ) → Σℕ (m + n) f ≡ Σℕ m f + Σℕ n (λ i. f (m + i))
+Σℕ-plus m n f =
+    same (Σℕ-pos (m + n) f ∙ Σ-plus m n (λ i. pos (f i)) ∙ sym (ap₂ _+ℤ_ (Σℕ-pos m f) (Σℕ-pos n (λ i. f (m + i)))))
+
+pub Σℕ-upto : (m n : ℕ) (f : ℕ → ℕ) → m ≤ n → ((i : ℕ) → m ≤ i → f i ≡ 0) → Σℕ n f ≡ Σℕ m f
+Σℕ-upto m n f h z =
+    let e : n ≡ m + (n - m) = omega arith in
+    ap (λ (l : ℕ). Σℕ l f) e ∙ Σℕ-plus m (n - m) f ∙ rw (Σℕ-none (n - m) (λ i. f (m + i)) (λ i l. z (m + i) (omega arith))) (add-zero (Σℕ m f))
 
 pub Σℕ-swap : (m n : ℕ) (f : ℕ → ℕ → ℕ) → Σℕ m (λ i. Σℕ n (λ j. f i j)) ≡ Σℕ n (λ j. Σℕ m (λ i. f i j))
 unfolding Σℕ

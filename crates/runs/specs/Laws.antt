@@ -2,5 +2,7 @@
 --
 --   High      the letters that are high in a run
 --   Blocks    which runs share a block, and what confounding means
+--   Alike     places beyond the counts are ignored
 pub mod High
 pub mod Blocks
+pub mod Alike

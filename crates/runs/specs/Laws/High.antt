@@ -2,6 +2,8 @@
 --
 --   base-high     the base letters that are high in a run are those of its number
 --   added-high    letter k + j is high where added factor j is
+--   high-small, high-at          the set of high letters: its size, and each of its letters
+--   high-base, high-added        a base letter, and the letter of an added factor
 --   run-two       of an accepted plan of two levels only line 10 is left
 use mathlib.Core.Path.{_≡_, refl, sym, _∙_, ap}
 use mathlib.Core.Logic.{inl}
@@ -10,13 +12,14 @@ use mathlib.Core.List.{List}
 use Prim.Native.Nat.{ℕ, _+_, _-_, _^_, _<_}
 use native.Mathlib.Omega.{arith}
 use lib.Dec.{leb}
-use lib.ListN.{getD}
+use lib.ListN.{length, getD}
 use borrow.Author.Tests.{lt-ltb, le-ltb, ne-eqb}
-use Rattle.algebra.specs.Bits.{bits, bits-all, bits-cong}
+use Rattle.algebra.specs.Bits.{bits, bits-lt, bits-at, bits-all, bits-cong}
+use Rattle.words.specs.Words.{has}
 use Rattle.plan.specs.declared.types.Plan.{Plan}
 use Rattle.plan.specs.Plan.{runsOf}
 use Rattle.plan.specs.Check.{planNumber}
-use Rattle.runs.specs.Run.{highBy, highIn, runNumber}
+use Rattle.runs.specs.Run.{highBy, highIn, highLetters, runNumber}
 use Rattle.plan.specs.Laws.Sizes.{two-levels, runs-power}
 use Rattle.plan.specs.Laws.Answers.{after-plan}
 
@@ -28,6 +31,21 @@ module _ (k : ℕ) (words signs : List ℕ) (r : ℕ) where
   pub added-high : (j : ℕ) → highIn k words signs r (k + j) ≡ highBy (getD signs j 0) (getD words j 0) r
   unfolding highIn
   added-high j = let e : k + j - k ≡ j = omega arith in rw (le-ltb (k + j) k (omega arith), e)
+
+  pub high-small : highLetters k words signs r < 2 ^ (k + length words)
+  unfolding highLetters
+  high-small = bits-lt (k + length words) (highIn k words signs r)
+
+  pub high-at : (i : ℕ) → i < k + length words → has (highLetters k words signs r) i ≡ highIn k words signs r i
+  unfolding highLetters
+  high-at i h = bits-at (k + length words) (highIn k words signs r) i h
+
+  pub high-base : (i : ℕ) → i < k → has (highLetters k words signs r) i ≡ has r i
+  unfolding highIn
+  high-base i h = high-at i (omega arith) ∙ rw (lt-ltb i k h) refl
+
+  pub high-added : (j : ℕ) → j < length words → has (highLetters k words signs r) (k + j) ≡ highBy (getD signs j 0) (getD words j 0) r
+  high-added j h = high-at (k + j) (omega arith) ∙ added-high j
 
 pub run-two : (p : Plan) (r : ℕ) → planNumber p ≡ 0 → (p .levels ≡ 3 → ⊥) → runNumber p r ≡ cond (leb (2 ^ p .k) r) 10 0
 unfolding runNumber

@@ -4,6 +4,7 @@
 --   odd-ones               an odd number of letters in common is an odd number of ones of `run & word`
 --   beyond-none, within    a word below 2 ^ n has no letter from n on, and one that has none is below it
 --   beyond-most            no word has one from 16 on
+--   shifted                with n letters shifted out, letter i is letter n + i
 --   beyond-shifted         the test is whether anything is left when n letters are shifted out
 --   odd-same               numbers that are both odd, or both even, have one remainder
 --   shared-none            a run shares no letter with the empty word
@@ -42,7 +43,7 @@ beyond-none n w h = some-false 16 _ (λ i l. by i (leb n i) refl)
     by i true e = rw (e, bit-none n w i h (leb-true n i e))
 
 -- with n letters shifted out, letter i is letter n + i
-shifted : (n w i : ℕ) → bit (w / 2 ^ n) i ≡ bit w (n + i)
+pub shifted : (n w i : ℕ) → bit (w / 2 ^ n) i ≡ bit w (n + i)
 shifted n w i = ap (λ (m : ℕ). m % 2) (div-div-eq-div-mul w (2 ^ n) (2 ^ i) ∙ ap (λ (m : ℕ). w / m) (sym (pow-add 2 n i)))
 
 nothing-left : (n w : ℕ) → w < 2 ^ 16 → beyond n w ≡ false → w / 2 ^ n ≡ 0

@@ -3,7 +3,7 @@ use borrow.Author.Needs.{needs}
 use Rattle.aliases.specs.Alias.{aliasNumber}
 use Rattle.plan.specs.Laws.Accepted.{sizes}
 use Rattle.plan.specs.Laws.Answers.{refused-by-plan, after-plan}
-use Rattle.aliases.specs.Laws.{alias-two}
+use Rattle.aliases.specs.Laws.Turns.{alias-two}
 use Rattle.aliases.proofs.effects.alias.Statement.{statement}
 use Rattle.aliases.proofs.effects.alias.Tie as tie
 

@@ -1,7 +1,7 @@
 use Prim.Native.Nat.{_-_}
 use native.Mathlib.Omega.{arith}
 use lib.ListN.{length}
-use Rattle.aliases.specs.Laws.{Counted, counted-none, counted-more, counted-all}
+use Rattle.aliases.specs.Laws.Turns.{Counted, counted-none, counted-more, counted-all}
 use Rattle.aliases.proofs.effects.count_turns.Statement.{statement}
 use Rattle.aliases.proofs.effects.count_turns.Tie as tie
 

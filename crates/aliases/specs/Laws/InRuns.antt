@@ -1,0 +1,104 @@
+-- What an alias means. In every run the effect, over all letters, has an odd number of high letters exactly when its base word has;
+-- where the sign turns, exactly when it has not. So the two have the same coefficients in all runs, up to that sign.
+--
+--   reduces    the effect and its base word in a run
+use mathlib.Core.Path.{_≡_, refl, sym, ap, _∙_}
+use mathlib.Core.Bool.{Bool, true, false, cond, not, _&&_}
+use mathlib.Core.List.{List}
+use Prim.Native.Nat.{ℕ, zero, suc, _+_, _*_, _-_, _/_, _%_, _^_, _<_, _≤_}
+use native.Mathlib.Nat.{mul-zero, zero-mul, mod-lt, zero-lt-suc}
+use native.Mathlib.Omega.{arith}
+use lib.Dec.{eqb}
+use lib.ListN.{length, getD}
+use borrow.Author.Tests.{eq-eqb, ne-eqb, eqb-true, eqb-false}
+use Rattle.algebra.specs.Naturals.{Σℕ, Σℕ-plus, Σℕ-upto, Σℕ-add, Σℕ-cong, Σℕ-parity}
+use Rattle.algebra.specs.Bits.{bit-lt, bit-none, bit-mod, digit}
+use Rattle.words.specs.Words.{letter, has, shared, odd, oddIn}
+use Rattle.words.specs.Laws.Letters.{shifted}
+use Rattle.words.specs.Laws.Combined.{shared-combined}
+use Rattle.runs.specs.Run.{highBy, highLetters}
+use Rattle.runs.specs.Laws.High.{high-base, high-added}
+use Rattle.aliases.specs.Alias.{baseWord, turnsOf, turns}
+
+other : (b : Bool) → cond (not b) 1 0 ≡ 1 - cond b 1 0
+other true = refl
+other false = refl
+
+odd-add : (a b : ℕ) → odd (a + b) ≡ cond (odd b) (not (odd a)) (odd a)
+odd-add a b = by (odd a) (odd b) refl refl
+  where
+    by : (x y : Bool) → odd a ≡ x → odd b ≡ y → odd (a + b) ≡ cond y (not x) x
+    by true true p q = ne-eqb ((a + b) % 2) 1 (λ e. omega (arith, e, eqb-true (a % 2) 1 p, eqb-true (b % 2) 1 q))
+    by true false p q = eq-eqb ((a + b) % 2) 1 (omega (arith, eqb-true (a % 2) 1 p, eqb-false (b % 2) 1 q))
+    by false true p q = eq-eqb ((a + b) % 2) 1 (omega (arith, eqb-false (a % 2) 1 p, eqb-true (b % 2) 1 q))
+    by false false p q = ne-eqb ((a + b) % 2) 1 (λ e. omega (arith, e, eqb-false (a % 2) 1 p, eqb-false (b % 2) 1 q))
+
+-- a letter by the test whether it is there
+by-test : (w i : ℕ) (b : Bool) → has w i ≡ b → letter w i ≡ cond b 1 0
+by-test w i b e = sym (digit (letter w i) (bit-lt w i)) ∙ ap (λ (t : Bool). cond t 1 0) e
+
+-- one added letter: c whether the effect has it, x the letters that its word shares with the run, s its sign
+one : (c x s : ℕ) → c < 2 → s ≤ 1
+    → (cond (cond (eqb s 0) (odd x) (not (odd x))) 1 0 * c) % 2 ≡ (c * x + cond (eqb c 1 && eqb s 1) 1 0) % 2
+one zero x s h l = rw (mul-zero (cond (cond (eqb s 0) (odd x) (not (odd x))) 1 0), zero-mul x) refl
+one (suc zero) x zero h l = rw (digit (x % 2) (mod-lt x (zero-lt-suc 1))) (omega arith)
+one (suc zero) x (suc zero) h l = rw (other (odd x), digit (x % 2) (mod-lt x (zero-lt-suc 1))) (omega arith)
+one (suc zero) x (suc (suc s)) h l = absurd (omega (arith, l))
+one (suc (suc c)) x s h l = absurd (omega (arith, h))
+
+module _ (k : ℕ) (words signs : List ℕ) (r e : ℕ) (small : r < 2 ^ k) (room : k + length words ≤ 16)
+    (fits : e < 2 ^ (k + length words)) (alike : length signs ≡ length words)
+    (signed : (j : ℕ) → j < length signs → getD signs j 0 ≤ 1) where
+  abbrev pub H : ℕ
+  H = highLetters k words signs r
+
+  abbrev pub c : ℕ
+  c = e / 2 ^ k
+
+  -- the base letters
+  base : Σℕ k (λ i. letter H i * letter e i) ≡ Σℕ k (λ i. letter r i * letter e i)
+  base = Σℕ-cong k (λ i h. ap (λ (m : ℕ). m * letter e i) (by-test H i (has r i) (high-base k words signs r i h) ∙ digit (letter r i) (bit-lt r i)))
+
+  -- the added letters, up to an even number
+  added : Σℕ (length words) (λ j. letter H (k + j) * letter e (k + j)) % 2
+      ≡ (Σℕ (length words) (λ j. letter c j * shared r (getD words j 0)) + turnsOf c signs) % 2
+  unfolding highBy oddIn turnsOf
+  added =
+      Σℕ-parity (length words) (λ j. letter H (k + j) * letter e (k + j)) (λ j. word j + sign j) each
+      ∙ ap (λ (m : ℕ). m % 2) (Σℕ-add (length words) word sign ∙ ap (λ (m : ℕ). Σℕ (length words) word + m) turned)
+    where
+      word : ℕ → ℕ
+      word j = letter c j * shared r (getD words j 0)
+
+      sign : ℕ → ℕ
+      sign j = cond (has c j && eqb (getD signs j 0) 1) 1 0
+
+      each : (j : ℕ) → j < length words → (letter H (k + j) * letter e (k + j)) % 2 ≡ (word j + sign j) % 2
+      each j h =
+          rw (by-test H (k + j) (highBy (getD signs j 0) (getD words j 0) r) (high-added k words signs r j h), ← (shifted k e j))
+          (one (letter c j) (shared r (getD words j 0)) (getD signs j 0) (bit-lt c j) (signed j (omega (arith, h, alike))))
+
+      turned : Σℕ (length words) sign ≡ turnsOf c signs
+      turned = rw alike refl
+
+  -- the base letters of the effect: the run has no other
+  base-shared : shared r (e % 2 ^ k) ≡ Σℕ k (λ i. letter r i * letter e i)
+  unfolding shared
+  base-shared =
+      Σℕ-upto k 16 (λ i. letter r i * letter (e % 2 ^ k) i) (omega (arith, room)) (λ i h. rw (bit-none k r i small h) (zero-mul (letter (e % 2 ^ k) i)))
+      ∙ Σℕ-cong k (λ i h. ap (λ (m : ℕ). letter r i * m) (bit-mod e k i h))
+
+  whole : shared H e ≡ Σℕ k (λ i. letter H i * letter e i) + Σℕ (length words) (λ j. letter H (k + j) * letter e (k + j))
+  unfolding shared
+  whole =
+      Σℕ-upto (k + length words) 16 (λ i. letter H i * letter e i) room (λ i h. rw (bit-none (k + length words) e i fits h) (mul-zero (letter H i)))
+      ∙ Σℕ-plus k (length words) (λ i. letter H i * letter e i)
+
+  pub reduces-number : shared H e % 2 ≡ (shared r (baseWord k words e) + turnsOf c signs) % 2
+  unfolding baseWord
+  reduces-number = omega (arith, whole, base, added, base-shared, shared-combined r (e % 2 ^ k) c words)
+
+  -- the sign turns, or it does not
+  pub reduces : oddIn H e ≡ cond (turns k signs e) (not (oddIn r (baseWord k words e))) (oddIn r (baseWord k words e))
+  unfolding oddIn turns
+  reduces = ap (λ (m : ℕ). eqb m 1) reduces-number ∙ odd-add (shared r (baseWord k words e)) (turnsOf c signs)
