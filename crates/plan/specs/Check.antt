@@ -32,18 +32,15 @@ badFactors levels k = eqb k 0 || cond (eqb levels 2) (ltb mostTwo k) (ltb mostTh
 unfoldable pub badCounts : ℕ → ℕ → ℕ → Bool
 badCounts levels added blocks = ltb 6 added || (ltb 4 blocks || cond (eqb levels 3) (ltb 0 added || ltb 0 blocks) false)
 
--- 5: "letter beyond k, added word under two letters, sign over 1, empty block word"
-unfoldable pub badAdded : ℕ → ℕ → Bool
-badAdded k w = beyond k w || ltb (letters w) 2
+-- 5: "letter beyond k, added word under two letters, sign over 1, empty block word"; an empty word is one under one letter
+unfoldable pub badWord : ℕ → ℕ → ℕ → Bool
+badWord k least w = beyond k w || ltb (letters w) least
 
 unfoldable pub badSign : ℕ → Bool
 badSign s = ltb 1 s
 
-unfoldable pub badBlock : ℕ → ℕ → Bool
-badBlock k w = beyond k w || eqb w 0
-
 unfoldable pub badWords : ℕ → List ℕ → List ℕ → List ℕ → Bool
-badWords k words signs blocks = any (badAdded k) words || (any badSign signs || any (badBlock k) blocks)
+badWords k words signs blocks = any (badWord k 2) words || (any badSign signs || any (badWord k 1) blocks)
 
 -- 6: "two added factors with one word" is `repeated`
 

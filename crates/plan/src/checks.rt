@@ -2,9 +2,8 @@
 ghost use mathlib.Core.Path.{_≡_};
 ghost use Prim.Native.Nat.{_≤_};
 ghost use lib.ListN.{length, take};
-use super::conditions::any_bad_added;
-use super::conditions::any_bad_block;
 use super::conditions::any_bad_sign;
+use super::conditions::any_bad_word;
 use super::conditions::any_spoiled;
 use super::conditions::bad_counts;
 use super::conditions::bad_factors;
@@ -19,13 +18,13 @@ ghost use Rattle.plan.specs.Check.{badWords, wordLines, planNumber, chec
 fn bad_words(k: usize, words: &[u16], signs: &[u8], blocks: &[u16]) -> bool
     ensures { λ r. ⌜ r ≡ badWords k (now (words .entry)) (now (signs .entry)) (now (blocks .entry)) ⌝ }
 {
-    if any_bad_added(words, k) {
+    if any_bad_word(words, k, 2) {
         return true;
     }
     if any_bad_sign(signs) {
         return true;
     }
-    any_bad_block(blocks, k)
+    any_bad_word(blocks, k, 1)
 }
 
 // The lowest of the numbers 5 to 8 that applies, and 0 where none does.

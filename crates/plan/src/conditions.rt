@@ -8,7 +8,7 @@ use words::has_beyond;
 use words::is_among;
 ghost use Rattle.words.specs.Words.{any};
 ghost use Rattle.plan.specs.Plan.{combinesTo};
-ghost use Rattle.plan.specs.Check.{badLevels, badFactors, badCounts, badAdded, badSign, badBlock, spoils, spoiled};
+ghost use Rattle.plan.specs.Check.{badLevels, badFactors, badCounts, badWord, badSign, spoils, spoiled};
 
 pub fn bad_levels(levels: u8) -> bool
     ensures { λ r. ⌜ r ≡ badLevels levels ⌝ }
@@ -46,30 +46,21 @@ pub fn bad_counts(levels: u8, added: u8, blocks: u8) -> bool
     false
 }
 
-fn bad_added(word: u16, k: usize) -> bool
-    ensures { λ r. ⌜ r ≡ badAdded k word ⌝ }
+fn bad_word(word: u16, k: usize, least: u32) -> bool
+    ensures { λ r. ⌜ r ≡ badWord k least word ⌝ }
 {
     if has_beyond(word, k) {
         return true;
     }
-    count_letters(word) < 2
+    count_letters(word) < least
 }
 
-fn bad_block(word: u16, k: usize) -> bool
-    ensures { λ r. ⌜ r ≡ badBlock k word ⌝ }
-{
-    if has_beyond(word, k) {
-        return true;
-    }
-    word == 0
-}
-
-pub fn any_bad_added(words: &[u16], k: usize) -> bool
-    ensures { λ r. ⌜ r ≡ any (badAdded k) (now (words .entry)) ⌝ }
+pub fn any_bad_word(words: &[u16], k: usize, least: u32) -> bool
+    ensures { λ r. ⌜ r ≡ any (badWord k least) (now (words .entry)) ⌝ }
 {
     let mut i = 0;
     while i < words.len() {
-        if bad_added(words[i], k) {
+        if bad_word(words[i], k, least) {
             return true;
         }
         i += 1;
@@ -83,19 +74,6 @@ pub fn any_bad_sign(signs: &[u8]) -> bool
     let mut i = 0;
     while i < signs.len() {
         if 1 < signs[i] {
-            return true;
-        }
-        i += 1;
-    }
-    false
-}
-
-pub fn any_bad_block(words: &[u16], k: usize) -> bool
-    ensures { λ r. ⌜ r ≡ any (badBlock k) (now (words .entry)) ⌝ }
-{
-    let mut i = 0;
-    while i < words.len() {
-        if bad_block(words[i], k) {
             return true;
         }
         i += 1;

@@ -22,7 +22,7 @@ use Rattle.plan.specs.declared.types.Plan.{Plan}
 use Rattle.words.specs.Words.{letters, beyond, any, among, repeated, combined}
 use Rattle.plan.specs.Plan.{addedWords, addedSigns, blockWords, combinesTo, confoundedIn}
 use Rattle.plan.specs.Laws.Combinations.{the-combination, each-fails}
-use Rattle.plan.specs.Check.{badLevels, badFactors, badCounts, badAdded, badSign, badBlock, badWords, dependent, spoils, spoiled, planNumber}
+use Rattle.plan.specs.Check.{badLevels, badFactors, badCounts, badWord, badSign, badWords, dependent, spoils, spoiled, planNumber}
 
 -- ---- what each condition says where it does not hold
 
@@ -85,7 +85,7 @@ pub record Accepted (p : Plan) : Type 0 where
       → (beyond (p .k) (getD (addedWords p) j 0) ≡ false) × (2 ≤ letters (getD (addedWords p) j 0))
   pub signs : (j : ℕ) → j < length (addedSigns p) → getD (addedSigns p) j 0 ≤ 1
   pub blocks : (j : ℕ) → j < length (blockWords p)
-      → (beyond (p .k) (getD (blockWords p) j 0) ≡ false) × (getD (blockWords p) j 0 ≡ 0 → ⊥)
+      → (beyond (p .k) (getD (blockWords p) j 0) ≡ false) × (1 ≤ letters (getD (blockWords p) j 0))
   pub apart : (i j : ℕ) → i < j → j < length (addedWords p) → getD (addedWords p) i 0 ≡ getD (addedWords p) j 0 → ⊥
   -- a confounded effect is neither empty nor one letter nor an added factor's word
   pub lost : (w : ℕ) → confoundedIn p w ≡ true → (w ≡ 0 → ⊥) × (letters w ≡ 1 → ⊥) × (among w (addedWords p) ≡ false)
@@ -96,32 +96,24 @@ passed false n m h e = (refl, e)
 
 -- ---- what lines 5 to 8 say of the words
 
-words-of : (k : ℕ) (ws : List ℕ) → any (badAdded k) ws ≡ false
-    → (j : ℕ) → j < length ws → (beyond k (getD ws j 0) ≡ false) × (2 ≤ letters (getD ws j 0))
-unfolding any badAdded
-words-of k ws e j h =
+words-of : (k least : ℕ) (ws : List ℕ) → any (badWord k least) ws ≡ false
+    → (j : ℕ) → j < length ws → (beyond k (getD ws j 0) ≡ false) × (least ≤ letters (getD ws j 0))
+unfolding any badWord
+words-of k least ws e j h =
     let w = getD ws j 0 in
-    let b = neither (beyond k w) (ltb (letters w) 2) (none-at (length ws) (λ i. badAdded k (getD ws i 0)) e j h) in
-    (b .0, ltb-false (letters w) 2 (b .1))
+    let b = neither (beyond k w) (ltb (letters w) least) (none-at (length ws) (λ i. badWord k least (getD ws i 0)) e j h) in
+    (b .0, ltb-false (letters w) least (b .1))
 
 signs-of : (ss : List ℕ) → any badSign ss ≡ false → (j : ℕ) → j < length ss → getD ss j 0 ≤ 1
 unfolding any badSign
 signs-of ss e j h = ltb-false 1 (getD ss j 0) (none-at (length ss) (λ i. badSign (getD ss i 0)) e j h)
 
-blocks-of : (k : ℕ) (ws : List ℕ) → any (badBlock k) ws ≡ false
-    → (j : ℕ) → j < length ws → (beyond k (getD ws j 0) ≡ false) × (getD ws j 0 ≡ 0 → ⊥)
-unfolding any badBlock
-blocks-of k ws e j h =
-    let w = getD ws j 0 in
-    let b = neither (beyond k w) (eqb w 0) (none-at (length ws) (λ i. badBlock k (getD ws i 0)) e j h) in
-    (b .0, eqb-false w 0 (b .1))
-
 parts : (k : ℕ) (words signs blocks : List ℕ) → badWords k words signs blocks ≡ false
-    → (any (badAdded k) words ≡ false) × (any badSign signs ≡ false) × (any (badBlock k) blocks ≡ false)
+    → (any (badWord k 2) words ≡ false) × (any badSign signs ≡ false) × (any (badWord k 1) blocks ≡ false)
 unfolding badWords
 parts k words signs blocks e =
-    let a = neither (any (badAdded k) words) (any badSign signs || any (badBlock k) blocks) e in
-    let b = neither (any badSign signs) (any (badBlock k) blocks) (a .1) in
+    let a = neither (any (badWord k 2) words) (any badSign signs || any (badWord k 1) blocks) e in
+    let b = neither (any badSign signs) (any (badWord k 1) blocks) (a .1) in
     (a .0, b .0, b .1)
 
 apart-of : (ws : List ℕ) → repeated ws ≡ false → (i j : ℕ) → i < j → j < length ws → getD ws i 0 ≡ getD ws j 0 → ⊥
@@ -160,9 +152,9 @@ accepted p e =
       levels = levels-known (p .levels) (l2 .0);
       factors = factors-known (p .levels) (p .k) (l3 .0);
       counts = counts-known (p .levels) (p .added) (p .blocks) (l4 .0);
-      words = words-of (p .k) (addedWords p) (w .0);
+      words = words-of (p .k) 2 (addedWords p) (w .0);
       signs = signs-of (addedSigns p) (w .1);
-      blocks = blocks-of (p .k) (blockWords p) (w .2);
+      blocks = words-of (p .k) 1 (blockWords p) (w .2);
       apart = apart-of (addedWords p) (l6 .0);
       lost = lost-of (addedWords p) (blockWords p) (l7 .0) (l8 .0);
     }

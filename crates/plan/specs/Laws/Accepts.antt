@@ -16,7 +16,7 @@ use Rattle.contrasts.specs.Limits.{mostTwo, mostThree}
 use Rattle.words.specs.Words.{letters, any, among, repeated, combined}
 use Rattle.plan.specs.declared.types.Plan.{Plan}
 use Rattle.plan.specs.Plan.{addedWords, addedSigns, blockWords, combinesTo, confoundedIn}
-use Rattle.plan.specs.Check.{badLevels, badFactors, badCounts, badAdded, badSign, badBlock, badWords, dependent, spoils, spoiled, planNumber}
+use Rattle.plan.specs.Check.{badLevels, badFactors, badCounts, badWord, badSign, badWords, dependent, spoils, spoiled, planNumber}
 use Rattle.plan.specs.Laws.Combinations.{combination, no-combination}
 use Rattle.plan.specs.Laws.Accepted.{Accepted}
 
@@ -46,11 +46,11 @@ module _ {p : Plan} (a : Accepted p) where
       by (inr e) = let z = a .counts .2 e in rw (e, z .0, z .1) refl
 
   words-right : badWords (p .k) (addedWords p) (addedSigns p) (blockWords p) ≡ false
-  unfolding badWords any badAdded badSign badBlock
+  unfolding badWords any badWord badSign
   words-right =
       none (some-false (length (addedWords p)) _ (λ j h. none (a .words j h .0) (le-ltb (letters (getD (addedWords p) j 0)) 2 (a .words j h .1))))
       (none (some-false (length (addedSigns p)) _ (λ j h. le-ltb 1 (getD (addedSigns p) j 0) (a .signs j h)))
-      (some-false (length (blockWords p)) _ (λ j h. none (a .blocks j h .0) (ne-eqb (getD (blockWords p) j 0) 0 (a .blocks j h .1)))))
+      (some-false (length (blockWords p)) _ (λ j h. none (a .blocks j h .0) (le-ltb (letters (getD (blockWords p) j 0)) 1 (a .blocks j h .1)))))
 
   apart-right : repeated (addedWords p) ≡ false
   unfolding repeated among any

@@ -10,8 +10,8 @@ bad-words-spec =
     tie.close
     (tie.spec
     (λ c κs. search needs)
-    (λ c. rw (is (c .before .any-bad-added .ensures) (c .if1 .taken)))
+    (λ c. rw (is (c .before .any-bad-word .ensures) (c .if1 .taken)))
     (λ c κs. search needs)
-    (λ c. rw (is (c .before .before .before .any-bad-added .ensures) (c .before .before .if1 .left), is (c .before .any-bad-sign .ensures) (c .if2 .taken)))
+    (λ c. rw (is (c .before .before .before .any-bad-word .ensures) (c .before .before .if1 .left), is (c .before .any-bad-sign .ensures) (c .if2 .taken)))
     (λ c κs. search needs)
-    (λ c. rw (is (c .before .before .before .before .any-bad-added .ensures) (c .before .before .before .if1 .left), is (c .before .before .any-bad-sign .ensures) (c .before .if2 .left)) (c .any-bad-block .ensures)))
+    (λ c. rw (is (c .before .before .before .before .any-bad-word .ensures) (c .before .before .before .if1 .left), is (c .before .before .any-bad-sign .ensures) (c .before .if2 .left)) (c .any-bad-word2 .ensures)))

@@ -1,12 +1,12 @@
 use native.Mathlib.Omega.{arith}
-use Rattle.plan.specs.Check.{badAdded}
+use Rattle.plan.specs.Check.{badWord}
 use Rattle.algebra.specs.Tests.{is}
-use Rattle.plan.proofs.conditions.bad_added.Statement.{statement}
-use Rattle.plan.proofs.conditions.bad_added.Tie as tie
+use Rattle.plan.proofs.conditions.bad_word.Statement.{statement}
+use Rattle.plan.proofs.conditions.bad_word.Tie as tie
 
-pub bad-added-spec : {M : Type 1} → statement M
-unfolding badAdded
-bad-added-spec =
+pub bad-word-spec : {M : Type 1} → statement M
+unfolding badWord
+bad-word-spec =
     tie.close
     (tie.spec
     (λ c κs. omega arith)

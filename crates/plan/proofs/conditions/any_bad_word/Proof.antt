@@ -1,0 +1,32 @@
+use Prim.Native.Nat.{_-_}
+use native.Mathlib.Omega.{arith}
+use lib.ListN.{length, getD}
+use Rattle.algebra.specs.Search.{Unfound, unfound, onward, found, nowhere}
+use Rattle.words.specs.Words.{any}
+use Rattle.plan.specs.Check.{badWord}
+use Rattle.algebra.specs.Tests.{is}
+use Rattle.plan.proofs.conditions.any_bad_word.Statement.{statement}
+use Rattle.plan.proofs.conditions.any_bad_word.Tie as tie
+
+abbrev Inv-loop : tie.InvT-loop
+Inv-loop words k least i₀ i = Unfound (λ j. badWord k least (getD words j 0)) (length words) i
+
+abbrev μ-loop : tie.MeasureT-loop
+μ-loop words k least i₀ i = length words - i
+
+pub any-bad-word-spec : {M : Type 1} → statement M
+unfolding any
+any-bad-word-spec =
+    tie.close
+    (tie.spec
+    Inv-loop
+    μ-loop
+    (λ c. unfound _ _)
+    (λ c. omega arith)
+    (λ c. omega arith)
+    (λ c κs. omega arith)
+    (λ c. found (c .before .before .before .before .loop .inv) (c .before .before .before .loop-test .taken) (is (c .before .bad-word .ensures) (c .if1 .taken)))
+    (λ c. omega arith)
+    (λ c. omega arith)
+    (λ c. onward (c .before .before .before .before .loop .inv) (c .before .before .before .loop-test .taken) (is (c .before .bad-word .ensures) (c .if1 .left)))
+    (λ c. nowhere (c .before .loop .inv) (c .loop-test .left)))
