@@ -15,25 +15,25 @@ use Rattle.plan.specs.declared.types.Plan.{Plan}
 use Rattle.plan.specs.Examples.{plan, ABC, AD, BC}
 use Rattle.plan.specs.Outcome.{Outcome, given, refused, outcome}
 use Rattle.plan.specs.Plan.{someCombination, combinesTo}
-use Rattle.plan.specs.Check.{badLevels, badFactors, badCounts, badWord, badSign, badWords, dependent, spoils, spoiled, planNumber, withPlan}
+use Rattle.plan.specs.Check.{badLevels, badFactors, badCounts, badWord, badSign, badWords, dependent, factorWord, losesFactor, planNumber, withPlan}
 use Rattle.aliases.specs.Alias.{baseWord, turnsOf, turns, aliasNumber, aliasValues}
 
 abbrev answer : Plan → ℕ → Outcome (ℕ × Bool)
 answer p e = outcome (aliasNumber p e) (aliasValues p e)
 
 AD-is-BC : answer (plan 2 3 (ABC ∷ []) (0 ∷ []) []) AD ≡ given (BC, false)
-unfolding aliasNumber withPlan planNumber badLevels badFactors mostTwo mostThree badCounts badWords badWord badSign repeated dependent spoiled spoils any among beyond letters combined times someCombination combinesTo some bits Σℕ baseWord turns turnsOf
+unfolding aliasNumber withPlan planNumber badLevels badFactors mostTwo mostThree badCounts badWords badWord badSign repeated dependent losesFactor factorWord any among beyond letters combined times someCombination combinesTo some bits Σℕ baseWord turns turnsOf
 AD-is-BC = refl
 
 AD-turned : answer (plan 2 3 (ABC ∷ []) (1 ∷ []) []) AD ≡ given (BC, true)
-unfolding aliasNumber withPlan planNumber badLevels badFactors mostTwo mostThree badCounts badWords badWord badSign repeated dependent spoiled spoils any among beyond letters combined times someCombination combinesTo some bits Σℕ baseWord turns turnsOf
+unfolding aliasNumber withPlan planNumber badLevels badFactors mostTwo mostThree badCounts badWords badWord badSign repeated dependent losesFactor factorWord any among beyond letters combined times someCombination combinesTo some bits Σℕ baseWord turns turnsOf
 AD-turned = refl
 
 line-9 : answer (plan 3 1 [] [] []) 0 ≡ refused 9
-unfolding aliasNumber withPlan planNumber badLevels badFactors mostTwo mostThree badCounts badWords badWord badSign repeated dependent spoiled spoils any among beyond letters combined times someCombination combinesTo some bits Σℕ baseWord turns turnsOf
+unfolding aliasNumber withPlan planNumber badLevels badFactors mostTwo mostThree badCounts badWords badWord badSign repeated dependent losesFactor factorWord any among beyond letters combined times someCombination combinesTo some bits Σℕ baseWord turns turnsOf
 line-9 = refl
 
 -- E, where the plan ends with D
 line-10 : answer (plan 2 3 (ABC ∷ []) (0 ∷ []) []) 16 ≡ refused 10
-unfolding aliasNumber withPlan planNumber badLevels badFactors mostTwo mostThree badCounts badWords badWord badSign repeated dependent spoiled spoils any among beyond letters combined times someCombination combinesTo some bits Σℕ baseWord turns turnsOf
+unfolding aliasNumber withPlan planNumber badLevels badFactors mostTwo mostThree badCounts badWords badWord badSign repeated dependent losesFactor factorWord any among beyond letters combined times someCombination combinesTo some bits Σℕ baseWord turns turnsOf
 line-10 = refl

@@ -1,10 +1,10 @@
 -- "What is turned away": the lines of the table that concern a plan, 2 to 8.
 --
---   badLevels .. spoiled     the conditions of lines 2 to 8
+--   badLevels .. losesFactor the conditions of lines 2 to 8
 --   planLines, planNumber    those lines; the lowest number that applies to a plan, 0 where it is accepted
 --   withPlan p lines         the lowest number of a call that takes a plan and has further lines of its own
 --   runCount p               the number of runs, for any plan
---   lostIn p w               the effect of w is confounded, for any plan
+--   confoundedAccepted p w   the effect of w is confounded, for any plan
 --   checkOutcome             the cases of the check's answer
 use mathlib.Core.Bool.{Bool, false, not, cond, _||_}
 use mathlib.Core.List.{List, [], _∷_}
@@ -48,12 +48,12 @@ badWords k words signs blocks = any (badWord k 2) words || (any badSign signs ||
 unfoldable pub dependent : List ℕ → Bool
 dependent blocks = combinesTo 0 blocks
 
--- 8: "a confounded effect is one letter or an added factor's word"
-unfoldable pub spoils : ℕ → List ℕ → Bool
-spoils w words = eqb (letters w) 1 || among w words
+-- 8: "a confounded effect is one letter or an added factor's word"; these are the words of the plan's factors, base and added
+unfoldable pub factorWord : ℕ → List ℕ → Bool
+factorWord w words = eqb (letters w) 1 || among w words
 
-unfoldable pub spoiled : List ℕ → List ℕ → Bool
-spoiled words blocks = someCombination blocks (λ w. spoils w words)
+unfoldable pub losesFactor : List ℕ → List ℕ → Bool
+losesFactor words blocks = someCombination blocks (λ w. factorWord w words)
 
 -- the lines on the words, for themselves
 abbrev pub wordLines : ℕ → List ℕ → List ℕ → List ℕ → List Line
@@ -61,7 +61,7 @@ wordLines k words signs blocks =
     line 5 (badWords k words signs blocks)
     ∷ line 6 (repeated words)
     ∷ line 7 (dependent blocks)
-    ∷ line 8 (spoiled words blocks)
+    ∷ line 8 (losesFactor words blocks)
     ∷ []
 
 -- "The plan check gives 2 to 8"
@@ -79,9 +79,11 @@ planNumber p = lowest (planLines p)
 unfoldable pub withPlan : Plan → List Line → ℕ
 withPlan p further = cond (eqb (planNumber p) 0) (lowest further) (planNumber p)
 
--- whether the effect of a word is confounded, as a call can answer it for any plan: no effect of a plan that is refused
-unfoldable pub lostIn : Plan → ℕ → Bool
-lostIn p w = cond (eqb (planNumber p) 0) (confoundedIn p w) false
+-- ---- for the crates above, of any plan
+
+-- whether the effect of a word is confounded; no effect of a plan that is refused
+unfoldable pub confoundedAccepted : Plan → ℕ → Bool
+confoundedAccepted p w = cond (eqb (planNumber p) 0) (confoundedIn p w) false
 
 -- the number of runs, and 0 where levels or k are out of range
 unfoldable pub runCount : Plan → ℕ

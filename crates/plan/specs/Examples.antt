@@ -17,7 +17,7 @@ use Rattle.contrasts.specs.Limits.{mostTwo, mostThree}
 use Rattle.words.specs.Words.{letters, beyond, times, combined, any, among, repeated}
 use Rattle.plan.specs.declared.types.Plan.{Plan}
 use Rattle.plan.specs.Plan.{someCombination, combinesTo, confoundedIn}
-use Rattle.plan.specs.Check.{badLevels, badFactors, badCounts, badWord, badSign, badWords, dependent, spoils, spoiled, planNumber}
+use Rattle.plan.specs.Check.{badLevels, badFactors, badCounts, badWord, badSign, badWords, dependent, factorWord, losesFactor, planNumber}
 
 -- ---- words by their letters
 
@@ -71,7 +71,7 @@ smallInputs =
     ∷ []
 
 small-inputs : map planNumber smallInputs ≡ 2 ∷ 3 ∷ 4 ∷ 5 ∷ 6 ∷ 7 ∷ 8 ∷ []
-unfolding planNumber badLevels badFactors mostTwo mostThree badCounts badWords badWord badSign repeated dependent spoiled spoils any among beyond letters combined times someCombination combinesTo some bits Σℕ
+unfolding planNumber badLevels badFactors mostTwo mostThree badCounts badWords badWord badSign repeated dependent losesFactor factorWord any among beyond letters combined times someCombination combinesTo some bits Σℕ
 small-inputs = refl
 
 -- other ways into a line, and plans to which two lines apply, of which the lower counts
@@ -97,7 +97,7 @@ others =
     ∷ []
 
 other-numbers : map planNumber others ≡ 3 ∷ 3 ∷ 4 ∷ 4 ∷ 5 ∷ 5 ∷ 5 ∷ 5 ∷ 8 ∷ 4 ∷ 5 ∷ 6 ∷ []
-unfolding planNumber badLevels badFactors mostTwo mostThree badCounts badWords badWord badSign repeated dependent spoiled spoils any among beyond letters combined times someCombination combinesTo some bits Σℕ
+unfolding planNumber badLevels badFactors mostTwo mostThree badCounts badWords badWord badSign repeated dependent losesFactor factorWord any among beyond letters combined times someCombination combinesTo some bits Σℕ
 other-numbers = refl
 
 -- ---- accepted plans
@@ -113,7 +113,7 @@ acceptedPlans =
     ∷ []
 
 all-accepted : map planNumber acceptedPlans ≡ 0 ∷ 0 ∷ 0 ∷ 0 ∷ 0 ∷ []
-unfolding planNumber badLevels badFactors mostTwo mostThree badCounts badWords badWord badSign repeated dependent spoiled spoils any among beyond letters combined times someCombination combinesTo some bits Σℕ
+unfolding planNumber badLevels badFactors mostTwo mostThree badCounts badWords badWord badSign repeated dependent losesFactor factorWord any among beyond letters combined times someCombination combinesTo some bits Σℕ
 all-accepted = refl
 
 -- of the sixteen effects of that plan just AD, ABC and BCD are confounded

@@ -6,7 +6,7 @@ use super::checks::lowest;
 use super::conditions::combines_to;
 use super::types::Plan;
 ghost use Rattle.plan.specs.Plan.{combinesTo};
-ghost use Rattle.plan.specs.Check.{lostIn};
+ghost use Rattle.plan.specs.Check.{confoundedAccepted};
 
 // Whether one or more of a plan's block words combine to the given word.
 fn combines_in(word: u16, blocks: usize, blockwords: [u16; 4]) -> bool
@@ -18,7 +18,7 @@ fn combines_in(word: u16, blocks: usize, blockwords: [u16; 4]) -> bool
 
 // Whether the effect of a word is confounded; no effect of a plan that is refused.
 pub fn confounded(p: Plan, word: u16) -> bool
-    ensures { λ r. ⌜ r ≡ lostIn p word ⌝ }
+    ensures { λ r. ⌜ r ≡ confoundedAccepted p word ⌝ }
 {
     if lowest(p) != 0 {
         return false;

@@ -4,11 +4,11 @@ ghost use Prim.Native.Nat.{_≤_};
 ghost use lib.ListN.{length, take};
 use super::conditions::any_bad_sign;
 use super::conditions::any_bad_word;
-use super::conditions::any_spoiled;
 use super::conditions::bad_counts;
 use super::conditions::bad_factors;
 use super::conditions::bad_levels;
 use super::conditions::combines_to;
+use super::conditions::loses_factor;
 use super::types::Check;
 use super::types::Plan;
 use words::is_repeated;
@@ -41,7 +41,7 @@ fn lowest_of_words(k: usize, words: &[u16], signs: &[u8], blocks: &[u16]) -> u8
     if combines_to(0, blocks) {
         return 7;
     }
-    if any_spoiled(words, blocks) {
+    if loses_factor(words, blocks) {
         return 8;
     }
     0

@@ -8,7 +8,7 @@ use words::has_beyond;
 use words::is_among;
 ghost use Rattle.words.specs.Words.{any};
 ghost use Rattle.plan.specs.Plan.{combinesTo};
-ghost use Rattle.plan.specs.Check.{badLevels, badFactors, badCounts, badWord, badSign, spoils, spoiled};
+ghost use Rattle.plan.specs.Check.{badLevels, badFactors, badCounts, badWord, badSign, factorWord, losesFactor};
 
 pub fn bad_levels(levels: u8) -> bool
     ensures { λ r. ⌜ r ≡ badLevels levels ⌝ }
@@ -105,9 +105,9 @@ pub fn combines_to(word: u16, words: &[u16]) -> bool
     false
 }
 
-// Whether a confounded effect may not be: it is one letter or an added factor's word.
-fn is_spoiled(word: u16, added: &[u16]) -> bool
-    ensures { λ r. ⌜ r ≡ spoils word (now (added .entry)) ⌝ }
+// Whether the word is a factor's: one letter, or an added factor's word.
+fn is_factor(word: u16, added: &[u16]) -> bool
+    ensures { λ r. ⌜ r ≡ factorWord word (now (added .entry)) ⌝ }
 {
     if count_letters(word) == 1 {
         return true;
@@ -115,15 +115,15 @@ fn is_spoiled(word: u16, added: &[u16]) -> bool
     is_among(word, added)
 }
 
-// Whether one or more of the block words combine to such an effect.
-pub fn any_spoiled(added: &[u16], blocks: &[u16]) -> bool
+// Whether one or more of the block words combine to the word of a factor, whose effect would be lost.
+pub fn loses_factor(added: &[u16], blocks: &[u16]) -> bool
     requires { ⌜ length (now blocks) ≤ 4 ⌝ }
-    ensures { λ r. ⌜ r ≡ spoiled (now (added .entry)) (now (blocks .entry)) ⌝ }
+    ensures { λ r. ⌜ r ≡ losesFactor (now (added .entry)) (now (blocks .entry)) ⌝ }
 {
     let n = choices(blocks.len());
     let mut chosen = 1;
     while chosen < n {
-        if is_spoiled(combine(0, chosen, blocks), added) {
+        if is_factor(combine(0, chosen, blocks), added) {
             return true;
         }
         chosen += 1;

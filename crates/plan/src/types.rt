@@ -1,6 +1,7 @@
 // A plan, and what the check of one answers.
 
-// `added` and `blocks` say how many of the words are meant; places beyond them are ignored.
+// `levels` of each of the `k` base factors; `added` factors, each a word and a sign; `blocks` words that part the runs into blocks.
+// Words are sets of base letters, bit 0 for A. Places beyond the counts `added` and `blocks` are ignored.
 pub struct Plan {
     pub levels: u8,
     pub k: u8,

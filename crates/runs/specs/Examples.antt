@@ -16,7 +16,7 @@ use Rattle.contrasts.specs.Totals.{size}
 use Rattle.words.specs.Words.{letters, beyond, shared, oddIn, times, combined, any, among, repeated}
 use Rattle.plan.specs.Examples.{plan, ABC, AD}
 use Rattle.plan.specs.Plan.{factorsOf, someCombination, combinesTo}
-use Rattle.plan.specs.Check.{badLevels, badFactors, badCounts, badWord, badSign, badWords, dependent, spoils, spoiled, planNumber, withPlan}
+use Rattle.plan.specs.Check.{badLevels, badFactors, badCounts, badWord, badSign, badWords, dependent, factorWord, losesFactor, planNumber, withPlan}
 use Rattle.runs.specs.Run.{highBy, highIn, highLetters, blockNumber, runNumber}
 
 -- the eight runs (1), a, b, ab, c, ac, bc, abc; D is 8
@@ -38,10 +38,10 @@ unfolding blockNumber oddIn shared bits Σℕ tabFrom
 four-blocks = refl
 
 line-9 : runNumber (plan 3 1 [] [] []) 0 ≡ 9
-unfolding runNumber withPlan planNumber badLevels badFactors mostTwo mostThree badCounts badWords badWord badSign repeated dependent spoiled spoils any among beyond letters combined times someCombination combinesTo some bits Σℕ
+unfolding runNumber withPlan planNumber badLevels badFactors mostTwo mostThree badCounts badWords badWord badSign repeated dependent losesFactor factorWord any among beyond letters combined times someCombination combinesTo some bits Σℕ
 line-9 = refl
 
 -- k = 2: runs 3 and 4
 line-10 : tab 2 (λ i. runNumber (plan 2 2 [] [] []) (3 + i)) ≡ 0 ∷ 10 ∷ []
-unfolding runNumber withPlan planNumber badLevels badFactors mostTwo mostThree badCounts badWords badWord badSign repeated dependent spoiled spoils any among beyond letters combined times someCombination combinesTo some bits Σℕ tabFrom factorsOf size two
+unfolding runNumber withPlan planNumber badLevels badFactors mostTwo mostThree badCounts badWords badWord badSign repeated dependent losesFactor factorWord any among beyond letters combined times someCombination combinesTo some bits Σℕ tabFrom factorsOf size two
 line-10 = refl

@@ -5,7 +5,7 @@ use mathlib.Core.Path.{_≡_, refl}
 use Prim.Native.Nat.{ℕ}
 use Rattle.plan.specs.declared.types.Plan.{Plan}
 use Rattle.plan.specs.Check.{withPlan}
-use Rattle.plan.specs.Laws.Alike.{Alike}
+use Rattle.plan.specs.Laws.Alike.{Alike, same-number as same-plan-number}
 use Rattle.aliases.specs.Alias.{aliasNumber, aliasValues}
 
 module _ {p q : Plan} (a : Alike p q) (e : ℕ) where

@@ -22,7 +22,7 @@ use Rattle.plan.specs.declared.types.Plan.{Plan}
 use Rattle.words.specs.Words.{letters, beyond, any, among, repeated, combined}
 use Rattle.plan.specs.Plan.{addedWords, addedSigns, blockWords, combinesTo, confoundedIn}
 use Rattle.plan.specs.Laws.Combinations.{the-combination, each-fails}
-use Rattle.plan.specs.Check.{badLevels, badFactors, badCounts, badWord, badSign, badWords, dependent, spoils, spoiled, planNumber}
+use Rattle.plan.specs.Check.{badLevels, badFactors, badCounts, badWord, badSign, badWords, dependent, factorWord, losesFactor, planNumber}
 
 -- ---- what each condition says where it does not hold
 
@@ -126,15 +126,15 @@ apart-of ws e i j h l d =
     (none-at (length (take j ws)) (λ m. eqb (getD (take j ws) m 0) (getD ws j 0)) f i t)
     (getD-take j ws i 0 h ∙ d)
 
-lost-of : (words blocks : List ℕ) → dependent blocks ≡ false → spoiled words blocks ≡ false
+lost-of : (words blocks : List ℕ) → dependent blocks ≡ false → losesFactor words blocks ≡ false
     → (w : ℕ) → combinesTo w blocks ≡ true → (w ≡ 0 → ⊥) × (letters w ≡ 1 → ⊥) × (among w words ≡ false)
-unfolding dependent spoiled spoils combinesTo
+unfolding dependent losesFactor factorWord combinesTo
 lost-of words blocks e f w t =
     let c = the-combination blocks (λ v. eqb v w) t in
     let v = combined 0 (c .0) blocks in
     let is : v ≡ w = eqb-true v w (c .3) in
     let z : eqb v 0 ≡ false = each-fails blocks (λ v. eqb v 0) e (c .0) (c .1) (c .2) in
-    let s = neither (eqb (letters v) 1) (among v words) (each-fails blocks (λ v. spoils v words) f (c .0) (c .1) (c .2)) in
+    let s = neither (eqb (letters v) 1) (among v words) (each-fails blocks (λ v. factorWord v words) f (c .0) (c .1) (c .2)) in
     (λ d. eqb-false v 0 z (is ∙ d), λ d. eqb-false (letters v) 1 (s .0) (ap letters is ∙ d), rw (← is) (s .1))
 
 pub accepted : (p : Plan) → planNumber p ≡ 0 → Accepted p
@@ -146,7 +146,7 @@ accepted p e =
     let l5 = passed (badWords (p .k) (addedWords p) (addedSigns p) (blockWords p)) 5 _ (omega arith) (l4 .1) in
     let l6 = passed (repeated (addedWords p)) 6 _ (omega arith) (l5 .1) in
     let l7 = passed (dependent (blockWords p)) 7 _ (omega arith) (l6 .1) in
-    let l8 = passed (spoiled (addedWords p) (blockWords p)) 8 _ (omega arith) (l7 .1) in
+    let l8 = passed (losesFactor (addedWords p) (blockWords p)) 8 _ (omega arith) (l7 .1) in
     let w = parts (p .k) (addedWords p) (addedSigns p) (blockWords p) (l5 .0) in
     record {
       levels = levels-known (p .levels) (l2 .0);

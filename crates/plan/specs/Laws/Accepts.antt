@@ -16,7 +16,7 @@ use Rattle.contrasts.specs.Limits.{mostTwo, mostThree}
 use Rattle.words.specs.Words.{letters, any, among, repeated, combined}
 use Rattle.plan.specs.declared.types.Plan.{Plan}
 use Rattle.plan.specs.Plan.{addedWords, addedSigns, blockWords, combinesTo, confoundedIn}
-use Rattle.plan.specs.Check.{badLevels, badFactors, badCounts, badWord, badSign, badWords, dependent, spoils, spoiled, planNumber}
+use Rattle.plan.specs.Check.{badLevels, badFactors, badCounts, badWord, badSign, badWords, dependent, factorWord, losesFactor, planNumber}
 use Rattle.plan.specs.Laws.Combinations.{combination, no-combination}
 use Rattle.plan.specs.Laws.Accepted.{Accepted}
 
@@ -73,8 +73,8 @@ module _ {p : Plan} (a : Accepted p) where
   unfolding dependent combinesTo
   independent-right = no-combination (blockWords p) _ (λ c h l. ne-eqb (combined 0 c (blockWords p)) 0 (a .lost _ (lost c h l) .0))
 
-  clear-right : spoiled (addedWords p) (blockWords p) ≡ false
-  unfolding spoiled spoils
+  clear-right : losesFactor (addedWords p) (blockWords p) ≡ false
+  unfolding losesFactor factorWord
   clear-right =
       no-combination (blockWords p) _
       (λ c h l. none (ne-eqb (letters (combined 0 c (blockWords p))) 1 (a .lost _ (lost c h l) .1)) (a .lost _ (lost c h l) .2))

@@ -1,13 +1,13 @@
 use mathlib.Core.Path.{refl, sym, _∙_}
 use borrow.Author.Tests.{ne-eqb}
 use borrow.Author.Needs.{needs}
-use Rattle.plan.specs.Check.{lostIn}
+use Rattle.plan.specs.Check.{confoundedAccepted}
 use Rattle.plan.specs.Laws.Accepted.{sizes}
 use Rattle.plan.proofs.blocks.confounded.Statement.{statement}
 use Rattle.plan.proofs.blocks.confounded.Tie as tie
 
 pub confounded-spec : {M : Type 1} → statement M
-unfolding lostIn
+unfolding confoundedAccepted
 confounded-spec =
     tie.close
     (tie.spec

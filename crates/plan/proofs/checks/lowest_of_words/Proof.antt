@@ -17,5 +17,5 @@ lowest-of-words-spec =
     (λ c κs. search needs)
     (λ c. rw (is (c .before .before .before .before .before .bad-words .ensures) (c .before .before .before .before .if1 .left), is (c .before .before .before .is-repeated .ensures) (c .before .before .if2 .left), is (c .before .combines-to .ensures) (c .if3 .taken)) refl)
     (λ c κs. search needs)
-    (λ c. rw (is (c .before .before .before .before .before .before .before .bad-words .ensures) (c .before .before .before .before .before .before .if1 .left), is (c .before .before .before .before .before .is-repeated .ensures) (c .before .before .before .before .if2 .left), is (c .before .before .before .combines-to .ensures) (c .before .before .if3 .left), is (c .before .any-spoiled .ensures) (c .if4 .taken)) refl)
-    (λ c. rw (is (c .before .before .before .before .before .before .before .bad-words .ensures) (c .before .before .before .before .before .before .if1 .left), is (c .before .before .before .before .before .is-repeated .ensures) (c .before .before .before .before .if2 .left), is (c .before .before .before .combines-to .ensures) (c .before .before .if3 .left), is (c .before .any-spoiled .ensures) (c .if4 .left)) refl))
+    (λ c. rw (is (c .before .before .before .before .before .before .before .bad-words .ensures) (c .before .before .before .before .before .before .if1 .left), is (c .before .before .before .before .before .is-repeated .ensures) (c .before .before .before .before .if2 .left), is (c .before .before .before .combines-to .ensures) (c .before .before .if3 .left), is (c .before .loses-factor .ensures) (c .if4 .taken)) refl)
+    (λ c. rw (is (c .before .before .before .before .before .before .before .bad-words .ensures) (c .before .before .before .before .before .before .if1 .left), is (c .before .before .before .before .before .is-repeated .ensures) (c .before .before .before .before .if2 .left), is (c .before .before .before .combines-to .ensures) (c .before .before .if3 .left), is (c .before .loses-factor .ensures) (c .if4 .left)) refl))

@@ -1,13 +1,13 @@
 use mathlib.Core.Path.{refl}
 use borrow.Author.Tests.{ne-eqb}
 use borrow.Author.Needs.{needs}
-use Rattle.plan.specs.Check.{spoils}
-use Rattle.plan.proofs.conditions.is_spoiled.Statement.{statement}
-use Rattle.plan.proofs.conditions.is_spoiled.Tie as tie
+use Rattle.plan.specs.Check.{factorWord}
+use Rattle.plan.proofs.conditions.is_factor.Statement.{statement}
+use Rattle.plan.proofs.conditions.is_factor.Tie as tie
 
-pub is-spoiled-spec : {M : Type 1} → statement M
-unfolding spoils
-is-spoiled-spec =
+pub is-factor-spec : {M : Type 1} → statement M
+unfolding factorWord
+is-factor-spec =
     tie.close
     (tie.spec
     (λ c κs. search needs)
