@@ -7,7 +7,6 @@
 --   bits-all               a number below 2 ^ n is that of its own digits
 --   bits-cong, bits-ext    by equal tests, and so equal digits make equal numbers
 --   bit-lt, bit-none       a digit is 0 or 1; a number below 2 ^ n has none from n on
---   bits-none              nor has the number of a set
 --   bit-mod                the digits of a remainder by 2 ^ k
 --   bit-unset              a digit that is not 1 is 0
 --   bit-xor, bit-and       the digits of a ^ b, and of a & b
@@ -129,10 +128,6 @@ bit-mod w k i h =
 
 pub bit-unset : (w i : ℕ) → isSet w i ≡ false → bit w i ≡ 0
 bit-unset w i e = omega (arith, bit-lt w i, eqb-false (bit w i) 1 e)
-
--- a set's number has no digit from n on
-pub bits-none : (n : ℕ) (f : ℕ → Bool) (i : ℕ) → n ≤ i → isSet (bits n f) i ≡ false
-bits-none n f i l = rw (bit-none n (bits n f) i (bits-lt n f) l)
 
 pub bits-ext : (n a b : ℕ) → a < 2 ^ n → b < 2 ^ n → ((i : ℕ) → i < n → isSet a i ≡ isSet b i) → a ≡ b
 bits-ext n a b h k e = sym (bits-all n a h) ∙ bits-cong n e ∙ bits-all n b k

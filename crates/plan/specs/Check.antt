@@ -1,11 +1,13 @@
 -- "What is turned away": the lines of the table that concern a plan, 2 to 8.
 --
---   badLevels .. losesFactor the conditions of lines 2 to 8
---   planLines, planNumber    those lines; the lowest number that applies to a plan, 0 where it is accepted
---   withPlan p lines         the lowest number of a call that takes a plan and has further lines of its own
---   runCount p               the number of runs, for any plan
---   confoundedAccepted p w   the effect of w is confounded, for any plan
---   checkOutcome             the cases of the check's answer
+--   badLevels, badFactors, badCounts    lines 2, 3 and 4
+--   badWord, badSign, badWords          line 5; line 6 is `repeated` of words
+--   dependent                           line 7
+--   factorWord, losesFactor             line 8
+--   wordLines, planLines, planNumber    these lines; the lowest number that applies to a plan, 0 where it is accepted
+--   withPlan p lines                    the lowest number of a call that takes a plan and has further lines of its own
+--   runCount p, confoundedAccepted p w  the number of runs, and whether the effect of w is confounded, for any plan
+--   checkOutcome                        the cases of the check's answer
 use mathlib.Core.Bool.{Bool, false, not, cond, _||_}
 use mathlib.Core.List.{List, [], _∷_}
 use Prim.Native.Nat.{ℕ}

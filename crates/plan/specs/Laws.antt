@@ -1,12 +1,12 @@
 -- Laws about plans that callers cite.
 --
 --   Combinations   the combinations of one or more of some words
---   Accepted   what is known of a plan that is accepted
---   Accepts    that this is all that acceptance asks
---   Answers    the answers of calls that take a plan
---   Confounded the confounded effects of an accepted plan
---   Sizes      how many runs an accepted plan has
---   Alike      places beyond the counts are ignored
+--   Accepted       what is known of a plan that is accepted
+--   Accepts        that this is all that acceptance asks
+--   Answers        the answers of calls that take a plan
+--   Confounded     the confounded effects of an accepted plan
+--   Sizes          the factors and the runs of an accepted plan
+--   Alike          places beyond the counts are ignored
 pub mod Combinations
 pub mod Accepted
 pub mod Accepts

@@ -1,7 +1,7 @@
 // Plans of Table 12-3: the confounded effects, and the runs of each block, the blocks in the order of their first runs.
 use super::text::print;
 use super::text::print_effect;
-use super::text::print_run;
+use super::text::print_treatment;
 use plan::Plan;
 use plan::confounded;
 use runs::Run;
@@ -25,13 +25,6 @@ fn is_first(p: Plan, number: usize) -> bool {
         i += 1;
     }
     true
-}
-
-fn print_treatment(p: Plan, number: usize) {
-    match run(p, number) {
-        Run::Treatment { high, block: _ } => print_run(high),
-        Run::Refused(_) => print(b"refused"),
-    }
 }
 
 // The runs of a block, of which the first is given.

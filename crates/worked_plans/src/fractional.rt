@@ -1,12 +1,10 @@
 // Plans of Table 12-4: the treatment combination of each run, and the effects of one or two letters that reduce to the run's word.
 use super::text::print;
 use super::text::print_effect;
-use super::text::print_run;
+use super::text::print_treatment;
 use aliases::Alias;
 use aliases::alias;
 use plan::Plan;
-use runs::Run;
-use runs::run;
 use words::count_letters;
 
 // The sign of an effect beside the word that it reduces to, where a difference is high minus low, as the table has it: the turn, and one
@@ -35,7 +33,8 @@ fn print_alias(p: Plan, effect: u16, word: u16) -> bool {
     }
 }
 
-// The effects of one or two of the plan's letters that reduce to the word: (1) stands for the mean, and * for none.
+// The effects of one or two letters that reduce to the word; T is the mean, and * stands where there is none. An effect with a letter that
+// the plan does not have is refused, and so not printed.
 fn print_aliases(p: Plan, word: u16) {
     let mut none = word != 0;
     let mut effect: u16 = 1;
@@ -55,10 +54,7 @@ fn print_aliases(p: Plan, word: u16) {
 }
 
 fn print_row(p: Plan, number: u16) {
-    match run(p, number as usize) {
-        Run::Treatment { high, block: _ } => print_run(high),
-        Run::Refused(_) => print(b"refused"),
-    }
+    print_treatment(p, number as usize);
     print_aliases(p, number);
 }
 

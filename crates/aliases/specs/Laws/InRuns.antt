@@ -1,7 +1,9 @@
 -- What an alias means. In every run the effect, over all letters, has an odd number of high letters exactly when its base word has;
 -- where the sign turns, exactly when it has not. So the two have the same coefficients in all runs, up to that sign.
 --
---   reduces    the effect and its base word in a run
+--   H, c                     the letters that are high in the run; the effect's added letters
+--   reduces-number           how many letters they share with it, up to an even number
+--   reduces, plan-reduces    the effect and its base word in a run; for an accepted plan, by the values of the run and alias calls
 use mathlib.Core.Path.{_≡_, refl, sym, ap, _∙_}
 use mathlib.Core.Bool.{Bool, true, false, cond, not, _&&_}
 use mathlib.Core.List.{List}
@@ -9,16 +11,19 @@ use Prim.Native.Nat.{ℕ, zero, suc, _+_, _*_, _-_, _/_, _%_, _^_, _<_, _≤_}
 use native.Mathlib.Nat.{mul-zero, zero-mul, mod-lt, zero-lt-suc}
 use native.Mathlib.Omega.{arith}
 use lib.Dec.{eqb}
-use lib.ListN.{length, getD}
+use lib.ListN.{length, getD, length-take}
 use borrow.Author.Tests.{eq-eqb, ne-eqb, eqb-true, eqb-false}
 use Rattle.algebra.specs.Naturals.{Σℕ, Σℕ-plus, Σℕ-upto, Σℕ-add, Σℕ-cong, Σℕ-parity}
 use Rattle.algebra.specs.Bits.{bit-lt, bit-none, bit-mod, digit}
 use Rattle.words.specs.Words.{letter, has, shared, odd, oddIn}
 use Rattle.words.specs.Laws.Letters.{shifted}
 use Rattle.words.specs.Laws.Combined.{shared-combined}
-use Rattle.runs.specs.Run.{highBy, highLetters}
+use Rattle.plan.specs.declared.types.Plan.{Plan}
+use Rattle.plan.specs.Plan.{addedWords, addedSigns, allLetters}
+use Rattle.plan.specs.Laws.Accepted.{Accepted, at-most-ten}
+use Rattle.runs.specs.Run.{highBy, highLetters, runValues}
 use Rattle.runs.specs.Laws.High.{high-base, high-added}
-use Rattle.aliases.specs.Alias.{baseWord, turnsOf, turns}
+use Rattle.aliases.specs.Alias.{baseWord, turnsOf, turns, aliasValues}
 
 other : (b : Bool) → cond (not b) 1 0 ≡ 1 - cond b 1 0
 other true = refl
@@ -102,3 +107,11 @@ module _ (k : ℕ) (words signs : List ℕ) (r e : ℕ) (small : r < 2 ^ k) (roo
   pub reduces : oddIn H e ≡ cond (turns k signs e) (not (oddIn r (baseWord k words e))) (oddIn r (baseWord k words e))
   unfolding oddIn turns
   reduces = ap (λ (m : ℕ). eqb m 1) reduces-number ∙ odd-add (shared r (baseWord k words e)) (turnsOf c signs)
+
+few-added : (p : Plan) → Accepted p → p .k + length (addedWords p) ≤ 16
+few-added p a = omega (arith, at-most-ten (p .k) (a .factors .1), a .counts .0, length-take (p .added) (p .words))
+
+-- the same of an accepted plan, whose arrays of words and of signs are equally long
+pub plan-reduces : (p : Plan) → Accepted p → length (addedSigns p) ≡ length (addedWords p) → (r e : ℕ) → r < 2 ^ p .k → e < 2 ^ allLetters p
+    → oddIn (runValues p r .0) e ≡ cond (aliasValues p e .1) (not (oddIn r (aliasValues p e .0))) (oddIn r (aliasValues p e .0))
+plan-reduces p a l r e h f = reduces (p .k) (addedWords p) (addedSigns p) r e h (few-added p a) f l (a .signs)

@@ -1,6 +1,7 @@
 -- What is known of an accepted plan is all that acceptance asks: the check refuses no plan of which it holds.
 --
---   accepts    a plan of which `Accepted` holds gets no number
+--   accepts                        a plan of which `Accepted` holds gets no number
+--   levels-right, factors-right    lines 2 and 3 do not apply to it
 use mathlib.Core.Path.{_≡_, refl, sym, _∙_}
 use mathlib.Core.Logic.{_⊎_, inl, inr}
 use mathlib.Core.Bool.{true, false, cond, not, _||_}
@@ -21,7 +22,7 @@ use Rattle.plan.specs.Laws.Combinations.{combination, no-combination}
 use Rattle.plan.specs.Laws.Accepted.{Accepted}
 
 module _ {p : Plan} (a : Accepted p) where
-  levels-right : badLevels (p .levels) ≡ false
+  pub levels-right : badLevels (p .levels) ≡ false
   unfolding badLevels
   levels-right = by (a .levels)
     where
@@ -29,7 +30,7 @@ module _ {p : Plan} (a : Accepted p) where
       by (inl e) = rw e refl
       by (inr e) = rw e refl
 
-  factors-right : badFactors (p .levels) (p .k) ≡ false
+  pub factors-right : badFactors (p .levels) (p .k) ≡ false
   unfolding badFactors mostTwo mostThree
   factors-right = none (ne-eqb (p .k) 0 (λ e. omega (arith, e, a .factors .0))) (by (a .levels))
     where

@@ -1,20 +1,25 @@
--- How many runs an accepted plan has.
+-- The factors and the runs of an accepted plan.
 --
---   two-levels    an accepted plan that has not three levels has two
---   runs-power    there are levels to the power k runs
---   power-room, power-more    the loop that multiplies
-use mathlib.Core.Path.{_≡_}
+--   two-levels                    an accepted plan that has not three levels has two
+--   runs-power                    there are levels to the power k runs
+--   factors-two, factors-three    its base factors, by its levels
+--   run-count, confounded-is      what `runs` and `confounded` give of an accepted plan
+--   power-room, power-more        the loop that multiplies
+use mathlib.Core.Path.{_≡_, refl}
 use mathlib.Core.Logic.{_⊎_, inl, inr}
 use Prim.Native.Nat.{ℕ, _+_, _*_, _^_, _<_, _≤_}
 use native.Mathlib.Nat.{le-trans, mul-le-mul-left, pow-le-pow-left, pow-le-pow-right, pow-suc}
 use native.Mathlib.Numerals.{add-one}
 use native.Mathlib.Omega.{arith}
+use lib.ListN.{replicate}
+use borrow.Author.Tests.{eq-eqb}
 use Rattle.contrasts.specs.Tables.{two, three}
 use Rattle.contrasts.specs.Laws.Alike.{size-alike}
 use Rattle.plan.specs.declared.types.Plan.{Plan}
-use Rattle.plan.specs.Plan.{factorsOf, runsOf}
-use Rattle.plan.specs.Check.{planNumber}
+use Rattle.plan.specs.Plan.{factorsOf, runsOf, confoundedIn}
+use Rattle.plan.specs.Check.{planNumber, runCount, confoundedAccepted}
 use Rattle.plan.specs.Laws.Accepted.{accepted}
+use Rattle.plan.specs.Laws.Accepts.{levels-right, factors-right}
 
 two-then : (p : Plan) → (p .levels ≡ 2) ⊎ (p .levels ≡ 3) → (p .levels ≡ 3 → ⊥) → p .levels ≡ 2
 two-then p (inl e) t = e
@@ -27,6 +32,26 @@ pub runs-power : (p : Plan) → (p .levels ≡ 2) ⊎ (p .levels ≡ 3) → runs
 unfolding factorsOf two three
 runs-power p (inl e) = rw e (size-alike (p .k) two)
 runs-power p (inr e) = rw e (size-alike (p .k) three)
+
+-- ---- the plan's factors, and what the helpers give of an accepted plan
+
+pub factors-two : (p : Plan) → p .levels ≡ 2 → factorsOf p ≡ replicate (p .k) two
+unfolding factorsOf
+factors-two p e = rw e refl
+
+pub factors-three : (p : Plan) → p .levels ≡ 3 → factorsOf p ≡ replicate (p .k) three
+unfolding factorsOf
+factors-three p e = rw e refl
+
+pub run-count : (p : Plan) → planNumber p ≡ 0 → runCount p ≡ runsOf p
+unfolding runCount
+run-count p e = let a = accepted p e in rw (levels-right a, factors-right a) refl
+
+pub confounded-is : (p : Plan) (w : ℕ) → planNumber p ≡ 0 → confoundedAccepted p w ≡ confoundedIn p w
+unfolding confoundedAccepted
+confounded-is p w e = rw (eq-eqb (planNumber p) 0 e) refl
+
+-- ---- the loop that multiplies
 
 pub power-room : (b i n : ℕ) → b ≤ 3 → i ≤ 10 → n ≡ b ^ i → n * b < 2 ^ 64
 power-room b i n hb hi e =

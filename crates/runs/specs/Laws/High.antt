@@ -1,10 +1,10 @@
--- Laws on runs.
+-- The letters that are high in a run.
 --
---   base-high     the base letters that are high in a run are those of its number
---   added-high    letter k + j is high where added factor j is
---   high-small, high-at          the set of high letters: its size, and each of its letters
---   high-base, high-added        a base letter, and the letter of an added factor
---   run-two       of an accepted plan of two levels only line 10 is left
+--   base-high                the base letters that are high in a run are those of its number
+--   added-high               letter k + j is high where added factor j is
+--   high-small, high-at      the set of high letters: its size, and each of its letters
+--   high-base, high-added    a base letter in it, and the letter of an added factor
+--   run-two                  of an accepted plan of two levels only line 10 is left
 use mathlib.Core.Path.{_≡_, refl, sym, _∙_, ap}
 use mathlib.Core.Logic.{inl}
 use mathlib.Core.Bool.{cond}
