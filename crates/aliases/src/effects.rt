@@ -1,7 +1,7 @@
 // The alias call: each added letter of an effect is replaced by its word.
 ghost use mathlib.Core.Path.{_≡_};
 ghost use mathlib.Core.Bool.{cond, _&&_};
-ghost use Prim.Native.Nat.{_+_, _/_, _%_, _^_, _≤_, _<_};
+ghost use Prim.Native.Nat.{_+_, _%_, _^_, _≤_, _<_};
 ghost use lib.Dec.{eqb};
 ghost use lib.ListN.{length, take};
 use super::types::Alias;
@@ -61,6 +61,7 @@ fn reduced(effect: u16, k: usize, added: usize, words: [u16; 6], signs: [u8; 6])
     Alias::Reduced { word, turned }
 }
 
+// The base word that the effect reduces to, and whether the sign turns.
 pub fn alias(p: Plan, effect: u16) -> Alias
     ensures { λ r. ⌜ aliasOutcome r ≡ outcome (aliasNumber p effect) (aliasValues p effect) ⌝ }
 {

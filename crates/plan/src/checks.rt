@@ -15,6 +15,7 @@ use words::is_repeated;
 ghost use Rattle.plan.specs.Outcome.{outcome, lowest};
 ghost use Rattle.plan.specs.Check.{badWords, wordLines, planNumber, checkOutcome};
 
+// Line 5, of the added words, the signs and the block words.
 fn bad_words(k: usize, words: &[u16], signs: &[u8], blocks: &[u16]) -> bool
     ensures { λ r. ⌜ r ≡ badWords k (now (words .entry)) (now (signs .entry)) (now (blocks .entry)) ⌝ }
 {
@@ -88,6 +89,7 @@ pub fn lowest(p: Plan) -> u8
     )
 }
 
+// Whether the plan is accepted, and the number of the refusal where it is not.
 pub fn check(p: Plan) -> Check
     ensures { λ r. ⌜ checkOutcome r ≡ outcome (planNumber p) tt ⌝ }
 {

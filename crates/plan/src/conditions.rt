@@ -10,6 +10,7 @@ ghost use Rattle.words.specs.Words.{any};
 ghost use Rattle.plan.specs.Plan.{combinesTo};
 ghost use Rattle.plan.specs.Check.{badLevels, badFactors, badCounts, badWord, badSign, factorWord, losesFactor};
 
+// Line 2.
 pub fn bad_levels(levels: u8) -> bool
     ensures { λ r. ⌜ r ≡ badLevels levels ⌝ }
 {
@@ -19,6 +20,7 @@ pub fn bad_levels(levels: u8) -> bool
     levels != 3
 }
 
+// Line 3.
 pub fn bad_factors(levels: u8, k: u8) -> bool
     ensures { λ r. ⌜ r ≡ badFactors levels k ⌝ }
 {
@@ -28,6 +30,7 @@ pub fn bad_factors(levels: u8, k: u8) -> bool
     if levels == 2 { 10 < k } else { 6 < k }
 }
 
+// Line 4.
 pub fn bad_counts(levels: u8, added: u8, blocks: u8) -> bool
     ensures { λ r. ⌜ r ≡ badCounts levels added blocks ⌝ }
 {
@@ -46,6 +49,7 @@ pub fn bad_counts(levels: u8, added: u8, blocks: u8) -> bool
     false
 }
 
+// Whether the word has a letter beyond k, or too few letters.
 fn bad_word(word: u16, k: usize, least: u32) -> bool
     ensures { λ r. ⌜ r ≡ badWord k least word ⌝ }
 {
@@ -68,6 +72,7 @@ pub fn any_bad_word(words: &[u16], k: usize, least: u32) -> bool
     false
 }
 
+// Whether a sign is neither 0 nor 1.
 pub fn any_bad_sign(signs: &[u8]) -> bool
     ensures { λ r. ⌜ r ≡ any badSign (now (signs .entry)) ⌝ }
 {

@@ -36,6 +36,7 @@ fn high_letters(run: u16, k: usize, words: &[u16], signs: &[u8]) -> u16
     high
 }
 
+// Bit j of a run's block is set when an odd number of the letters of block word j are high.
 fn block_number(run: u16, words: &[u16]) -> u8
     requires { ⌜ length (now words) ≤ 4 ⌝ }
     ensures { λ r. ⌜ r ≡ blockNumber (now (words .entry)) run ⌝ }
@@ -71,6 +72,7 @@ fn treatment(
     Run::Treatment { high, block }
 }
 
+// The letters that are high in the run of this number, and its block.
 pub fn run(p: Plan, number: usize) -> Run
     ensures { λ r. ⌜ runOutcome r ≡ outcome (runNumber p number) (runValues p number) ⌝ }
 {

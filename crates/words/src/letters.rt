@@ -2,6 +2,7 @@
 ghost use mathlib.Core.Path.{_≡_};
 ghost use Rattle.words.specs.Words.{has, beyond, letters, oddIn};
 
+// Whether letter i, 0 for A, stands in the word.
 pub fn has_letter(word: u16, i: usize) -> bool
     ensures { λ r. ⌜ r ≡ has word i ⌝ }
 {

@@ -5,6 +5,7 @@ ghost use lib.Bits.{bitXor};
 use super::letters::has_letter;
 ghost use Rattle.words.specs.Words.{among, repeated, combined};
 
+// Whether the word is one of the words.
 pub fn is_among(word: u16, words: &[u16]) -> bool
     ensures { λ r. ⌜ r ≡ among word (now (words .entry)) ⌝ }
 {
