@@ -1,25 +1,36 @@
 # Compares the stored outputs of the programs with what the reference files here make now. Exits with 1 at a difference.
 #
-#   crates/worked_plans/stdout   the plans of AMCP 706-112, Tables 12-3 and 12-4: amcp.py
+#   crates/worked_plans/stdout    the plans of AMCP 706-112, Tables 12-3 and 12-4: amcp.py
+#   crates/worked_totals/stdout   steps, totals and passes of the published examples: published.py, by factab.py
 
 import sys
 from pathlib import Path
 
 import amcp
+import published
 
 ROOT = Path(__file__).resolve().parent.parent
 
+# Each program with the reference file that makes what it must write.
+PROGRAMS = [
+    ("worked_plans", amcp),
+    ("worked_totals", published),
+]
+
 
 def stored_text(crate):
-    """What a program must write, as stored beside its sources."""
-    return (ROOT / "crates" / crate / "stdout").read_text()
+    """What a program must write, as stored beside its sources; None if nothing is stored."""
+    stored = ROOT / "crates" / crate / "stdout"
+    return stored.read_text() if stored.exists() else None
 
 
 def complaints():
-    """What is wrong: tables that do not hold together, and stored outputs that differ."""
-    found = ["AMCP 706-112: " + complaint for complaint in amcp.check()]
-    if stored_text("worked_plans") != amcp.expected_text():
-        found.append("crates/worked_plans/stdout differs from what reference/amcp.py makes")
+    """What is wrong: published figures that do not hold together, and stored outputs that differ."""
+    found = []
+    for crate, module in PROGRAMS:
+        found += ["reference/%s.py: %s" % (module.__name__, complaint) for complaint in module.check()]
+        if stored_text(crate) != module.expected_text():
+            found.append("crates/%s/stdout differs from what reference/%s.py makes" % (crate, module.__name__))
     return found
 
 

@@ -3,18 +3,19 @@
 --   part w start xs            the w entries of xs from the place start on
 --   length-part, getD-part     its length and its entries
 --   Cut w m new old            two lists of m parts of w entries each
---   Upto w m new old k s ys    ys has k parts of the new list, up to the place s, and then the old one's
+--   Upto w m new old start ys  ys has some parts of the new list, up to the place start, and then the old one's
 --   upto-none, upto-all        no part is done; all are
 --   as-long                    its length
---   room, room-now             the next part is a part of the old list, and of ys
+--   room, room-now             where start is a place, the next part is a part of the old list, and of ys
 --   next                       what is lent on is the old list's part
---   joined                     what comes back, if it is the new list's part, makes k + 1 parts
+--   joined                     what comes back, if it is the new list's part, makes one part more
 --
 -- A part from `start` to `start + w` has the width `start + w - start` where code lends it, and the laws speak of that width.
 use mathlib.Core.Path.{_≡_, refl, sym, _∙_}
 use mathlib.Core.List.{List, _++_, append-assoc, append-nil}
 use Prim.Native.Nat.{ℕ, _+_, _-_, _*_, _<_, _≤_}
 use native.Mathlib.Nat.{mul-le-mul-right, zero-mul}
+use native.Mathlib.Decide.{decLt}
 use native.Mathlib.Omega.{arith}
 use lib.ListN.{length, getD, take, drop, length-drop, length-append}
 use lib.Seq.{take-length, drop-length, length-take-le, getD-take, getD-drop, take-at, drop-at, drop-drop, take-add}
@@ -34,16 +35,17 @@ pub record Cut {A : Type 0} (w m : ℕ) (new old : List A) : Type 0 where
   pub whole : length old ≡ m * w
   pub same : length new ≡ length old
 
-pub record Upto {A : Type 0} (w m : ℕ) (new old : List A) (k start : ℕ) (ys : List A) : Type 0 where
-  pub some : k ≤ m
-  pub from : start ≡ k * w
+pub record Upto {A : Type 0} (w m : ℕ) (new old : List A) (start : ℕ) (ys : List A) : Type 0 where
+  pub parts : ℕ
+  pub some : parts ≤ m
+  pub from : start ≡ parts * w
   pub so : ys ≡ take start new ++ drop start old
 
 module _ {A : Type 0} {w m : ℕ} {new old : List A} (cut : Cut w m new old) where
-  pub upto-none : Upto w m new old 0 0 old
-  upto-none = record { some = omega arith; from = sym (zero-mul w); so = refl }
+  pub upto-none : Upto w m new old 0 old
+  upto-none = record { parts = 0; some = omega arith; from = sym (zero-mul w); so = refl }
 
-  module _ {k start : ℕ} {ys : List A} (u : Upto w m new old k start ys) where
+  module _ {start : ℕ} {ys : List A} (u : Upto w m new old start ys) where
     inside : start ≤ length old
     inside = omega (arith, cut .whole, u .from, mul-le-mul-right w (u .some))
 
@@ -59,12 +61,19 @@ module _ {A : Type 0} {w m : ℕ} {new old : List A} (cut : Cut w m new old) whe
     pub as-long : length ys ≡ length old
     as-long = rw (u .so, length-append, in-front, length-drop) (omega (arith, inside))
 
-    pub upto-all : k ≡ m → ys ≡ new
-    upto-all e =
-        let l : start ≡ length old = u .from ∙ rw e (sym (cut .whole)) in
+    pub upto-all : length ys ≤ start → ys ≡ new
+    upto-all h =
+        let l : start ≡ length old = omega (arith, inside, as-long) in
         u .so ∙ rw (l, drop-length, append-nil) (rw (← (cut .same)) (take-length new))
 
-    module _ (low : k < m) where
+    module _ (more : start < length ys) where
+      low : u .parts < m
+      low = by (decLt (u .parts) m)
+        where
+          by : Dec (u .parts < m) → u .parts < m
+          by (yes d) = d
+          by (no d) = absurd (let le : m ≤ u .parts = omega arith in omega (arith, cut .whole, u .from, as-long, mul-le-mul-right w le))
+
       pub room : start + w ≤ length old
       room = omega (arith, cut .whole, u .from, mul-le-mul-right w low)
 
@@ -74,14 +83,15 @@ module _ {A : Type 0} {w m : ℕ} {new old : List A} (cut : Cut w m new old) whe
       width : start + w - start ≡ w
       width = omega arith
 
-      pub next : part (start + w - start) start ys ≡ part w start old
-      next = rw (width, behind)
+      pub next : part (start + w - start) start ys ≡ part w (u .parts * w) old
+      next = rw (width, behind, u .from)
 
-      pub joined : (zs : List A) → zs ≡ part w start new
-          → Upto w m new old (k + 1) (start + w) (take start ys ++ (zs ++ drop (start + w - start) (drop start ys)))
+      pub joined : (zs : List A) → zs ≡ part w (u .parts * w) new
+          → Upto w m new old (start + w) (take start ys ++ (zs ++ drop (start + w - start) (drop start ys)))
       joined zs e =
           record {
-            some = omega arith;
+            parts = u .parts + 1;
+            some = omega (arith, low);
             from = omega (arith, u .from);
-            so = rw (width, before, behind, e, drop-drop, take-add, append-assoc);
+            so = rw (width, before, behind, e, ← (u .from), drop-drop, take-add, append-assoc);
           }

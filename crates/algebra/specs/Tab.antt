@@ -5,9 +5,10 @@
 --   getD-tab      its entry at i
 --   is-tab        a list of n entries that are those of f
 --   tab-cong      functions that agree below n
+--   getD-past     an entry past the end of a list
 use mathlib.Core.Path.{_≡_, refl, sym, _∙_, ap}
 use mathlib.Core.List.{List, [], _∷_}
-use Prim.Native.Nat.{ℕ, zero, suc, _+_, _<_}
+use Prim.Native.Nat.{ℕ, zero, suc, _+_, _<_, _≤_}
 use native.Mathlib.Nat.{add-suc, suc-add, add-zero, zero-add}
 use native.Mathlib.Omega.{arith}
 use lib.ListN.{length, getD}
@@ -47,3 +48,8 @@ module _ {A : Type 0} where
 
     pub tab-cong : (n : ℕ) (f g : ℕ → A) → ((i : ℕ) → i < n → f i ≡ g i) → tab n f ≡ tab n g
     tab-cong n f g h = is-tab (tab n f) n g (length-tab n f) (λ i k. getD-tab n f i k ∙ h i k)
+
+    pub getD-past : (xs : List A) (i : ℕ) → length xs ≤ i → getD xs i z ≡ z
+    getD-past [] i h = refl
+    getD-past (x ∷ xs) zero h = absurd (omega arith)
+    getD-past (x ∷ xs) (suc i) h = getD-past xs i (omega arith)

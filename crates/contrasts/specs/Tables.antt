@@ -12,6 +12,7 @@
 --   twoTable, threeTable, fourTable, fiveTable   the tables
 --   tables, table-lawful                         the four by their number, and that all are lawful
 --   two, three, four, five                       the factors
+--   ofLevels n                                   the factor of two levels, or that of three
 --
 -- The rows of two and three levels are those of "Totals and passes"; four and five levels are named by the request for mixed levels.
 use mathlib.Core.Path.{_≡_}
@@ -182,3 +183,7 @@ four = factorOf fourTable (table-lawful 2 (lit< tt))
 unfoldable pub five : Factor
 unfolding tables
 five = factorOf fiveTable (table-lawful 3 (lit< tt))
+
+-- the kind of a plan's base factors, which are alike
+abbrev pub ofLevels : ℕ → Factor
+ofLevels n = cond (eqb n 2) two three

@@ -6,19 +6,21 @@
 --   factorWord, losesFactor             line 8
 --   wordLines, planLines, planNumber    these lines; the lowest number that applies to a plan, 0 where it is accepted
 --   withPlan p lines                    the lowest number of a call that takes a plan and has further lines of its own
---   runCount p, confoundedAccepted p w  the number of runs, and whether the effect of w is confounded, for any plan
+--   runCount p, spacingAt p f           the number of runs, and the spacing of the factor at position f, for any plan
+--   confoundedAccepted p w              whether the effect of w is confounded, for any plan
 --   checkOutcome                        the cases of the check's answer
 use mathlib.Core.Bool.{Bool, false, not, cond, _||_}
 use mathlib.Core.List.{List, [], _∷_}
 use Prim.Native.Nat.{ℕ}
-use lib.Dec.{eqb, ltb}
+use lib.Dec.{eqb, leb, ltb}
 use Rattle.contrasts.specs.Limits.{mostTwo, mostThree}
+use Rattle.contrasts.specs.Laws.Stretches.{spacing}
 use Rattle.plan.specs.declared.types.Plan.{Plan}
 use Rattle.plan.specs.declared.types.Check.{Check}
 use Rattle.plan.specs.declared.types.Check.the-variants as check
 use Rattle.plan.specs.Outcome.{Line, line, lowest, Outcome, given, refused}
 use Rattle.words.specs.Words.{letters, beyond, any, among, repeated}
-use Rattle.plan.specs.Plan.{addedWords, addedSigns, blockWords, someCombination, combinesTo, confoundedIn, runsOf}
+use Rattle.plan.specs.Plan.{addedWords, addedSigns, blockWords, factorsOf, someCombination, combinesTo, confoundedIn, runsOf}
 
 -- ---- the conditions
 
@@ -90,6 +92,10 @@ confoundedAccepted p w = cond (eqb (planNumber p) 0) (confoundedIn p w) false
 -- the number of runs, and 0 where levels or k are out of range
 unfoldable pub runCount : Plan → ℕ
 runCount p = cond (badLevels (p .levels) || badFactors (p .levels) (p .k)) 0 (runsOf p)
+
+-- how far apart the values of the factor at position f lie, "levels to the power f", and 0 where there is none or `runCount` is 0
+unfoldable pub spacingAt : Plan → ℕ → ℕ
+spacingAt p f = cond (badLevels (p .levels) || badFactors (p .levels) (p .k)) 0 (cond (leb (p .k) f) 0 (spacing (factorsOf p) f))
 
 -- ---- the answer
 

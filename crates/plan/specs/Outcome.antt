@@ -3,6 +3,7 @@
 --   Line, lowest        a line of the table of refusals: its number, and whether its condition holds; the number of the first that holds
 --   Outcome, numberOf   a call's values, or the number of its refusal
 --   outcome n v         the answer of a call whose lowest number is n, and whose values are v where n is 0
+--   written n new old   what such a call leaves in a slice that it is lent to write
 use mathlib.Core.Bool.{Bool, cond}
 use mathlib.Core.List.{List, [], _∷_}
 use Prim.Native.Nat.{ℕ}
@@ -27,3 +28,7 @@ numberOf (refused n) = n
 
 abbrev pub outcome : {A : Type 0} → ℕ → A → Outcome A
 outcome n v = cond (eqb n 0) (given v) (refused n)
+
+-- "and no lent place changes"
+abbrev pub written : {A : Type 0} → ℕ → A → A → A
+written n new old = cond (eqb n 0) new old

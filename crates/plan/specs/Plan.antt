@@ -7,14 +7,14 @@
 --   someCombination ws f                        f holds of a combination of one or more of the words
 --   combinesTo w ws                             one of those combinations is w
 --   confoundedIn p w                            the effect of the word w is confounded
-use mathlib.Core.Bool.{Bool, cond, _&&_}
+use mathlib.Core.Bool.{Bool, _&&_}
 use mathlib.Core.List.{List}
 use Prim.Native.Nat.{ℕ, _+_, _^_}
 use lib.Dec.{eqb, ltb}
 use lib.ListN.{length, take, replicate}
 use Rattle.algebra.specs.Search.{some}
 use Rattle.contrasts.specs.Factor.{Factor}
-use Rattle.contrasts.specs.Tables.{two, three}
+use Rattle.contrasts.specs.Tables.{ofLevels}
 use Rattle.contrasts.specs.Totals.{size}
 use Rattle.plan.specs.declared.types.Plan.{Plan}
 use Rattle.words.specs.Words.{combined}
@@ -31,7 +31,7 @@ blockWords p = take (p .blocks) (p .blockwords)
 
 -- "k base factors", each of two levels, or each of three
 unfoldable pub factorsOf : Plan → List Factor
-factorsOf p = replicate (p .k) (cond (eqb (p .levels) 2) two three)
+factorsOf p = replicate (p .k) (ofLevels (p .levels))
 
 -- "There are N runs: levels to the power k."
 abbrev pub runsOf : Plan → ℕ

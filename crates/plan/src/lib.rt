@@ -4,6 +4,7 @@
 // and for the crates above, for any plan:
 //   lowest(p)             the number of the refusal, and 0 where the plan is accepted
 //   runs(p)               how many runs there are
+//   spacing(p, factor)    how far apart the values of a factor lie
 //   confounded(p, word)   whether the effect of a word is lost to blocks
 mod blocks;
 mod checks;
@@ -15,5 +16,6 @@ pub use blocks::confounded;
 pub use checks::check;
 pub use checks::lowest;
 pub use sizes::runs;
+pub use sizes::spacing;
 pub use types::Check;
 pub use types::Plan;

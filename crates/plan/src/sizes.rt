@@ -1,10 +1,10 @@
-// How many runs a plan has.
+// How many runs a plan has, and how far apart the values of a factor lie.
 ghost use mathlib.Core.Path.{_≡_};
 ghost use Prim.Native.Nat.{_^_, _≤_};
 use super::conditions::bad_factors;
 use super::conditions::bad_levels;
 use super::types::Plan;
-ghost use Rattle.plan.specs.Check.{runCount};
+ghost use Rattle.plan.specs.Check.{runCount, spacingAt};
 
 // The base multiplied k times.
 fn to_the_power(base: usize, k: usize) -> usize
@@ -31,4 +31,20 @@ pub fn runs(p: Plan) -> usize
         return 0;
     }
     to_the_power(p.levels as usize, p.k as usize)
+}
+
+// How many places apart the values of a factor lie in a column of runs, and 0 where there is no such factor or `runs` is 0.
+pub fn spacing(p: Plan, factor: usize) -> usize
+    ensures { λ r. ⌜ r ≡ spacingAt p factor ⌝ }
+{
+    if bad_levels(p.levels) {
+        return 0;
+    }
+    if bad_factors(p.levels, p.k) {
+        return 0;
+    }
+    if (p.k as usize) <= factor {
+        return 0;
+    }
+    to_the_power(p.levels as usize, factor)
 }

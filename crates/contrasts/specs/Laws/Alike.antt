@@ -1,7 +1,8 @@
 -- Plans whose k factors are alike, for any factor.
 --
 --   size-alike          N is levels to the power k
---   pass-alike          the values of the factor at position f lie levels to the power f apart
+--   spacing-alike       the values of the factor at position f lie levels to the power f apart
+--   pass-alike          so its pass is the factor's at that spacing
 --   denominator-alike   the denominator is the factor's to the power k
 --   divisor-fewer       j factors fewer: the divisor lacks the first row's divisor j times
 --   growth-alike        the growth of passes, by the reach of one
@@ -15,7 +16,7 @@ use Rattle.contrasts.specs.Factor.{Factor}
 use Rattle.contrasts.specs.Totals.{Column, size, passAt, pass, divisor*, denominator}
 use Rattle.contrasts.specs.Laws.Bounds.{reach, growth, widest}
 use Rattle.contrasts.specs.Laws.Divisors.{divisor-more}
-use Rattle.contrasts.specs.Laws.Stretches.{pass-is}
+use Rattle.contrasts.specs.Laws.Stretches.{spacing, pass-is}
 
 pub size-alike : (k : ℕ) (F : Factor) → size (replicate k F) ≡ F .levels ^ k
 unfolding size
@@ -27,10 +28,13 @@ take-alike zero k F h = refl
 take-alike (suc f) zero F h = absurd (omega arith)
 take-alike (suc f) (suc k) F h = rw (take-alike f k F (omega arith))
 
+pub spacing-alike : (k : ℕ) (F : Factor) (f : ℕ) → f < k → spacing (replicate k F) f ≡ F .levels ^ f
+spacing-alike k F f h = rw (take-alike f k F (omega arith)) (size-alike f F)
+
 pub pass-alike : (k : ℕ) (F : Factor) (f : ℕ) (x : Column) → f < k → pass (replicate k F) f x ≡ passAt (F .levels ^ f) F x
 pass-alike k F f x h =
     pass-is (replicate k F) f F x (omega (arith, length-replicate k F))
-    ∙ rw (take-alike f k F (omega arith), size-alike f F, getD-replicate k f F F h)
+    ∙ rw (spacing-alike k F f h, getD-replicate k f F F h)
 
 pub denominator-alike : (k : ℕ) (F : Factor) → denominator (replicate k F) ≡ F .common ^ k
 unfolding denominator

@@ -3,19 +3,26 @@
 --   tab-read         a list is the table of its column
 --   pass-over        the pass of a position is the pass of its factor at its spacing
 --   passes-list      passes over lists are passes over columns
+--   passes-more      one pass more
 --   order-list       calls that name each factor once, in any order, end as the totals
 --   steps-list       a step for each factor ends as the totals
+--   AllWithin M xs   no value of a list exceeds M in size
+--   within-upto, within-tab, within-part    it is enough to look at its places; so of a table, and of a part of a list
 use mathlib.Core.Path.{_≡_, refl, sym, _∙_}
 use mathlib.Core.List.{List, [], _∷_}
-use Prim.Native.Nat.{ℕ, _*_, _<_}
+use Prim.Native.Nat.{ℕ, zero, suc, _+_, _*_, _<_, _≤_}
 use native.Mathlib.Nat.{mul-one, mul-pos, mul-assoc}
+use native.Mathlib.Decide.{decLt}
+use native.Mathlib.Omega.{arith}
 use lib.Dec.{lit<}
-use lib.IntN.{ℤ, pos}
-use lib.ListN.{length, getD}
-use Rattle.algebra.specs.Tab.{tab, getD-tab, is-tab, tab-cong}
+use lib.IntN.{ℤ, pos, natAbs}
+use lib.ListN.{length, getD, take}
+use Rattle.algebra.specs.Parts.{part, length-part, getD-part}
+use Rattle.algebra.specs.Tab.{tab, length-tab, getD-tab, is-tab, tab-cong, getD-past}
 use Rattle.contrasts.specs.Columns.{read, totalsOf, passOf, passesOf, stepOf, stepsOf}
 use Rattle.contrasts.specs.Factor.{Factor}
 use Rattle.contrasts.specs.Totals.{Column, size, total, pass, passes, count, step, steps}
+use Rattle.contrasts.specs.Laws.Bounds.{Within}
 use Rattle.contrasts.specs.Laws.Digits.{size-pos, pass-cong}
 use Rattle.contrasts.specs.Laws.Order.{order}
 use Rattle.contrasts.specs.Laws.Steps.{step-cong, rotated, all-steps}
@@ -41,6 +48,13 @@ passes-list Fs [] xs x e = e
 passes-list Fs (f ∷ fs) xs x e =
     passes-list Fs fs (tab (size Fs) (pass Fs f (read xs))) (pass Fs f x)
     (tab-cong (pos 0) (size Fs) (pass Fs f (read xs)) (pass Fs f x) (pass-cong Fs f (read xs) x (read-of (size Fs) xs x e)))
+
+pub passes-more : (Fs : List Factor) (calls : List ℕ) (xs : List ℤ) (n : ℕ) → n < length calls
+    → passesOf Fs (take (suc n) calls) xs ≡ passOf Fs (getD calls n 0) (passesOf Fs (take n calls) xs)
+unfolding passesOf
+passes-more Fs [] xs n h = absurd (omega arith)
+passes-more Fs (f ∷ fs) xs zero h = refl
+passes-more Fs (f ∷ fs) xs (suc n) h = passes-more Fs fs (passOf Fs f xs) n (omega arith)
 
 pub order-list : (Fs : List Factor) (calls : List ℕ) (xs : List ℤ) → length xs ≡ size Fs → ((k : ℕ) → k < length Fs → count k calls ≡ 1)
     → passesOf Fs calls xs ≡ totalsOf Fs xs
@@ -73,3 +87,24 @@ unfolding totalsOf
 steps-list Fs xs e =
     steps-from (size Fs) 1 Fs xs (read xs) (lit< tt) (sym (mul-one (size Fs))) (tab-read xs (size Fs) e)
     ∙ tab-cong (pos 0) (size Fs) (steps (size Fs) Fs (read xs)) (total Fs (read xs)) (λ i p. all-steps Fs (read xs) i p)
+
+-- ---- sizes
+
+-- a place past the end reads as 0
+abbrev pub AllWithin : ℕ → List ℤ → Type 0
+AllWithin M xs = (i : ℕ) → natAbs (read xs i) ≤ M
+
+pub within-upto : (M : ℕ) (xs : List ℤ) → ((i : ℕ) → i < length xs → natAbs (read xs i) ≤ M) → AllWithin M xs
+within-upto M xs h i = by (decLt i (length xs))
+  where
+    by : Dec (i < length xs) → natAbs (read xs i) ≤ M
+    by (yes k) = h i k
+    by (no k) = rw (getD-past (pos 0) xs i (omega arith)) (omega arith)
+
+pub within-tab : (n M : ℕ) (x : Column) → Within n M x → AllWithin M (tab n x)
+within-tab n M x h = within-upto M (tab n x) (λ i k. let k′ : i < n = rw (length-tab n x) at k in rw (getD-tab (pos 0) n x i k′) (h i k′))
+
+pub within-part : (w start M : ℕ) (xs : List ℤ) → start + w ≤ length xs → AllWithin M xs → AllWithin M (part w start xs)
+within-part w start M xs room h =
+    within-upto M (part w start xs)
+    (λ i k. let k′ : i < w = rw (length-part w start xs room) at k in rw (getD-part w start xs (pos 0) i k′) (h (start + i)))

@@ -6,19 +6,21 @@
 --   count-take       a beginning of a list calls no position more often
 --   after            any calls that repeat no factor leave the mixed column of those called
 --   after-each       and so does every beginning of the list of calls
+--   inOrder k        the calls of the first k positions, one after the other; each is named once (in-order)
 --   order            THE ORDER THEOREM: calls that name each factor once, in any order, with any other numbers among them, end as the totals
 use mathlib.Core.Path.{_≡_, refl, sym, _∙_, ap, fun-ext}
 use mathlib.Core.List.{List, [], _∷_}
 use Prim.Native.Nat.{ℕ, zero, suc, _+_, _*_, _/_, _%_, _<_, _≤_}
 use native.Mathlib.Nat.{mod-lt, div-add-mod', add-zero}
 use native.Mathlib.Omega.{arith}
-use native.Mathlib.Decide.{decLt}
+use native.Mathlib.Decide.{decLt, ℕ-discrete}
 use borrow.Author.Tests.{eq-eqb, ne-eqb}
 use lib.Arith.{digits-div, digits-mod, lt-one}
 use lib.ListN.{length, take}
 use lib.IntN.{ℤ, _*ℤ_}
 use Rattle.algebra.specs.Ring.{ac*}
 use Rattle.algebra.specs.Sum.{Σ, Σ-cong, Σ-ext, Σ-mul, Σ-swap}
+use Rattle.algebra.specs.Tab.{tab, tabFrom}
 use Rattle.contrasts.specs.Factor.{Factor}
 use Rattle.contrasts.specs.Totals.{Column, size, total, digitAt, withDigit, passAt, passFrom, pass, passes, hit, count}
 use Rattle.contrasts.specs.Laws.Digits.{level, rest-lt, total-nil, total-cons, pass-zero, pass-suc, pass-beyond}
@@ -173,3 +175,25 @@ pub order : (Fs : List Factor) (calls : List ℕ) (x : Column) (i : ℕ) → ((k
     → i < size Fs → passes Fs calls x i ≡ total Fs x i
 order Fs calls x i h p =
     after Fs calls x i (λ k l. omega (arith, h k l)) ∙ mixed-all Fs (λ k. count k calls) x i h p
+
+-- ---- one such list
+
+abbrev pub inOrder : ℕ → List ℕ
+inOrder k = tab k (λ i. i)
+
+none-from : (s n j : ℕ) → j < s → count j (tabFrom s n (λ i. i)) ≡ 0
+unfolding count tabFrom
+none-from s zero j h = refl
+none-from s (suc n) j h = omega (arith, hit-other j s (λ e. omega arith), none-from (suc s) n j (omega arith))
+
+once-from : (s n j : ℕ) → s ≤ j → j < s + n → count j (tabFrom s n (λ i. i)) ≡ 1
+unfolding count tabFrom
+once-from s zero j h l = absurd (omega arith)
+once-from s (suc n) j h l = by (ℕ-discrete j s) (once-from (suc s) n j)
+  where
+    by : Dec (j ≡ s) → (suc s ≤ j → j < suc s + n → count j (tabFrom (suc s) n (λ i. i)) ≡ 1) → hit j s + count j (tabFrom (suc s) n (λ i. i)) ≡ 1
+    by (yes e) r = rw e (omega (arith, hit-same s, none-from (suc s) n s (omega arith)))
+    by (no e) r = omega (arith, hit-other j s e, r (omega arith) (omega arith))
+
+pub in-order : (k j : ℕ) → j < k → count j (inOrder k) ≡ 1
+in-order k j h = once-from 0 k j (omega arith) (omega arith)

@@ -21,6 +21,7 @@ use Rattle.contrasts.specs.Limits.{mostTwo, mostThree}
 use Rattle.plan.specs.declared.types.Plan.{Plan}
 use Rattle.words.specs.Words.{letters, beyond, any, among, repeated, combined}
 use Rattle.plan.specs.Plan.{addedWords, addedSigns, blockWords, combinesTo, confoundedIn}
+use Rattle.plan.specs.Laws.Answers.{passed}
 use Rattle.plan.specs.Laws.Combinations.{the-combination, each-fails}
 use Rattle.plan.specs.Check.{badLevels, badFactors, badCounts, badWord, badSign, badWords, dependent, factorWord, losesFactor, planNumber}
 
@@ -89,10 +90,6 @@ pub record Accepted (p : Plan) : Type 0 where
   pub apart : (i j : ℕ) → i < j → j < length (addedWords p) → getD (addedWords p) i 0 ≡ getD (addedWords p) j 0 → ⊥
   -- a confounded effect is neither empty nor one letter nor an added factor's word
   pub lost : (w : ℕ) → confoundedIn p w ≡ true → (w ≡ 0 → ⊥) × (letters w ≡ 1 → ⊥) × (among w (addedWords p) ≡ false)
-
-passed : (b : Bool) (n m : ℕ) → 0 < n → cond b n m ≡ 0 → (b ≡ false) × (m ≡ 0)
-passed true n m h e = absurd (omega (arith, h, e))
-passed false n m h e = (refl, e)
 
 -- ---- what lines 5 to 8 say of the words
 

@@ -3,7 +3,10 @@
 --   two-levels                    an accepted plan that has not three levels has two
 --   runs-power                    there are levels to the power k runs
 --   factors-two, factors-three    its base factors, by its levels
---   run-count, confounded-is      what `runs` and `confounded` give of an accepted plan
+--   plan-kind                     the factor of the plan's levels has so many
+--   plan-within                   its totals, and all values on the way, are within the limits
+--   spacing-power                 the values of the factor at position f lie levels to the power f apart
+--   run-count, spacing-is, confounded-is    what `runs`, `spacing` and `confounded` give of an accepted plan
 --   power-room, power-more        the loop that multiplies
 use mathlib.Core.Path.{_≡_, refl}
 use mathlib.Core.Logic.{_⊎_, inl, inr}
@@ -11,13 +14,16 @@ use Prim.Native.Nat.{ℕ, _+_, _*_, _^_, _<_, _≤_}
 use native.Mathlib.Nat.{le-trans, mul-le-mul-left, pow-le-pow-left, pow-le-pow-right, pow-suc}
 use native.Mathlib.Numerals.{add-one}
 use native.Mathlib.Omega.{arith}
+use lib.Dec.{T}
 use lib.ListN.{replicate}
-use borrow.Author.Tests.{eq-eqb}
-use Rattle.contrasts.specs.Tables.{two, three}
-use Rattle.contrasts.specs.Laws.Alike.{size-alike}
+use borrow.Author.Tests.{eq-eqb, lt-leb}
+use Rattle.contrasts.specs.Tables.{two, three, ofLevels}
+use Rattle.contrasts.specs.Laws.Alike.{size-alike, spacing-alike}
+use Rattle.contrasts.specs.Laws.Limits.{withinLimits, two-within, three-within}
+use Rattle.contrasts.specs.Laws.Stretches.{spacing}
 use Rattle.plan.specs.declared.types.Plan.{Plan}
 use Rattle.plan.specs.Plan.{factorsOf, runsOf, confoundedIn}
-use Rattle.plan.specs.Check.{planNumber, runCount, confoundedAccepted}
+use Rattle.plan.specs.Check.{planNumber, runCount, spacingAt, confoundedAccepted}
 use Rattle.plan.specs.Laws.Accepted.{accepted}
 use Rattle.plan.specs.Laws.Accepts.{levels-right, factors-right}
 
@@ -33,6 +39,11 @@ unfolding factorsOf two three
 runs-power p (inl e) = rw e (size-alike (p .k) two)
 runs-power p (inr e) = rw e (size-alike (p .k) three)
 
+pub spacing-power : (p : Plan) (f : ℕ) → (p .levels ≡ 2) ⊎ (p .levels ≡ 3) → f < p .k → spacing (factorsOf p) f ≡ p .levels ^ f
+unfolding factorsOf two three
+spacing-power p f (inl e) h = rw e (spacing-alike (p .k) two f h)
+spacing-power p f (inr e) h = rw e (spacing-alike (p .k) three f h)
+
 -- ---- the plan's factors, and what the helpers give of an accepted plan
 
 pub factors-two : (p : Plan) → p .levels ≡ 2 → factorsOf p ≡ replicate (p .k) two
@@ -43,9 +54,28 @@ pub factors-three : (p : Plan) → p .levels ≡ 3 → factorsOf p ≡ replicate
 unfolding factorsOf
 factors-three p e = rw e refl
 
+kind-of : (n : ℕ) → (n ≡ 2) ⊎ (n ≡ 3) → ofLevels n .levels ≡ n
+unfolding two three
+kind-of n (inl e) = rw e refl
+kind-of n (inr e) = rw e refl
+
+pub plan-kind : (p : Plan) → planNumber p ≡ 0 → ofLevels (p .levels) .levels ≡ p .levels
+plan-kind p e = kind-of (p .levels) (accepted p e .levels)
+
+pub plan-within : (p : Plan) → planNumber p ≡ 0 → T (withinLimits (ofLevels (p .levels)) (p .k))
+plan-within p e = by (accepted p e .levels)
+  where
+    by : (p .levels ≡ 2) ⊎ (p .levels ≡ 3) → T (withinLimits (ofLevels (p .levels)) (p .k))
+    by (inl d) = rw d (two-within (p .k) (accepted p e .factors .1))
+    by (inr d) = rw d (three-within (p .k) (accepted p e .factors .2 d))
+
 pub run-count : (p : Plan) → planNumber p ≡ 0 → runCount p ≡ runsOf p
 unfolding runCount
 run-count p e = let a = accepted p e in rw (levels-right a, factors-right a) refl
+
+pub spacing-is : (p : Plan) (f : ℕ) → planNumber p ≡ 0 → f < p .k → spacingAt p f ≡ spacing (factorsOf p) f
+unfolding spacingAt
+spacing-is p f e h = let a = accepted p e in rw (levels-right a, factors-right a, lt-leb (p .k) f h) refl
 
 pub confounded-is : (p : Plan) (w : ℕ) → planNumber p ≡ 0 → confoundedAccepted p w ≡ confoundedIn p w
 unfolding confoundedAccepted

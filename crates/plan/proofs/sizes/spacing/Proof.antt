@@ -1,0 +1,25 @@
+use mathlib.Core.Path.{refl, sym, _∙_}
+use native.Mathlib.Omega.{arith}
+use borrow.Author.Needs.{needs}
+use borrow.Author.Tests.{le-leb, lt-leb}
+use Rattle.plan.specs.Check.{spacingAt}
+use Rattle.plan.specs.Laws.Accepted.{levels-known, levels-small, factors-known, at-most-ten}
+use Rattle.plan.specs.Laws.Sizes.{spacing-power}
+use Rattle.algebra.specs.Tests.{is}
+use Rattle.plan.proofs.sizes.spacing.Statement.{statement}
+use Rattle.plan.proofs.sizes.spacing.Tie as tie
+
+pub spacing-spec : {M : Type 1} → statement M
+unfolding spacingAt
+spacing-spec =
+    tie.close
+    (tie.spec
+    (λ c κs. search needs)
+    (λ c. rw (is (c .before .bad-levels .ensures) (c .if1 .taken)) refl)
+    (λ c κs. search needs)
+    (λ c. rw (is (c .before .before .before .bad-levels .ensures) (c .before .before .if1 .left), is (c .before .bad-factors .ensures) (c .if2 .taken)) refl)
+    (λ c. search needs)
+    (λ c. rw (is (c .before .before .before .before .before .bad-levels .ensures) (c .before .before .before .before .if1 .left), is (c .before .before .before .bad-factors .ensures) (c .before .before .if2 .left), le-leb _ _ (c .if3 .taken)) refl)
+    (λ c. search needs)
+    (λ c κs. (levels-small _ (is (c .before .before .before .before .before .before .bad-levels .ensures) (c .before .before .before .before .before .if1 .left)), omega (arith, c .before .if3 .left, at-most-ten _ (factors-known _ _ (is (c .before .before .before .before .bad-factors .ensures) (c .before .before .before .if2 .left)) .1))))
+    (λ c. rw (is (c .before .before .before .before .before .before .before .bad-levels .ensures) (c .before .before .before .before .before .before .if1 .left), is (c .before .before .before .before .before .bad-factors .ensures) (c .before .before .before .before .if2 .left), lt-leb _ _ (c .before .before .if3 .left)) (c .to-the-power .ensures ∙ sym (spacing-power _ _ (levels-known _ (is (c .before .before .before .before .before .before .before .bad-levels .ensures) (c .before .before .before .before .before .before .if1 .left))) (c .before .before .if3 .left)))))

@@ -1,0 +1,9 @@
+-- What the pass, the step and the totals call promise, and laws that callers cite.
+--
+--   Calls      the calls' answers and columns
+--   Ready      what the inner functions ask of their columns
+--   Examples   small columns, computed
+--   Laws       laws on the calls
+pub mod Calls
+pub mod Ready
+pub mod Laws

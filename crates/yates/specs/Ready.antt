@@ -1,0 +1,48 @@
+-- What the inner functions ask of the columns that they are lent.
+--
+--   Stretch levels h xs        xs is one stretch of a factor whose values lie h apart
+--   Stretches levels h xs      xs is one or more of them
+--   Sets levels n from to      two columns of n sets of successive values
+--   Readings levels k xs       the readings of a plan of k factors
+--   Alike xs ys                two columns of one length
+use mathlib.Core.Path.{_≡_}
+use mathlib.Core.List.{List}
+use Prim.Native.Nat.{ℕ, _*_, _<_, _^_}
+use lib.Dec.{T}
+use lib.IntN.{ℤ}
+use lib.ListN.{length}
+use Rattle.contrasts.specs.Limits.{readingLimit, valueLimit}
+use Rattle.contrasts.specs.Tables.{ofLevels}
+use Rattle.contrasts.specs.Laws.Limits.{withinLimits}
+use Rattle.contrasts.specs.Laws.Lists.{AllWithin}
+
+pub record Stretch (levels h : ℕ) (xs : List ℤ) : Type 0 where
+  pub kind : ofLevels levels .levels ≡ levels
+  pub some : 0 < h
+  pub whole : length xs ≡ levels * h
+  pub within : AllWithin valueLimit xs
+
+pub record Stretches (levels h : ℕ) (xs : List ℤ) : Type 0 where
+  pub kind : ofLevels levels .levels ≡ levels
+  pub some : 0 < h
+  pub count : ℕ
+  pub more : 0 < count
+  pub whole : length xs ≡ count * (levels * h)
+  pub within : AllWithin valueLimit xs
+
+pub record Sets (levels n : ℕ) (from to : List ℤ) : Type 0 where
+  pub kind : ofLevels levels .levels ≡ levels
+  pub some : 0 < n
+  pub whole : length from ≡ levels * n
+  pub same : length to ≡ levels * n
+  pub within : AllWithin valueLimit from
+
+pub record Readings (levels k : ℕ) (xs : List ℤ) : Type 0 where
+  pub kind : ofLevels levels .levels ≡ levels
+  pub admitted : T (withinLimits (ofLevels levels) k)
+  pub whole : length xs ≡ levels ^ k
+  pub within : AllWithin readingLimit xs
+
+pub record Alike (xs ys : List ℤ) : Type 0 where
+  pub some : 0 < length xs
+  pub same : length xs ≡ length ys

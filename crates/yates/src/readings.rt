@@ -1,0 +1,75 @@
+// The totals call: from readings to the totals of all effects, by the passes of all factors.
+ghost use mathlib.Core.Path.{_≡_};
+ghost use lib.ListN.{replicate};
+use super::limits::any_reading_beyond;
+use super::stretches::pass_over;
+use super::types::Answer;
+use plan::Plan;
+use plan::lowest;
+use plan::runs;
+ghost use Rattle.contrasts.specs.Columns.{totalsOf};
+ghost use Rattle.contrasts.specs.Tables.{ofLevels};
+ghost use Rattle.plan.specs.Outcome.{outcome};
+ghost use Rattle.yates.specs.Calls.{totalsNumber, totalsColumn, answerOutcome};
+ghost use Rattle.yates.specs.Ready.{Alike, Readings};
+
+// The readings as the values of a column.
+fn copy(readings: &[i32], column: &mut [i64])
+    requires { ⌜ Alike (now readings) (now column) ⌝ }
+    ensures { λ _. ⌜ now (column .exit) ≡ now (readings .entry) ⌝ }
+{
+    let mut i = 0;
+    while i < readings.len() {
+        column[i] = readings[i] as i64;
+        i += 1;
+    }
+}
+
+// The passes of all factors, A first.
+fn all_passes(levels: usize, k: usize, column: &mut [i64])
+    requires { ⌜ Readings levels k (now column) ⌝ }
+    ensures { λ _. ⌜ now (column .exit) ≡ totalsOf (replicate k (ofLevels levels)) (now (column .entry)) ⌝ }
+{
+    let mut spacing = 1;
+    let mut f = 0;
+    while f < k {
+        pass_over(levels, spacing, column);
+        spacing *= levels;
+        f += 1;
+    }
+}
+
+// The lowest number that applies, and 0 where none does.
+fn totals_number(p: Plan, readings: &[i32], totals: &[i64]) -> u8
+    ensures { λ r. ⌜ r ≡ totalsNumber p (now (readings .entry)) (now (totals .entry)) ⌝ }
+{
+    let n = lowest(p);
+    if n != 0 {
+        return n;
+    }
+    let runs = runs(p);
+    if readings.len() != runs {
+        return 11;
+    }
+    if totals.len() != runs {
+        return 11;
+    }
+    if any_reading_beyond(readings) {
+        return 12;
+    }
+    0
+}
+
+// The totals of all effects.
+pub fn totals(p: Plan, readings: &[i32], totals: &mut [i64]) -> Answer
+    ensures { λ r. ⌜ answerOutcome r ≡ outcome (totalsNumber p (now (readings .entry)) (now (totals .entry))) tt ⌝ }
+    ensures { λ _. ⌜ now (totals .exit) ≡ totalsColumn p (now (readings .entry)) (now (totals .entry)) ⌝ }
+{
+    let n = totals_number(p, readings, totals);
+    if n != 0 {
+        return Answer::Refused(n);
+    }
+    copy(readings, totals);
+    all_passes(p.levels as usize, p.k as usize, totals);
+    Answer::Done
+}

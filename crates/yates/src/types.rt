@@ -1,0 +1,6 @@
+// What the calls of this crate answer; what they make is in the column that the caller lent.
+
+pub enum Answer {
+    Done,
+    Refused(u8),
+}

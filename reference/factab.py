@@ -1,0 +1,229 @@
+# Reference program for factorial tables: the rules of the specification, computed straight from their wording.
+#
+# It is written apart from the proved program and shares nothing with it. Where that program works by passes in one
+# column, this one adds up reading times coefficient over all runs, so that an error of a pass cannot be in both.
+#
+# Names: a plan has levels (2 or 3), k base factors, added factors (word, sign) and block words. N is levels to the
+# power k. A run or an effect is a number below N whose digits, lowest first, belong to the factors A, B, C and so on;
+# a run's digit is the factor's level, an effect's digit chooses a coefficient row. A word is a set of base letters,
+# bit 0 for A.
+#
+# Defined here:
+#   Plan                                  a plan as a caller hands it in
+#   COEFFICIENTS, DIVISORS                coefficient rows and divisors of one factor, by levels
+#   run_count, digits                     N, and the digits of a run or effect number
+#   coefficient, total, totals            totals by the definition
+#   step, steps                           the report's own step, and the columns after 1 to k of them
+#   divisor, denominator, numerator       an effect's part of the sum of squares, in whole numbers
+#   check_number                          what the totals must add up to, from the readings
+#   letter_count, combine, confounded     words of a plan
+#   plan_answer                           the plan check: 0, or the lowest of 2 to 8 that applies
+#   pass_answer, step_answer, totals_answer   the answers of these calls: 0, or the lowest number that applies
+
+from collections import namedtuple
+from itertools import combinations
+
+# added is a list of pairs (word, sign), blocks a list of words.
+Plan = namedtuple("Plan", "levels k added blocks", defaults=((), ()))
+
+COEFFICIENTS = {
+    2: ((1, 1), (1, -1)),
+    3: ((1, 1, 1), (1, 0, -1), (1, -2, 1)),
+}
+DIVISORS = {2: (2, 2), 3: (3, 2, 6)}
+
+MOST_FACTORS = {2: 10, 3: 6}
+MOST_ADDED = 6
+MOST_BLOCK_WORDS = 4
+MOST_READING = 100_000
+MOST_VALUE = 409_600_000
+
+DONE = 0
+
+
+# ---- runs and effects ----
+
+def run_count(levels, k):
+    """N, the number of runs and of effects."""
+    return levels ** k
+
+
+def digits(levels, k, number):
+    """The k digits of a run or effect number, that of factor A first."""
+    return [number // levels ** factor % levels for factor in range(k)]
+
+
+# ---- totals by the definition ----
+
+def coefficient(levels, k, effect, run):
+    """Product over the factors: the effect's digit chooses the row, the run's digit the number in it."""
+    product = 1
+    for row, place in zip(digits(levels, k, effect), digits(levels, k, run)):
+        product *= COEFFICIENTS[levels][row][place]
+    return product
+
+
+def total(levels, k, readings, effect):
+    """Sum over all runs of reading times coefficient."""
+    return sum(reading * coefficient(levels, k, effect, run) for run, reading in enumerate(readings))
+
+
+def totals(levels, k, readings):
+    """The totals of all effects, in the order of their numbers."""
+    return [total(levels, k, readings, effect) for effect in range(run_count(levels, k))]
+
+
+# ---- the report's own step ----
+
+def step(levels, column):
+    """A new column: of each successive set of values all sums first, then all differences, then the third combinations."""
+    sets = [column[start:start + levels] for start in range(0, len(column), levels)]
+    return [sum(factor * value for factor, value in zip(row, values)) for row in COEFFICIENTS[levels] for values in sets]
+
+
+def steps(levels, k, column):
+    """The columns after 1, 2, ..., k steps."""
+    columns = []
+    for _ in range(k):
+        column = step(levels, column)
+        columns.append(column)
+    return columns
+
+
+# ---- sums of squares in whole numbers, and the check number ----
+
+def divisor(levels, k, effect):
+    """The number by which the square of an effect's total is divided."""
+    product = 1
+    for row in digits(levels, k, effect):
+        product *= DIVISORS[levels][row]
+    return product
+
+
+def denominator(levels, k):
+    """The common denominator: 2 or 6 to the power k."""
+    return (2 if levels == 2 else 6) ** k
+
+
+def numerator(levels, k, effect, own_total):
+    """An effect's total squared times denominator over divisor."""
+    return own_total ** 2 * (denominator(levels, k) // divisor(levels, k, effect))
+
+
+def check_number(levels, k, readings):
+    """What the totals add up to: N times the first reading, at three levels what k rounds leave."""
+    if levels == 2:
+        return run_count(levels, k) * readings[0]
+    column = list(readings)
+    for _ in range(k):
+        column = [3 * column[start] - column[start + 1] + column[start + 2] for start in range(0, len(column), 3)]
+    return column[0]
+
+
+# ---- words ----
+
+def letter_count(word):
+    """The number of letters of a word."""
+    return bin(word).count("1")
+
+
+def combine(words):
+    """The letters that occur an odd number of times in the words."""
+    combined = 0
+    for word in words:
+        combined ^= word
+    return combined
+
+
+def confounded(blocks):
+    """All combinations of one or more block words."""
+    return [combine(chosen) for count in range(1, len(blocks) + 1) for chosen in combinations(blocks, count)]
+
+
+# ---- the plan check ----
+
+def too_many(plan):
+    """Number 4: over 6 added factors, over 4 block words, or either at three levels."""
+    return (len(plan.added) > MOST_ADDED or len(plan.blocks) > MOST_BLOCK_WORDS
+            or plan.levels == 3 and bool(plan.added or plan.blocks))
+
+
+def bad_word(plan):
+    """Number 5: a letter beyond k, an added word under two letters, a sign over 1, an empty block word."""
+    words = [word for word, _ in plan.added] + list(plan.blocks)
+    return (any(word >> plan.k for word in words)
+            or any(letter_count(word) < 2 or sign > 1 for word, sign in plan.added)
+            or 0 in plan.blocks)
+
+
+def equal_added(plan):
+    """Number 6: two added factors with one word."""
+    words = [word for word, _ in plan.added]
+    return len(set(words)) < len(words)
+
+
+def dependent_blocks(plan):
+    """Number 7: some one or more block words combine to the empty word."""
+    return 0 in confounded(plan.blocks)
+
+
+def lost_factor(plan):
+    """Number 8: a confounded effect is one letter or an added factor's word."""
+    added = [word for word, _ in plan.added]
+    return any(letter_count(word) == 1 or word in added for word in confounded(plan.blocks))
+
+
+def plan_answer(plan):
+    """0 for an accepted plan, else the lowest of 2 to 8 that applies."""
+    if plan.levels not in COEFFICIENTS:
+        return 2
+    if not 1 <= plan.k <= MOST_FACTORS[plan.levels]:
+        return 3
+    for number, applies in ((4, too_many), (5, bad_word), (6, equal_added), (7, dependent_blocks), (8, lost_factor)):
+        if applies(plan):
+            return number
+    return DONE
+
+
+# ---- the answers of the calls ----
+
+def wrong_length(plan, columns):
+    """Number 11: a column that does not have N places."""
+    return any(len(column) != run_count(plan.levels, plan.k) for column in columns)
+
+
+def beyond(column, limit):
+    """Number 12: a value beyond the limit either way."""
+    return any(abs(value) > limit for value in column)
+
+
+def pass_answer(plan, factor, column):
+    """The pass of a factor: 2 to 8, 10, 11, 12, or 0."""
+    refused = plan_answer(plan)
+    if refused:
+        return refused
+    if not 0 <= factor < plan.k:
+        return 10
+    if wrong_length(plan, [column]):
+        return 11
+    return 12 if beyond(column, MOST_VALUE) else DONE
+
+
+def step_answer(plan, column, new_column):
+    """The step from one column to another: 2 to 8, 11, 12, or 0."""
+    refused = plan_answer(plan)
+    if refused:
+        return refused
+    if wrong_length(plan, [column, new_column]):
+        return 11
+    return 12 if beyond(column, MOST_VALUE) else DONE
+
+
+def totals_answer(plan, readings, column):
+    """The totals of the readings, written to a column: 2 to 8, 11, 12, or 0."""
+    refused = plan_answer(plan)
+    if refused:
+        return refused
+    if wrong_length(plan, [readings, column]):
+        return 11
+    return 12 if beyond(readings, MOST_READING) else DONE
