@@ -7,7 +7,9 @@
 --   square                   a a is the square of the size
 --   fits                     a size below 2 ^ 63 fits an i64
 --   wrap, back               an i64 as code holds it, as bits and read again, is the number
-use mathlib.Core.Path.{_≡_, refl}
+--   kept                     so of one that is read from a slice
+--   widened, widened-fits    an i32 that is read from a slice, as an i64
+use mathlib.Core.Path.{_≡_, refl, _∙_}
 use mathlib.Core.Bool.{Bool, true, false, cond}
 use Prim.Native.Nat.{ℕ, zero, suc, _+_, _*_, _-_, _^_, _<_, _≤_}
 use native.Mathlib.Nat.{le-refl}
@@ -16,7 +18,7 @@ use lib.Dec.{ltb}
 use lib.IntN.{ℤ, pos, negsuc, negℤ, _+ℤ_, _-ℤ_, _*ℤ_, natAbs}
 use lib.Signed.{mag}
 use mir.Facts.{toZ-ofZ}
-use mir.Syntax.{w64}
+use mir.Syntax.{w32, w64}
 use mir.Val.{SFits, toZ, ofZ}
 use Rattle.algebra.specs.Sum.{Σ}
 use Rattle.algebra.specs.Naturals.{Σℕ}
@@ -69,3 +71,15 @@ wrap z = toZ w64 (ofZ w64 z)
 
 pub back : (z : ℤ) → natAbs z < 2 ^ 63 → wrap z ≡ z
 back z h = toZ-ofZ (fits z h)
+
+pub kept : (z : ℤ) → mag z < 2 ^ 63 → wrap z ≡ z
+kept z h = toZ-ofZ {w = w64} {z = z} (record { sfits = h })
+
+narrow : (z : ℤ) → mag z < 2 ^ 31 → toZ w32 (ofZ w32 z) ≡ z
+narrow z h = toZ-ofZ {w = w32} {z = z} (record { sfits = h })
+
+pub widened-fits : (z : ℤ) → mag z < 2 ^ 31 → SFits w64 (toZ w32 (ofZ w32 z))
+widened-fits z h = rw (narrow z h) (record { sfits = omega (arith, h) })
+
+pub widened : (z : ℤ) → mag z < 2 ^ 31 → wrap (toZ w32 (ofZ w32 z)) ≡ z
+widened z h = toZ-ofZ (widened-fits z h) ∙ narrow z h

@@ -15,6 +15,8 @@
 --   TwoLevels    two levels, in the words of the rules
 --   ThreeLevels  three levels, in the words of the rules
 --   Limits       what readings within their limit come to
+--   Kinds        the number of levels, and the factor of so many
+--   Turns        a turn of a loop over sets of values: its sums fit, and it writes what the rows say
 pub mod Digits
 pub mod Order
 pub mod Steps
@@ -30,3 +32,5 @@ pub mod Alike
 pub mod TwoLevels
 pub mod ThreeLevels
 pub mod Limits
+pub mod Kinds
+pub mod Turns

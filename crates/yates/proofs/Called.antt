@@ -2,14 +2,13 @@
 --
 --   in-stretches                     a column of levels to the power k is stretches of the factor at position f
 --   pass-ready, pass-made            the pass call
---   step-ready, step-made            the step call
 --   totals-alike, totals-ready       the totals call
 --   AllPassed levels k xs s f ys     ys is xs after the passes of the first f factors, and the next one's values lie s apart
 --   all-none, all-ready, all-more, all-done    before the first pass, before each, after each, after the last
 use mathlib.Core.Path.{_≡_, refl, sym, _∙_, ap}
-use mathlib.Core.List.{List, [], _∷_}
-use Prim.Native.Nat.{ℕ, suc, _+_, _-_, _*_, _/_, _^_, _<_, _≤_}
-use native.Mathlib.Nat.{pow-succ', pow-suc, pow-zero, one-le-pow, mul-div-right, pow-le-pow-right}
+use mathlib.Core.List.{List}
+use Prim.Native.Nat.{ℕ, suc, _+_, _-_, _*_, _^_, _<_, _≤_}
+use native.Mathlib.Nat.{pow-succ', pow-suc, pow-zero, one-le-pow, pow-le-pow-right}
 use native.Mathlib.Numerals.{add-one}
 use native.Mathlib.Omega.{arith}
 use lib.IntN.{ℤ}
@@ -17,29 +16,26 @@ use lib.Pow.{pow-add}
 use lib.ListN.{length, replicate, length-replicate, getD-replicate, take}
 use lib.Seq.{take-length}
 use Rattle.algebra.specs.Tab.{tab, length-tab, getD-tab}
-use Rattle.contrasts.specs.Columns.{read, passOf, passesOf, stepOf, totalsOf}
-use Rattle.contrasts.specs.Factor.{Factor}
+use Rattle.contrasts.specs.Columns.{read, passOf, passesOf, totalsOf}
 use Rattle.contrasts.specs.Limits.{readingLimit, valueLimit}
 use Rattle.contrasts.specs.Tables.{ofLevels}
 use Rattle.contrasts.specs.Totals.{size, passes, count}
 use Rattle.contrasts.specs.Laws.Alike.{size-alike, spacing-alike}
+use Rattle.contrasts.specs.Laws.Kinds.{some-levels}
 use Rattle.contrasts.specs.Laws.Limits.{values-fit}
 use Rattle.contrasts.specs.Laws.Lists.{AllWithin, tab-read, pass-over, passes-list, passes-more, order-list, within-tab}
 use Rattle.contrasts.specs.Laws.Order.{inOrder, in-order}
-use Rattle.contrasts.specs.Laws.Stretches.{spacing, passOver}
+use Rattle.contrasts.specs.Laws.Stretches.{passOver}
 use Rattle.plan.specs.declared.types.Plan.{Plan}
-use Rattle.plan.specs.Check.{planNumber, spacingAt}
-use Rattle.plan.specs.Plan.{factorsOf, runsOf}
+use Rattle.plan.specs.Check.{spacingAt}
+use Rattle.plan.specs.Plan.{factorsOf}
 use Rattle.plan.specs.Laws.Accepted.{accepted}
-use Rattle.plan.specs.Laws.Sizes.{runs-power, spacing-power, spacing-is, plan-kind, plan-within}
-use Rattle.yates.specs.Laws.Admitted.{PassAdmitted, Columns}
-use Rattle.yates.specs.Ready.{Stretches, Sets, Readings, Alike}
+use Rattle.plan.specs.Laws.Sizes.{as-power, spacing-power, spacing-is, plan-kind, plan-within}
+use Rattle.columns.specs.Laws.Admitted.{Columns}
+use Rattle.yates.specs.Laws.Admitted.{PassAdmitted}
+use Rattle.yates.specs.Ready.{Stretches, Readings, Alike}
 
 -- ---- columns of levels to the power k
-
--- of a factor's levels
-some-levels : (l : ℕ) → ofLevels l .levels ≡ l → 0 < l
-some-levels l kind = rw (← kind) (ofLevels l .some-level)
 
 pub in-stretches : (l f k s : ℕ) (xs : List ℤ) → ofLevels l .levels ≡ l → f < k → s ≡ l ^ f → length xs ≡ l ^ k → AllWithin valueLimit xs
     → Stretches l s xs
@@ -58,15 +54,12 @@ in-stretches l f k s xs kind low apart whole within =
 
 -- ---- the pass
 
-power-of : (p : Plan) → planNumber p ≡ 0 → {n : ℕ} → n ≡ runsOf p → n ≡ p .levels ^ p .k
-power-of p ok e = e ∙ runs-power p (accepted p ok .levels)
-
 module _ {p : Plan} {f : ℕ} {xs : List ℤ} (a : PassAdmitted p f xs) {s : ℕ} (e : s ≡ spacingAt p f) where
   pub pass-ready : Stretches (p .levels) s xs
   pass-ready =
       in-stretches (p .levels) f (p .k) s xs (plan-kind p (a .plan)) (a .base)
       (e ∙ spacing-is p f (a .plan) (a .base) ∙ spacing-power p f (accepted p (a .plan) .levels) (a .base))
-      (power-of p (a .plan) (a .whole)) (a .within)
+      (as-power p (a .plan) (a .whole)) (a .within)
 
   pub pass-made : {ys : List ℤ} → ys ≡ passOver s (ofLevels (p .levels)) xs → ys ≡ passOf (factorsOf p) f xs
   unfolding factorsOf
@@ -76,43 +69,13 @@ module _ {p : Plan} {f : ℕ} {xs : List ℤ} (a : PassAdmitted p f xs) {s : ℕ
       pass-over (factorsOf p) f (ofLevels (p .levels)) xs (a .whole) (rw (length-replicate (p .k) (ofLevels (p .levels))) (a .base))
       ∙ rw (getD-replicate (p .k) f (ofLevels (p .levels)) (ofLevels (p .levels)) (a .base)) refl))
 
--- ---- the step
-
-module _ {p : Plan} {from to : List ℤ} (a : Columns valueLimit p from to) {l : ℕ} (e : p .levels ≡ l) where
-  kind : ofLevels l .levels ≡ l
-  kind = rw (← e) (plan-kind p (a .plan))
-
-  -- the number of runs, as sets of successive values
-  in-sets : length from ≡ l * l ^ (p .k - 1)
-  in-sets =
-      power-of p (a .plan) (a .whole)
-      ∙ rw (e, ← (pow-succ' l (p .k - 1))) (ap (λ n. l ^ n) (omega (arith, accepted p (a .plan) .factors .0)))
-
-  sets-are : length from / l ≡ l ^ (p .k - 1)
-  sets-are = rw in-sets (mul-div-right (l ^ (p .k - 1)) (some-levels l kind))
-
-  pub step-ready : Sets l (length from / l) from to
-  step-ready =
-      rw sets-are
-      (record {
-        kind = kind;
-        some = one-le-pow (p .k - 1) l (some-levels l kind);
-        whole = in-sets;
-        same = a .same ∙ sym (a .whole) ∙ in-sets;
-        within = a .within;
-      })
-
-  pub step-made : {F : Factor} → ofLevels (p .levels) ≡ F → {ys : List ℤ} → ys ≡ stepOf (length from) F from
-      → ys ≡ stepOf (runsOf p) (ofLevels (p .levels)) from
-  step-made d m = m ∙ rw (a .whole, d) refl
-
 -- ---- the totals
 
 module _ {p : Plan} {readings totals : List ℤ} (a : Columns readingLimit p readings totals) where
   pub totals-alike : Alike readings totals
   totals-alike =
       record {
-        some = rw (power-of p (a .plan) (a .whole)) (one-le-pow (p .k) (p .levels) (some-levels (p .levels) (plan-kind p (a .plan))));
+        some = rw (as-power p (a .plan) (a .whole)) (one-le-pow (p .k) (p .levels) (some-levels (p .levels) (plan-kind p (a .plan))));
         same = a .whole ∙ sym (a .same);
       }
 
@@ -121,7 +84,7 @@ module _ {p : Plan} {readings totals : List ℤ} (a : Columns readingLimit p rea
       record {
         kind = plan-kind p (a .plan);
         admitted = plan-within p (a .plan);
-        whole = power-of p (a .plan) (a .whole);
+        whole = as-power p (a .plan) (a .whole);
         within = a .within;
       }
 

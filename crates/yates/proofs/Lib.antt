@@ -1,12 +1,8 @@
--- Laws of the loops.
+-- Laws of the loops and of the calls.
 --
---   Rows       a turn at two and at three levels: its sums fit, and it writes what the rows say
---   Worked     the turns of a stretch and of a step
---   Searched   the search for a value beyond a limit
---   Passed     the loop over the stretches of a column
---   Called     what the calls hand to the inner functions
-pub mod Rows
+--   Worked   the turns of a copy, and of a stretch
+--   Passed   the loop over the stretches of a column
+--   Called   what the calls hand to the inner functions
 pub mod Worked
-pub mod Searched
 pub mod Passed
 pub mod Called

@@ -7,7 +7,7 @@
 --   room, room-now, shorter         the next stretch is within the column, and what is left is shorter
 --   next-stretch                    what is lent on is a stretch
 --   passing-more                    what comes back makes one stretch more
-use mathlib.Core.Path.{_≡_, refl, sym, _∙_, ap}
+use mathlib.Core.Path.{_≡_, _∙_, ap}
 use mathlib.Core.List.{List, _++_}
 use Prim.Native.Nat.{ℕ, _+_, _-_, _*_, _<_, _≤_}
 use native.Mathlib.Nat.{mul-le-mul-right, mul-pos}

@@ -1,31 +1,27 @@
--- The turns of a copy, of a stretch of a pass, and of a step. The column of a stretch is worked in place, that of a step is another one.
+-- The turns of a copy, and of a stretch of a pass.
 --
 --   copy-begun, copied, copy-ended   before the first turn of a copy, a turn, and after the last
 --   stretch-begun, stretch-ended     before the first turn of a stretch, and after the last
 --   still                            the values of the next turn are those of the stretch as it came
 --   stretch-small                    and they are small
 --   stretch-two, stretch-three       a turn
---   step-begun, step-ended           the same of a step
---   step-small
---   step-two, step-three
 use mathlib.Core.Path.{_≡_, refl, sym, _∙_, ap}
 use mathlib.Core.List.{List}
 use Prim.Native.Nat.{ℕ, _+_, _*_, _<_, _≤_}
-use native.Mathlib.Nat.{add-comm, one-mul}
+use native.Mathlib.Nat.{one-mul}
 use native.Mathlib.Omega.{arith}
 use lib.Dec.{lit<}
 use lib.IntN.{ℤ, pos, _+ℤ_, _-ℤ_, _*ℤ_}
 use lib.ListN.{length, set}
 use Rattle.algebra.specs.Size.{wrap}
 use Rattle.algebra.specs.Spread.{Turned, begun, ended, unread, opened, put, closed}
-use Rattle.contrasts.specs.Columns.{read, stepOf}
+use Rattle.contrasts.specs.Columns.{read}
 use Rattle.contrasts.specs.Tables.{two, three, ofLevels}
-use Rattle.contrasts.specs.Totals.{passAt, step}
+use Rattle.contrasts.specs.Totals.{passAt}
 use Rattle.contrasts.specs.Laws.Lists.{tab-read}
-use Rattle.contrasts.specs.Laws.Steps.{step-value}
 use Rattle.contrasts.specs.Laws.Stretches.{passOver, stretch-value}
-use Rattle.yates.specs.Ready.{Stretch, Sets, Alike}
-use Rattle.yates.proofs.Rows.{Small, turn-two, turn-three}
+use Rattle.yates.specs.Ready.{Stretch, Alike}
+use Rattle.contrasts.specs.Laws.Turns.{Small, turn-two, turn-three}
 
 -- ---- a copy
 
@@ -101,41 +97,3 @@ module _ {h : ℕ} {xs : List ℤ} (pre : Stretch 3 h xs) {i : ℕ} {ys : List �
       turn-three w low (λ j. read xs (i + j * h)) (λ d k. stretch-value h three (read xs) d i k low)
       (still pre w low 0 (lit< tt) i (omega arith)) (still pre w low 1 (lit< tt) (i + h) (omega arith)) (still pre w low 2 (lit< tt) (i + 2 * h) refl)
       (triple .0) (triple .1) (triple .2)
-
--- ---- a step
-
-abbrev pub Stepped : ℕ → ℕ → List ℤ → List ℤ → ℕ → List ℤ → Type 0
-Stepped levels n from to i ys = Turned levels n (step (levels * n) (ofLevels levels) (read from)) (read to) i ys
-
-module _ {levels n : ℕ} {from to : List ℤ} (pre : Sets levels n from to) where
-  pub step-begun : Stepped levels n from to 0 to
-  step-begun = begun (pos 0) to (pre .same) (λ p _. refl)
-
-  module _ {i : ℕ} {ys : List ℤ} (w : Stepped levels n from to i ys) where
-    pub step-ended : n ≤ i → ys ≡ stepOf (levels * n) (ofLevels levels) from
-    unfolding stepOf
-    step-ended k = let e : i ≡ n = omega (arith, w .some) in ended (pos 0) w (pre .some) e
-
-  pub small-from : (m : ℕ) → Small (read from m)
-  small-from m = record { small = pre .within m }
-
-module _ {n : ℕ} {from to : List ℤ} (pre : Sets 2 n from to) {i : ℕ} {ys : List ℤ} (w : Stepped 2 n from to i ys) (low : i < n) where
-  pub step-two : Stepped 2 n from to (i + 1)
-      (set (set ys i (wrap (wrap (read from (2 * i)) +ℤ wrap (read from (2 * i + 1))))) (i + n) (wrap (wrap (read from (2 * i)) -ℤ wrap (read from (2 * i + 1)))))
-  unfolding two
-  step-two =
-      turn-two w low (λ j. read from (i * 2 + j))
-      (λ d k. ap (step (2 * n) two (read from)) (add-comm i (d * n)) ∙ step-value two n (read from) d i low)
-      (ap (read from) (omega arith)) (ap (read from) (omega arith)) (small-from pre (2 * i)) (small-from pre (2 * i + 1))
-
-module _ {n : ℕ} {from to : List ℤ} (pre : Sets 3 n from to) {i : ℕ} {ys : List ℤ} (w : Stepped 3 n from to i ys) (low : i < n) where
-  pub step-three : Stepped 3 n from to (i + 1)
-      (set (set (set ys i (wrap (wrap (wrap (read from (3 * i)) +ℤ wrap (read from (3 * i + 1))) +ℤ wrap (read from (3 * i + 2)))))
-      (i + n) (wrap (wrap (read from (3 * i)) -ℤ wrap (read from (3 * i + 2)))))
-      (i + 2 * n) (wrap (wrap (wrap (read from (3 * i)) -ℤ wrap (pos 2 *ℤ wrap (read from (3 * i + 1)))) +ℤ wrap (read from (3 * i + 2)))))
-  unfolding three
-  step-three =
-      turn-three w low (λ j. read from (i * 3 + j))
-      (λ d k. ap (step (3 * n) three (read from)) (add-comm i (d * n)) ∙ step-value three n (read from) d i low)
-      (ap (read from) (omega arith)) (ap (read from) (omega arith)) (ap (read from) (omega arith))
-      (small-from pre (3 * i)) (small-from pre (3 * i + 1)) (small-from pre (3 * i + 2))

@@ -1,9 +1,10 @@
--- What the pass, the step and the totals call promise, and laws that callers cite.
+-- What the pass and the totals call promise, and laws that callers cite.
 --
---   Calls      the calls' answers and columns
+--   Calls      the calls' numbers and columns
 --   Ready      what the inner functions ask of their columns
 --   Examples   small columns, computed
 --   Laws       laws on the calls
 pub mod Calls
 pub mod Ready
+pub mod Examples
 pub mod Laws

@@ -2,7 +2,6 @@
 --
 --   Stretch levels h xs        xs is one stretch of a factor whose values lie h apart
 --   Stretches levels h xs      xs is one or more of them
---   Sets levels n from to      two columns of n sets of successive values
 --   Readings levels k xs       the readings of a plan of k factors
 --   Alike xs ys                two columns of one length
 use mathlib.Core.Path.{_≡_}
@@ -29,13 +28,6 @@ pub record Stretches (levels h : ℕ) (xs : List ℤ) : Type 0 where
   pub more : 0 < count
   pub whole : length xs ≡ count * (levels * h)
   pub within : AllWithin valueLimit xs
-
-pub record Sets (levels n : ℕ) (from to : List ℤ) : Type 0 where
-  pub kind : ofLevels levels .levels ≡ levels
-  pub some : 0 < n
-  pub whole : length from ≡ levels * n
-  pub same : length to ≡ levels * n
-  pub within : AllWithin valueLimit from
 
 pub record Readings (levels k : ℕ) (xs : List ℤ) : Type 0 where
   pub kind : ofLevels levels .levels ≡ levels

@@ -1,16 +1,14 @@
 // Totals of effects: the pass and the report's step over a column that the caller lends, and all totals at once from the readings.
 //
 //   pass(p, factor, column)       the pass of one factor, in place
-//   step(p, from, to)             the report's own step, from one column to another
+//   step(p, from, to)             the report's own step, from one column to another: of the crate `steps`
 //   totals(p, readings, totals)   the totals of all effects
-mod limits;
+//   Answer                        what they answer: of the crate `columns`
 mod passes;
 mod readings;
-mod steps;
 mod stretches;
-mod types;
 
+pub use columns::Answer;
 pub use passes::pass;
 pub use readings::totals;
 pub use steps::step;
-pub use types::Answer;

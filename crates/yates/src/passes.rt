@@ -1,14 +1,15 @@
 // The pass call.
 ghost use mathlib.Core.Path.{_≡_};
-use super::limits::any_value_beyond;
 use super::stretches::pass_over;
-use super::types::Answer;
+use columns::Answer;
+use columns::any_value_beyond;
 use plan::Plan;
 use plan::lowest;
 use plan::runs;
 use plan::spacing;
 ghost use Rattle.plan.specs.Outcome.{outcome};
-ghost use Rattle.yates.specs.Calls.{passNumber, passColumn, answerOutcome};
+ghost use Rattle.columns.specs.Lines.{answerOutcome};
+ghost use Rattle.yates.specs.Calls.{passNumber, passColumn};
 
 // The lowest number that applies, and 0 where none does.
 fn pass_number(p: Plan, factor: usize, column: &[i64]) -> u8

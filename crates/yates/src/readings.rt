@@ -1,16 +1,15 @@
 // The totals call: from readings to the totals of all effects, by the passes of all factors.
 ghost use mathlib.Core.Path.{_≡_};
 ghost use lib.ListN.{replicate};
-use super::limits::any_reading_beyond;
 use super::stretches::pass_over;
-use super::types::Answer;
+use columns::Answer;
+use columns::readings_number;
 use plan::Plan;
-use plan::lowest;
-use plan::runs;
 ghost use Rattle.contrasts.specs.Columns.{totalsOf};
 ghost use Rattle.contrasts.specs.Tables.{ofLevels};
 ghost use Rattle.plan.specs.Outcome.{outcome};
-ghost use Rattle.yates.specs.Calls.{totalsNumber, totalsColumn, answerOutcome};
+ghost use Rattle.columns.specs.Lines.{answerOutcome};
+ghost use Rattle.yates.specs.Calls.{totalsNumber, totalsColumn};
 ghost use Rattle.yates.specs.Ready.{Alike, Readings};
 
 // The readings as the values of a column.
@@ -39,33 +38,12 @@ fn all_passes(levels: usize, k: usize, column: &mut [i64])
     }
 }
 
-// The lowest number that applies, and 0 where none does.
-fn totals_number(p: Plan, readings: &[i32], totals: &[i64]) -> u8
-    ensures { λ r. ⌜ r ≡ totalsNumber p (now (readings .entry)) (now (totals .entry)) ⌝ }
-{
-    let n = lowest(p);
-    if n != 0 {
-        return n;
-    }
-    let runs = runs(p);
-    if readings.len() != runs {
-        return 11;
-    }
-    if totals.len() != runs {
-        return 11;
-    }
-    if any_reading_beyond(readings) {
-        return 12;
-    }
-    0
-}
-
 // The totals of all effects.
 pub fn totals(p: Plan, readings: &[i32], totals: &mut [i64]) -> Answer
     ensures { λ r. ⌜ answerOutcome r ≡ outcome (totalsNumber p (now (readings .entry)) (now (totals .entry))) tt ⌝ }
     ensures { λ _. ⌜ now (totals .exit) ≡ totalsColumn p (now (readings .entry)) (now (totals .entry)) ⌝ }
 {
-    let n = totals_number(p, readings, totals);
+    let n = readings_number(p, readings, totals);
     if n != 0 {
         return Answer::Refused(n);
     }

@@ -4,8 +4,8 @@ ghost use Rattle.contrasts.specs.Tables.{two, three, ofLevels};
 ghost use Rattle.contrasts.specs.Laws.Stretches.{passOver};
 ghost use Rattle.yates.specs.Ready.{Stretch, Stretches};
 
-// A stretch at two levels: first and second become their sum, and first minus second.
-fn stretch_two(part: &mut [i64], spacing: usize)
+// The pairs of a stretch at two levels: first and second become their sum, and first minus second.
+fn work_pairs(part: &mut [i64], spacing: usize)
     requires { ⌜ Stretch 2 spacing (now part) ⌝ }
     ensures { λ _. ⌜ now (part .exit) ≡ passOver spacing two (now (part .entry)) ⌝ }
 {
@@ -20,8 +20,8 @@ fn stretch_two(part: &mut [i64], spacing: usize)
     }
 }
 
-// A stretch at three levels: first, middle and third become their sum, first minus third, and first minus twice middle plus third.
-fn stretch_three(part: &mut [i64], spacing: usize)
+// The triples of a stretch at three levels: first, middle and third become their sum, first minus third, and first minus twice middle plus third.
+fn work_triples(part: &mut [i64], spacing: usize)
     requires { ⌜ Stretch 3 spacing (now part) ⌝ }
     ensures { λ _. ⌜ now (part .exit) ≡ passOver spacing three (now (part .entry)) ⌝ }
 {
@@ -36,6 +36,34 @@ fn stretch_three(part: &mut [i64], spacing: usize)
         part[j] = first - third;
         part[k] = first - 2 * middle + third;
         i += 1;
+    }
+}
+
+// A stretch at two levels. The shortest ones are calls by themselves, in which the spacing is a number, and are compiled without a loop.
+fn stretch_two(part: &mut [i64], spacing: usize)
+    requires { ⌜ Stretch 2 spacing (now part) ⌝ }
+    ensures { λ _. ⌜ now (part .exit) ≡ passOver spacing two (now (part .entry)) ⌝ }
+{
+    if spacing == 1 {
+        work_pairs(part, 1);
+    } else if spacing == 2 {
+        work_pairs(part, 2);
+    } else {
+        work_pairs(part, spacing);
+    }
+}
+
+// A stretch at three levels, likewise.
+fn stretch_three(part: &mut [i64], spacing: usize)
+    requires { ⌜ Stretch 3 spacing (now part) ⌝ }
+    ensures { λ _. ⌜ now (part .exit) ≡ passOver spacing three (now (part .entry)) ⌝ }
+{
+    if spacing == 1 {
+        work_triples(part, 1);
+    } else if spacing == 3 {
+        work_triples(part, 3);
+    } else {
+        work_triples(part, spacing);
     }
 }
 

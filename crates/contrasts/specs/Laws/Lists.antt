@@ -4,26 +4,31 @@
 --   pass-over        the pass of a position is the pass of its factor at its spacing
 --   passes-list      passes over lists are passes over columns
 --   passes-more      one pass more
+--   pass-past        a pass of a position that there is not
 --   order-list       calls that name each factor once, in any order, end as the totals
 --   steps-list       a step for each factor ends as the totals
+--   steps-alike      steps of k factors that are alike, over lists and over columns
+--   steps-more       one step more
 --   AllWithin M xs   no value of a list exceeds M in size
 --   within-upto, within-tab, within-part    it is enough to look at its places; so of a table, and of a part of a list
-use mathlib.Core.Path.{_≡_, refl, sym, _∙_}
+use mathlib.Core.Path.{_≡_, refl, sym, _∙_, ap}
 use mathlib.Core.List.{List, [], _∷_}
-use Prim.Native.Nat.{ℕ, zero, suc, _+_, _*_, _<_, _≤_}
+use Prim.Native.Nat.{ℕ, zero, suc, _+_, _-_, _*_, _^_, _<_, _≤_}
 use native.Mathlib.Nat.{mul-one, mul-pos, mul-assoc}
 use native.Mathlib.Decide.{decLt}
 use native.Mathlib.Omega.{arith}
 use lib.Dec.{lit<}
 use lib.IntN.{ℤ, pos, natAbs}
-use lib.ListN.{length, getD, take}
+use lib.ListN.{length, getD, take, replicate}
+use lib.Pow.{pow-add}
 use Rattle.algebra.specs.Parts.{part, length-part, getD-part}
 use Rattle.algebra.specs.Tab.{tab, length-tab, getD-tab, is-tab, tab-cong, getD-past}
 use Rattle.contrasts.specs.Columns.{read, totalsOf, passOf, passesOf, stepOf, stepsOf}
 use Rattle.contrasts.specs.Factor.{Factor}
 use Rattle.contrasts.specs.Totals.{Column, size, total, pass, passes, count, step, steps}
+use Rattle.contrasts.specs.Laws.Alike.{size-alike}
 use Rattle.contrasts.specs.Laws.Bounds.{Within}
-use Rattle.contrasts.specs.Laws.Digits.{size-pos, pass-cong}
+use Rattle.contrasts.specs.Laws.Digits.{size-pos, pass-cong, pass-beyond}
 use Rattle.contrasts.specs.Laws.Order.{order}
 use Rattle.contrasts.specs.Laws.Steps.{step-cong, rotated, all-steps}
 use Rattle.contrasts.specs.Laws.Stretches.{spacing, passOver, pass-is}
@@ -56,6 +61,10 @@ passes-more Fs [] xs n h = absurd (omega arith)
 passes-more Fs (f ∷ fs) xs zero h = refl
 passes-more Fs (f ∷ fs) xs (suc n) h = passes-more Fs fs (passOf Fs f xs) n (omega arith)
 
+pub pass-past : (Fs : List Factor) (f : ℕ) (xs : List ℤ) → length xs ≡ size Fs → length Fs ≤ f → passOf Fs f xs ≡ xs
+unfolding passOf
+pass-past Fs f xs e h = rw (pass-beyond 1 Fs f (read xs) h) (sym (tab-read xs (size Fs) e))
+
 pub order-list : (Fs : List Factor) (calls : List ℕ) (xs : List ℤ) → length xs ≡ size Fs → ((k : ℕ) → k < length Fs → count k calls ≡ 1)
     → passesOf Fs calls xs ≡ totalsOf Fs xs
 unfolding totalsOf
@@ -87,6 +96,22 @@ unfolding totalsOf
 steps-list Fs xs e =
     steps-from (size Fs) 1 Fs xs (read xs) (lit< tt) (sym (mul-one (size Fs))) (tab-read xs (size Fs) e)
     ∙ tab-cong (pos 0) (size Fs) (steps (size Fs) Fs (read xs)) (total Fs (read xs)) (λ i p. all-steps Fs (read xs) i p)
+
+pub steps-alike : (k t : ℕ) (F : Factor) (xs : List ℤ) → t ≤ k → length xs ≡ size (replicate k F)
+    → stepsOf (size (replicate k F)) (replicate t F) xs ≡ tab (size (replicate k F)) (steps (size (replicate k F)) (replicate t F) (read xs))
+steps-alike k t F xs h e =
+    steps-from (size (replicate k F)) (size (replicate (k - t) F)) (replicate t F) xs (read xs) (size-pos (replicate (k - t) F)) whole
+    (tab-read xs (size (replicate k F)) e)
+  where
+    whole : size (replicate k F) ≡ size (replicate t F) * size (replicate (k - t) F)
+    whole =
+        rw (size-alike k F, size-alike t F, size-alike (k - t) F, ← (pow-add (F .levels) t (k - t)))
+        (ap (λ n. F .levels ^ n) (omega arith))
+
+pub steps-more : (N : ℕ) (F : Factor) (n : ℕ) (xs : List ℤ) → stepsOf N (replicate (suc n) F) xs ≡ stepOf N F (stepsOf N (replicate n F) xs)
+unfolding stepsOf
+steps-more N F zero xs = refl
+steps-more N F (suc n) xs = steps-more N F n (stepOf N F xs)
 
 -- ---- sizes
 

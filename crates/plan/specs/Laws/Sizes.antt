@@ -1,14 +1,14 @@
 -- The factors and the runs of an accepted plan.
 --
 --   two-levels                    an accepted plan that has not three levels has two
---   runs-power                    there are levels to the power k runs
+--   runs-power, as-power          there are levels to the power k runs
 --   factors-two, factors-three    its base factors, by its levels
 --   plan-kind                     the factor of the plan's levels has so many
 --   plan-within                   its totals, and all values on the way, are within the limits
 --   spacing-power                 the values of the factor at position f lie levels to the power f apart
 --   run-count, spacing-is, confounded-is    what `runs`, `spacing` and `confounded` give of an accepted plan
 --   power-room, power-more        the loop that multiplies
-use mathlib.Core.Path.{_≡_, refl}
+use mathlib.Core.Path.{_≡_, refl, _∙_}
 use mathlib.Core.Logic.{_⊎_, inl, inr}
 use Prim.Native.Nat.{ℕ, _+_, _*_, _^_, _<_, _≤_}
 use native.Mathlib.Nat.{le-trans, mul-le-mul-left, pow-le-pow-left, pow-le-pow-right, pow-suc}
@@ -19,6 +19,7 @@ use lib.ListN.{replicate}
 use borrow.Author.Tests.{eq-eqb, lt-leb}
 use Rattle.contrasts.specs.Tables.{two, three, ofLevels}
 use Rattle.contrasts.specs.Laws.Alike.{size-alike, spacing-alike}
+use Rattle.contrasts.specs.Laws.Kinds.{kind-of}
 use Rattle.contrasts.specs.Laws.Limits.{withinLimits, two-within, three-within}
 use Rattle.contrasts.specs.Laws.Stretches.{spacing}
 use Rattle.plan.specs.declared.types.Plan.{Plan}
@@ -44,6 +45,10 @@ unfolding factorsOf two three
 spacing-power p f (inl e) h = rw e (spacing-alike (p .k) two f h)
 spacing-power p f (inr e) h = rw e (spacing-alike (p .k) three f h)
 
+-- the length of a column of N
+pub as-power : (p : Plan) → planNumber p ≡ 0 → {n : ℕ} → n ≡ runsOf p → n ≡ p .levels ^ p .k
+as-power p ok e = e ∙ runs-power p (accepted p ok .levels)
+
 -- ---- the plan's factors, and what the helpers give of an accepted plan
 
 pub factors-two : (p : Plan) → p .levels ≡ 2 → factorsOf p ≡ replicate (p .k) two
@@ -53,11 +58,6 @@ factors-two p e = rw e refl
 pub factors-three : (p : Plan) → p .levels ≡ 3 → factorsOf p ≡ replicate (p .k) three
 unfolding factorsOf
 factors-three p e = rw e refl
-
-kind-of : (n : ℕ) → (n ≡ 2) ⊎ (n ≡ 3) → ofLevels n .levels ≡ n
-unfolding two three
-kind-of n (inl e) = rw e refl
-kind-of n (inr e) = rw e refl
 
 pub plan-kind : (p : Plan) → planNumber p ≡ 0 → ofLevels (p .levels) .levels ≡ p .levels
 plan-kind p e = kind-of (p .levels) (accepted p e .levels)

@@ -1,0 +1,198 @@
+/* Times the calls of crates/exported beside plain C (plain.c), compiled with -O3 and with -O3 -march=native, in one run.
+
+   Passes: a column is set from the readings, and the pass of each factor is called on it; the setting is counted, on every side alike.
+   Totals: one call, from the readings to the totals of all effects.
+   First every side must give the same answers and columns, also where it refuses. Then the sides take turns in short batches, so that other
+   work on the machine falls on all of them; a side's time is that of its fastest batch.
+
+   Writes a line for each call and plan: call, levels, k, N, and the ns of each side. Exit status: 0, and 2 where the sides differ. */
+#define _POSIX_C_SOURCE 200809L
+#include <stdint.h>
+#include <stdio.h>
+#include <stdlib.h>
+#include <string.h>
+#include <time.h>
+
+typedef uint8_t pass_call(uint8_t levels, uint8_t k, size_t factor, int64_t *column, size_t length);
+typedef uint8_t totals_call(uint8_t levels, uint8_t k, const int32_t *readings, size_t readings_length, int64_t *totals, size_t totals_length);
+
+pass_call yates_pass, plain_yates_pass, native_yates_pass;
+totals_call yates_totals, plain_yates_totals, native_yates_totals;
+
+enum { RATTLE, PLAIN, NATIVE, SIDES };
+static pass_call *const passes[SIDES] = {yates_pass, plain_yates_pass, native_yates_pass};
+static totals_call *const totals[SIDES] = {yates_totals, plain_yates_totals, native_yates_totals};
+
+enum { MOST = 1024, ROOM = MOST + 1, BATCHES = 30, BATCH_NS = 500000 };
+static const int64_t READING_LIMIT = 100000, VALUE_LIMIT = 409600000;
+
+/* One place of each for all sides, so that none has a better one. */
+static _Alignas(64) int32_t readings[ROOM];
+static _Alignas(64) int64_t values[ROOM], column[ROOM];
+
+static size_t runs_of(unsigned levels, unsigned k)
+{
+    size_t n = 1;
+    while (k-- > 0)
+        n *= levels;
+    return n;
+}
+
+/* Readings within the limit, from a fixed seed. */
+static void take_readings(void)
+{
+    uint64_t state = 3950;
+    for (size_t i = 0; i < ROOM; i++) {
+        state = state * 6364136223846793005u + 1442695040888963407u;
+        readings[i] = (int32_t)((int64_t)((state >> 33) % (2 * READING_LIMIT + 1)) - READING_LIMIT);
+        values[i] = readings[i];
+    }
+}
+
+/* ---- the sides agree */
+
+static long compared;
+
+static void differ(const char *call, unsigned levels, unsigned k)
+{
+    fprintf(stderr, "driver: the sides differ: %s, %u levels, k = %u\n", call, levels, k);
+    exit(2);
+}
+
+/* The column that a call leaves is compared whole, also beyond the length that it was given. */
+static void compare_pass(unsigned levels, unsigned k, size_t factor, size_t length)
+{
+    static int64_t wanted[ROOM];
+    memcpy(column, values, sizeof column);
+    uint8_t number = passes[RATTLE](levels, k, factor, column, length);
+    memcpy(wanted, column, sizeof column);
+    for (int side = PLAIN; side < SIDES; side++) {
+        memcpy(column, values, sizeof column);
+        if (passes[side](levels, k, factor, column, length) != number || memcmp(column, wanted, sizeof column) != 0)
+            differ("pass", levels, k);
+    }
+    compared++;
+}
+
+static void compare_totals(unsigned levels, unsigned k, size_t readings_length, size_t totals_length)
+{
+    static int64_t wanted[ROOM];
+    memset(column, 0x55, sizeof column);
+    uint8_t number = totals[RATTLE](levels, k, readings, readings_length, column, totals_length);
+    memcpy(wanted, column, sizeof column);
+    for (int side = PLAIN; side < SIDES; side++) {
+        memset(column, 0x55, sizeof column);
+        if (totals[side](levels, k, readings, readings_length, column, totals_length) != number || memcmp(column, wanted, sizeof column) != 0)
+            differ("totals", levels, k);
+    }
+    compared++;
+}
+
+static void compare_sides(void)
+{
+    for (unsigned levels = 0; levels <= 5; levels++)
+        for (unsigned k = 0; k <= 11; k++) {
+            size_t n = runs_of(levels, k);
+            if (n > MOST)
+                n = MOST;
+            for (size_t length = n == 0 ? 0 : n - 1; length <= n + 1; length++) {
+                for (size_t factor = 0; factor <= k + 1; factor++)
+                    compare_pass(levels, k, factor, length);
+                compare_totals(levels, k, length, n);
+                compare_totals(levels, k, n, length);
+            }
+        }
+    /* Values and readings at a limit and beyond it. */
+    const size_t places[] = {0, 1, 17, 79, 80, 81};
+    for (size_t p = 0; p < sizeof places / sizeof *places; p++)
+        for (int64_t over = -1; over <= 1; over++)
+            for (int sign = -1; sign <= 1; sign += 2) {
+                size_t at = places[p];
+                values[at] = sign * (VALUE_LIMIT + over);
+                compare_pass(3, 4, 1, 81);
+                values[at] = sign < 0 ? INT64_MIN - (over < 0 ? over : 0) : INT64_MAX - (over > 0 ? over : 0);
+                compare_pass(3, 4, 1, 81);
+                values[at] = readings[at];
+                int32_t reading = readings[at];
+                readings[at] = (int32_t)(sign * (READING_LIMIT + over));
+                compare_totals(3, 4, 81, 81);
+                readings[at] = sign < 0 ? INT32_MIN : INT32_MAX;
+                compare_totals(3, 4, 81, 81);
+                readings[at] = reading;
+            }
+}
+
+/* ---- the times */
+
+static int64_t now(void)
+{
+    struct timespec t;
+    clock_gettime(CLOCK_MONOTONIC, &t);
+    return (int64_t)t.tv_sec * 1000000000 + t.tv_nsec;
+}
+
+static uint8_t answers;
+
+static void work(int kind, int side, unsigned levels, unsigned k, size_t n)
+{
+    if (kind == 0) {
+        memcpy(column, values, n * sizeof *column);
+        for (size_t factor = 0; factor < k; factor++)
+            answers |= passes[side](levels, k, factor, column, n);
+    } else {
+        answers |= totals[side](levels, k, readings, n, column, n);
+    }
+}
+
+static int64_t batch(int kind, int side, unsigned levels, unsigned k, size_t n, long turns)
+{
+    int64_t from = now();
+    for (long i = 0; i < turns; i++)
+        work(kind, side, levels, k, n);
+    return now() - from;
+}
+
+/* The time of each side in ns. */
+static void measure(int kind, unsigned levels, unsigned k, double ns[SIDES])
+{
+    size_t n = runs_of(levels, k);
+    long turns[SIDES];
+    int64_t least[SIDES];
+    for (int side = 0; side < SIDES; side++) {
+        turns[side] = 1;
+        while (batch(kind, side, levels, k, n, turns[side]) < BATCH_NS)
+            turns[side] *= 2;
+        least[side] = INT64_MAX;
+    }
+    for (int b = 0; b < BATCHES; b++)
+        for (int turn = 0; turn < SIDES; turn++) {
+            int side = (b + turn) % SIDES;
+            int64_t t = batch(kind, side, levels, k, n, turns[side]);
+            if (t < least[side])
+                least[side] = t;
+        }
+    for (int side = 0; side < SIDES; side++)
+        ns[side] = (double)least[side] / turns[side];
+}
+
+int main(void)
+{
+    static const char *const names[] = {"passes", "totals"};
+    static const unsigned plans[][2] = {{2, 10}, {3, 6}};
+
+    take_readings();
+    compare_sides();
+    printf("compared %ld\n", compared);
+    for (int kind = 0; kind < 2; kind++)
+        for (int p = 0; p < 2; p++) {
+            unsigned levels = plans[p][0], k = plans[p][1];
+            double ns[SIDES];
+            measure(kind, levels, k, ns);
+            printf("%s %u %u %zu %.1f %.1f %.1f\n", names[kind], levels, k, runs_of(levels, k), ns[RATTLE], ns[PLAIN], ns[NATIVE]);
+        }
+    if (answers != 0) {
+        fprintf(stderr, "driver: a timed call was refused\n");
+        return 2;
+    }
+    return 0;
+}

@@ -1,0 +1,1 @@
+// No code: the demands on the calls, as theorems about the calls' own definitions. They are in specs/.

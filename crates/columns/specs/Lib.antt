@@ -1,0 +1,6 @@
+-- What is refused of a column, and what a call that writes one answers.
+--
+--   Lines   lines 11 and 12, and the answer
+--   Laws    laws on them
+pub mod Lines
+pub mod Laws

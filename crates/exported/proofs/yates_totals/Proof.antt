@@ -1,0 +1,17 @@
+use borrow.Author.Needs.{needs}
+use Rattle.exported.proofs.Told.{told}
+use Rattle.exported.proofs.yates_totals.Statement.{statement}
+use Rattle.exported.proofs.yates_totals.Tie as tie
+
+pub yates-totals-spec : {M : Type 1} → statement M
+yates-totals-spec =
+    tie.close
+    (tie.spec
+    (λ c κs. search needs)
+    (λ c κs. search needs)
+    (λ c. search needs)
+    (λ c. search needs)
+    (λ c. search needs)
+    (λ c. rw (← (c .before .before .before .before .before .whole .ensures)) (told (c .enum-told .given .1) (c .before .before .before .totals .ensures .0), c .before .before .before .totals .ensures .1))
+    (λ c. search needs)
+    (λ c. rw (← (c .before .before .before .before .before .before .whole .ensures)) (told (c .before .n .given .1) (c .before .before .before .before .totals .ensures .0), c .before .before .before .before .totals .ensures .1)))

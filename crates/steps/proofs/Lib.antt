@@ -1,0 +1,6 @@
+-- Laws of the loops and of the call.
+--
+--   Worked   the turns of a step
+--   Called   what the call hands to the inner functions
+pub mod Worked
+pub mod Called

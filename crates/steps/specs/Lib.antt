@@ -1,0 +1,8 @@
+-- What the step call promises.
+--
+--   Step    the call's number, and the column that it writes
+--   Ready   what the inner functions ask of their columns
+--   Examples   small columns, computed
+pub mod Step
+pub mod Ready
+pub mod Examples

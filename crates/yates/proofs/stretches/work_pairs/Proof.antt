@@ -1,0 +1,40 @@
+use mathlib.Core.Path.{sym, _∙_}
+use Prim.Native.Nat.{_-_}
+use native.Mathlib.Omega.{arith}
+use lib.ListN.{length-set}
+use Rattle.algebra.specs.Spread.{as-long}
+use lib.IntN.{pos}
+use Rattle.contrasts.specs.Laws.Turns.{sum-fits, less-fits}
+use Rattle.yates.proofs.Worked.{Stretched, stretch-begun, stretch-ended, pair, stretch-two}
+use Rattle.yates.proofs.stretches.work_pairs.Statement.{statement}
+use Rattle.yates.proofs.stretches.work_pairs.Tie as tie
+
+abbrev Inv-loop : tie.InvT-loop
+Inv-loop part₀ spacing i₀ part i = Stretched 2 spacing part₀ i part
+
+abbrev μ-loop : tie.MeasureT-loop
+μ-loop part₀ spacing i₀ part i = spacing - i
+
+pub work-pairs-spec : {M : Type 1} → statement M
+work-pairs-spec =
+    tie.close
+    (tie.spec
+    Inv-loop
+    μ-loop
+    (λ c. stretch-begun (c .pre))
+    (λ c. omega (arith, c .before .before .pre .whole))
+    (λ c. omega (arith, c .before .before .pre .whole))
+    (λ c. omega (arith, as-long (pos 0) (c .before .loop .inv)))
+    (λ c. omega (arith, c .before .before .before .pre .whole))
+    (λ c. omega (arith, as-long (pos 0) (c .before .before .loop .inv)))
+    (λ c. let s = pair (c .before .before .before .before .pre) (c .before .before .before .loop .inv) (c .before .before .loop-test .taken) in sum-fits (s .0) (s .1))
+    (λ c. omega (arith, c .before .before .before .before .pre .whole))
+    (λ c. omega (arith, as-long (pos 0) (c .before .before .before .loop .inv)))
+    (λ c. let s = pair (c .before .before .before .before .pre) (c .before .before .before .loop .inv) (c .before .before .loop-test .taken) in search (less-fits, s .0, s .1))
+    (λ c. omega (arith, c .before .before .before .before .pre .whole))
+    (λ c. simp length-set (omega (arith, as-long (pos 0) (c .before .before .before .loop .inv))))
+    (λ c. omega arith)
+    (λ c. omega arith)
+    (λ c. stretch-two (c .before .before .before .before .pre) (c .before .before .before .loop .inv) (c .before .before .loop-test .taken))
+    (λ c. as-long (pos 0) (c .before .loop .inv) ∙ sym (c .before .before .pre .whole))
+    (λ c. stretch-ended (c .before .before .pre) (c .before .loop .inv) (c .loop-test .left)))

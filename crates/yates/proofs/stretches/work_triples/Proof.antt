@@ -1,0 +1,51 @@
+use lib.Dec.{lit≤}
+use mathlib.Core.Path.{sym, _∙_}
+use Prim.Native.Nat.{_-_}
+use native.Mathlib.Omega.{arith}
+use lib.ListN.{length-set}
+use Rattle.algebra.specs.Spread.{as-long}
+use lib.IntN.{pos}
+use Rattle.contrasts.specs.Laws.Turns.{sum-fits, less-fits, all-fits, scaled-fits, without-fits, third-fits}
+use Rattle.yates.proofs.Worked.{Stretched, stretch-begun, stretch-ended, triple, stretch-three}
+use Rattle.yates.proofs.stretches.work_triples.Statement.{statement}
+use Rattle.yates.proofs.stretches.work_triples.Tie as tie
+
+abbrev Inv-loop : tie.InvT-loop
+Inv-loop part₀ spacing i₀ part i = Stretched 3 spacing part₀ i part
+
+abbrev μ-loop : tie.MeasureT-loop
+μ-loop part₀ spacing i₀ part i = spacing - i
+
+pub work-triples-spec : {M : Type 1} → statement M
+work-triples-spec =
+    tie.close
+    (tie.spec
+    Inv-loop
+    μ-loop
+    (λ c. stretch-begun (c .pre))
+    (λ c. omega (arith, c .before .before .pre .whole))
+    (λ c. omega (arith, c .before .before .pre .whole))
+    (λ c. omega (arith, c .before .before .pre .whole))
+    (λ c. omega (arith, c .before .before .pre .whole))
+    (λ c. omega (arith, as-long (pos 0) (c .before .loop .inv)))
+    (λ c. omega (arith, c .before .before .before .pre .whole))
+    (λ c. omega (arith, as-long (pos 0) (c .before .before .loop .inv)))
+    (λ c. omega (arith, c .before .before .before .before .pre .whole))
+    (λ c. omega (arith, as-long (pos 0) (c .before .before .before .loop .inv)))
+    (λ c. let s = triple (c .before .before .before .before .before .pre) (c .before .before .before .before .loop .inv) (c .before .before .before .loop-test .taken) in sum-fits (s .0) (s .1))
+    (λ c. let s = triple (c .before .before .before .before .before .pre) (c .before .before .before .before .loop .inv) (c .before .before .before .loop-test .taken) in all-fits (s .0) (s .1) (s .2))
+    (λ c. omega (arith, c .before .before .before .before .before .pre .whole))
+    (λ c. omega (arith, as-long (pos 0) (c .before .before .before .before .loop .inv)))
+    (λ c. let s = triple (c .before .before .before .before .before .pre) (c .before .before .before .before .loop .inv) (c .before .before .before .loop-test .taken) in less-fits (s .0) (s .2))
+    (λ c. omega (arith, c .before .before .before .before .before .pre .whole))
+    (λ c. simp length-set (omega (arith, as-long (pos 0) (c .before .before .before .before .loop .inv))))
+    (λ c. let s = triple (c .before .before .before .before .before .pre) (c .before .before .before .before .loop .inv) (c .before .before .before .loop-test .taken) in scaled-fits _ (lit≤ tt) (s .1))
+    (λ c. let s = triple (c .before .before .before .before .before .pre) (c .before .before .before .before .loop .inv) (c .before .before .before .loop-test .taken) in without-fits _ (lit≤ tt) (s .0) (s .1))
+    (λ c. let s = triple (c .before .before .before .before .before .pre) (c .before .before .before .before .loop .inv) (c .before .before .before .loop-test .taken) in third-fits _ (lit≤ tt) (s .0) (s .1) (s .2))
+    (λ c. omega (arith, c .before .before .before .before .before .pre .whole))
+    (λ c. simp length-set (omega (arith, as-long (pos 0) (c .before .before .before .before .loop .inv))))
+    (λ c. omega arith)
+    (λ c. omega arith)
+    (λ c. stretch-three (c .before .before .before .before .before .pre) (c .before .before .before .before .loop .inv) (c .before .before .before .loop-test .taken))
+    (λ c. as-long (pos 0) (c .before .loop .inv) ∙ sym (c .before .before .pre .whole))
+    (λ c. stretch-ended (c .before .before .pre) (c .before .loop .inv) (c .loop-test .left)))
