@@ -77,8 +77,13 @@ pub record InAnyOrder (p : Plan) (column : List ℤ) (calls : List ℕ) : Type 0
   -- and the column ends as the totals
   pub ends : afterCalls p calls column ≡ totalsOf (factorsOf p) column
 
+-- for every accepted plan, every column of N readings within the limit, and every list of calls that names each base factor once
 abbrev pub AnyOrder : Type 0
-AnyOrder = (p : Plan) → planNumber p ≡ 0 → (column : List ℤ) → Readings p column → (calls : List ℕ) → EachOnce p calls → InAnyOrder p column calls
+AnyOrder =
+    (p : Plan) → planNumber p ≡ 0
+    → (column : List ℤ) → Readings p column
+    → (calls : List ℕ) → EachOnce p calls
+    → InAnyOrder p column calls
 
 -- ---- the proof
 

@@ -50,8 +50,13 @@ pub record InSteps (p : Plan) (lent : ℕ → List ℤ) (column : List ℤ) : Ty
   pub answers : (n : ℕ) → n < p .k → answer p lent column n ≡ given tt
   pub ends : afterSteps p lent column (p .k) ≡ totalsOf (factorsOf p) column
 
+-- for every accepted plan, every column of N readings within the limit, and whatever columns of N are lent
 abbrev pub Steps : Type 0
-Steps = (p : Plan) → planNumber p ≡ 0 → (column : List ℤ) → Readings p column → (lent : ℕ → List ℤ) → Lent p lent → InSteps p lent column
+Steps =
+    (p : Plan) → planNumber p ≡ 0
+    → (column : List ℤ) → Readings p column
+    → (lent : ℕ → List ℤ) → Lent p lent
+    → InSteps p lent column
 
 -- ---- the proof
 
