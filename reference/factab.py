@@ -18,7 +18,7 @@
 #   check_number                          what the totals must add up to, from the readings
 #   letter_count, combine, confounded     words of a plan
 #   plan_answer                           the plan check: 0, or the lowest of 2 to 8 that applies
-#   pass_answer, step_answer, totals_answer   the answers of these calls: 0, or the lowest number that applies
+#   pass_answer, step_answer, totals_answer   the answers of these calls: 0, or the lowest number that applies (columns_answer)
 
 from collections import namedtuple
 from itertools import combinations
@@ -209,21 +209,21 @@ def pass_answer(plan, factor, column):
     return 12 if beyond(column, MOST_VALUE) else DONE
 
 
-def step_answer(plan, column, new_column):
-    """The step from one column to another: 2 to 8, 11, 12, or 0."""
+def columns_answer(plan, read, written, limit):
+    """A call that reads one column and writes another: 2 to 8, 11, 12, or 0."""
     refused = plan_answer(plan)
     if refused:
         return refused
-    if wrong_length(plan, [column, new_column]):
+    if wrong_length(plan, [read, written]):
         return 11
-    return 12 if beyond(column, MOST_VALUE) else DONE
+    return 12 if beyond(read, limit) else DONE
+
+
+def step_answer(plan, column, new_column):
+    """The step from one column to another."""
+    return columns_answer(plan, column, new_column, MOST_VALUE)
 
 
 def totals_answer(plan, readings, column):
-    """The totals of the readings, written to a column: 2 to 8, 11, 12, or 0."""
-    refused = plan_answer(plan)
-    if refused:
-        return refused
-    if wrong_length(plan, [readings, column]):
-        return 11
-    return 12 if beyond(readings, MOST_READING) else DONE
+    """The totals of the readings, written to a column."""
+    return columns_answer(plan, readings, column, MOST_READING)
