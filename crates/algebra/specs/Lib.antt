@@ -8,6 +8,7 @@
 --   Naturals  finite sums and largest values of natural numbers
 --   Bits      sets as the binary digits of a number
 --   Size      the size of sums and products, and what fits a 64-bit integer
+--   Signs     the size of a signed value, as code forms it
 --   Tab       the list of a function's first n values
 --   Turns     a list whose places are written one after the other
 --   Spread    the same where each turn writes places that lie a fixed distance apart
@@ -20,6 +21,7 @@ pub mod Sum
 pub mod Naturals
 pub mod Bits
 pub mod Size
+pub mod Signs
 pub mod Tab
 pub mod Turns
 pub mod Spread

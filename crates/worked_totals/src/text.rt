@@ -10,7 +10,7 @@ pub fn print_number(n: u64) {
     io::print_decimal(1, n);
 }
 
-// The value without its sign. A value below 0 is one less than the rest, negated, and the rest fits where the value negated may not.
+// The value without its sign. Below 0 the rest is one less than the size, so that it fits an i64 where the size does not.
 fn size(value: i64) -> u64 {
     if value < 0 {
         let rest = -1 - value;

@@ -1,25 +1,13 @@
-// One example: its columns after each step, its totals, and its passes in rotated orders.
+// One example: the column after each step, the totals, and the passes in rising and falling orders that start with each factor.
+use super::calls::pass;
+use super::calls::step;
+use super::calls::totals;
 use super::text::print;
 use super::text::print_column;
 use super::text::print_number;
-use plan::Plan;
-use yates::Answer;
 
 // The most runs of an example.
 const MOST: usize = 81;
-
-// The plan with base factors only.
-fn whole(levels: u8, k: u8) -> Plan {
-    Plan {
-        levels,
-        k,
-        added: 0,
-        words: [0; 6],
-        signs: [0; 6],
-        blocks: 0,
-        blockwords: [0; 4],
-    }
-}
 
 // The readings as the values of a column.
 fn fill(readings: &[i32], column: &mut [i64]) {
@@ -49,27 +37,28 @@ fn print_heading(number: u64, levels: u8, k: u8) {
     print(b" factors\n");
 }
 
-// The column after each of so many steps.
-fn print_steps(p: Plan, steps: u8, column: &mut [i64], next: &mut [i64]) {
+// The column after each of the k steps.
+fn print_steps(levels: u8, k: u8, column: &mut [i64], next: &mut [i64]) {
     let mut j = 0;
-    while j < steps {
+    while j < k {
         j += 1;
         print(b"step");
         print_number(j as u64);
-        yates::step(p, column, next);
+        step(levels, k, column, next);
         print_column(next);
         copy(next, column);
     }
 }
 
-fn print_totals(p: Plan, readings: &[i32], column: &mut [i64]) {
+// The column holds the readings before the call, so that a call that is refused shows in what is printed.
+fn print_totals(levels: u8, k: u8, readings: &[i32], column: &mut [i64]) {
     fill(readings, column);
-    yates::totals(p, readings, column);
+    totals(levels, k, readings, column);
     print(b"totals");
     print_column(column);
 }
 
-// The number of the factor of the next call, of the numbers 0 to k: one more or one less, and round at the end.
+// The number of the next call, of the numbers 0 to k: one more, and 0 after k; or one less, and k after 0.
 fn after(factor: u8, k: u8, rising: bool) -> u8 {
     if rising {
         if factor < k { factor + 1 } else { 0 }
@@ -80,7 +69,7 @@ fn after(factor: u8, k: u8, rising: bool) -> u8 {
     }
 }
 
-// The factors of k + 1 calls.
+// The numbers of k + 1 calls: those of the k factors, and k, which is refused.
 fn print_calls(k: u8, first: u8, rising: bool) {
     print(b"calls");
     let mut factor = first;
@@ -92,46 +81,38 @@ fn print_calls(k: u8, first: u8, rising: bool) {
     }
 }
 
-// Calls the pass: the number that refuses it, and 0 where it is done.
-fn answer(p: Plan, factor: u8, column: &mut [i64]) -> u8 {
-    match yates::pass(p, factor as usize, column) {
-        Answer::Done => 0,
-        Answer::Refused(number) => number,
-    }
-}
-
-// The answers of the same calls, and the column that they leave.
-fn print_answers(p: Plan, k: u8, first: u8, rising: bool, column: &mut [i64]) {
+// What the same calls answer, and the column that they leave.
+fn print_answers(levels: u8, k: u8, first: u8, rising: bool, column: &mut [i64]) {
     print(b", answers");
     let mut factor = first;
     let mut left = k as usize + 1;
     while left > 0 {
-        print_number(answer(p, factor, column) as u64);
+        print_number(pass(levels, k, factor, column) as u64);
         factor = after(factor, k, rising);
         left -= 1;
     }
     print_column(column);
 }
 
-// A line for each number that the calls may start with.
-fn print_rotations(p: Plan, k: u8, rising: bool, readings: &[i32], column: &mut [i64]) {
+// A line for each number that the calls may start with. Each line starts from the readings.
+fn print_rotations(levels: u8, k: u8, rising: bool, readings: &[i32], column: &mut [i64]) {
     let mut first = 0;
     let mut left = k as usize + 1;
     while left > 0 {
         fill(readings, column);
         print_calls(k, first, rising);
-        print_answers(p, k, first, rising, column);
+        print_answers(levels, k, first, rising, column);
         first = after(first, k, true);
         left -= 1;
     }
 }
 
-fn print_work(p: Plan, k: u8, readings: &[i32], column: &mut [i64], next: &mut [i64]) {
+fn print_work(levels: u8, k: u8, readings: &[i32], column: &mut [i64], next: &mut [i64]) {
     fill(readings, column);
-    print_steps(p, k, column, next);
-    print_totals(p, readings, column);
-    print_rotations(p, k, true, readings, column);
-    print_rotations(p, k, false, readings, column);
+    print_steps(levels, k, column, next);
+    print_totals(levels, k, readings, column);
+    print_rotations(levels, k, true, readings, column);
+    print_rotations(levels, k, false, readings, column);
 }
 
 pub fn work(number: u64, levels: u8, k: u8, readings: &[i32]) {
@@ -142,11 +123,5 @@ pub fn work(number: u64, levels: u8, k: u8, readings: &[i32]) {
     print_heading(number, levels, k);
     let mut column = [0i64; MOST];
     let mut next = [0i64; MOST];
-    print_work(
-        whole(levels, k),
-        k,
-        readings,
-        &mut column[..runs],
-        &mut next[..runs],
-    );
+    print_work(levels, k, readings, &mut column[..runs], &mut next[..runs]);
 }

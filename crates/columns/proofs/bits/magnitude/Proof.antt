@@ -1,4 +1,4 @@
-use Rattle.columns.proofs.Sizes.{turned-fits, turned-held, turned-is, kept-held, kept-is}
+use Rattle.algebra.specs.Signs.{turned-fits, turned-held, turned-is, upright-held, upright-is}
 use Rattle.columns.proofs.bits.magnitude.Statement.{statement}
 use Rattle.columns.proofs.bits.magnitude.Tie as tie
 
@@ -8,6 +8,6 @@ magnitude-spec =
     (tie.spec
     (λ c. turned-fits (c .before .fits .x) (c .if1 .taken))
     (λ c. turned-held (c .before .fits .x) (c .if1 .taken))
-    (λ c. kept-held (c .before .fits .x) (c .if1 .left))
+    (λ c. upright-held (c .before .fits .x) (c .if1 .left))
     (λ c. turned-is (c .before .fits .x) (c .if1 .taken))
-    (λ c. kept-is (c .before .fits .x) (c .if1 .left)))
+    (λ c. upright-is (c .before .fits .x) (c .if1 .left)))

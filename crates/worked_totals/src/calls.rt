@@ -1,0 +1,31 @@
+// The calls on a plan of k base factors, with no added factors and no blocks.
+use plan::Plan;
+use yates::Answer;
+
+fn whole(levels: u8, k: u8) -> Plan {
+    Plan {
+        levels,
+        k,
+        added: 0,
+        words: [0; 6],
+        signs: [0; 6],
+        blocks: 0,
+        blockwords: [0; 4],
+    }
+}
+
+pub fn step(levels: u8, k: u8, from: &[i64], to: &mut [i64]) {
+    yates::step(whole(levels, k), from, to);
+}
+
+pub fn totals(levels: u8, k: u8, readings: &[i32], column: &mut [i64]) {
+    yates::totals(whole(levels, k), readings, column);
+}
+
+// 0 where the pass is done, and the number that refuses it.
+pub fn pass(levels: u8, k: u8, factor: u8, column: &mut [i64]) -> u8 {
+    match yates::pass(whole(levels, k), factor as usize, column) {
+        Answer::Done => 0,
+        Answer::Refused(number) => number,
+    }
+}
