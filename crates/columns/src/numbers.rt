@@ -4,7 +4,7 @@ use super::scans::any_reading_beyond;
 use super::scans::any_value_beyond;
 use plan::Plan;
 use plan::lowest;
-use plan::runs;
+use sizes::runs;
 ghost use Rattle.contrasts.specs.Limits.{readingLimit, valueLimit};
 ghost use Rattle.columns.specs.Lines.{lengthsNumber, columnsNumber};
 

@@ -5,7 +5,6 @@
 --   small-inputs  lines 11 and 12, of the column that is read and of the one that is written
 use mathlib.Core.Path.{_≡_, refl}
 use mathlib.Core.List.{List, [], _∷_}
-use Prim.Native.Nat.{ℕ}
 use lib.IntN.{ℤ, pos}
 use Rattle.algebra.specs.Naturals.{Σℕ}
 use Rattle.algebra.specs.Bits.{bits}

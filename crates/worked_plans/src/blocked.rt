@@ -31,7 +31,7 @@ fn is_first(p: Plan, number: usize) -> bool {
 fn print_block(p: Plan, first: usize) {
     let block = block_of(p, first);
     print_treatment(p, first);
-    let n = plan::runs(p);
+    let n = sizes::runs(p);
     let mut i = first;
     while i < n {
         if i != first && block_of(p, i) == block {
@@ -44,7 +44,7 @@ fn print_block(p: Plan, first: usize) {
 }
 
 fn print_blocks(p: Plan) {
-    let n = plan::runs(p);
+    let n = sizes::runs(p);
     let mut i = 0;
     while i < n {
         if is_first(p, i) {

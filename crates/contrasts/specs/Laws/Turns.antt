@@ -9,7 +9,7 @@
 --   turn-three               the turn
 --
 -- An i64 that the code holds is `wrap z`, the number as bits and read again; the laws speak of the sums as the code forms them.
-use mathlib.Core.Path.{_≡_, refl, sym, _∙_, ap}
+use mathlib.Core.Path.{_≡_, sym, _∙_}
 use mathlib.Core.List.{List}
 use Prim.Native.Nat.{ℕ, _+_, _*_, _^_, _<_, _≤_}
 use native.Mathlib.Nat.{mul-le-mul}

@@ -2,12 +2,12 @@ use mathlib.Core.Path.{refl, sym, _∙_}
 use native.Mathlib.Omega.{arith}
 use borrow.Author.Needs.{needs}
 use borrow.Author.Tests.{le-leb, lt-leb}
 use Rattle.plan.specs.Check.{spacingAt}
 use Rattle.plan.specs.Laws.Accepted.{levels-known, levels-small, factors-known, at-most-ten}
 use Rattle.plan.specs.Laws.Sizes.{spacing-power}
 use Rattle.algebra.specs.Tests.{is}
-use Rattle.plan.proofs.sizes.spacing.Statement.{statement}
-use Rattle.plan.proofs.sizes.spacing.Tie as tie
+use Rattle.sizes.proofs.counts.spacing.Statement.{statement}
+use Rattle.sizes.proofs.counts.spacing.Tie as tie
 
 pub spacing-spec : {M : Type 1} → statement M
 unfolding spacingAt

@@ -1,11 +1,11 @@
 use mathlib.Core.Path.{refl, sym, _∙_}
 use borrow.Author.Needs.{needs}
 use Rattle.plan.specs.Check.{runCount}
 use Rattle.plan.specs.Laws.Accepted.{levels-known, levels-small, factors-known, at-most-ten}
 use Rattle.plan.specs.Laws.Sizes.{runs-power}
 use Rattle.algebra.specs.Tests.{is}
-use Rattle.plan.proofs.sizes.runs.Statement.{statement}
-use Rattle.plan.proofs.sizes.runs.Tie as tie
+use Rattle.sizes.proofs.counts.runs.Statement.{statement}
+use Rattle.sizes.proofs.counts.runs.Tie as tie
 
 pub runs-spec : {M : Type 1} → statement M
 unfolding runCount

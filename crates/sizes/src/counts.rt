@@ -1,10 +1,10 @@
 // How many runs a plan has, and how far apart the values of a factor lie.
 ghost use mathlib.Core.Path.{_≡_};
 ghost use Prim.Native.Nat.{_^_, _≤_};
-use super::conditions::bad_factors;
-use super::conditions::bad_levels;
-use super::types::Plan;
+use plan::Plan;
+use plan::bad_factors;
+use plan::bad_levels;
 ghost use Rattle.plan.specs.Check.{runCount, spacingAt};
 
 // The base multiplied k times.
 fn to_the_power(base: usize, k: usize) -> usize
