@@ -258,7 +258,8 @@ DANIEL_QUARTER = worked(
 # it shows of the readings, of the steps 1, 2, 3, of step 4 (the totals) and of the squares. Where it shows fewer or more
 # figures than runs, their places are not sure, and the column has no figure of that line. Which runs a line holds is seen
 # from the names and divisors on it, but for the run 12: it may belong to the line before. check_doubtful() tests that the
-# readings are settled without the figures at the places 10 to 14.
+# readings are settled without the figures at the places 10 to 14. The readings given are those that agree with the most
+# figures of the scan; a figure that disagrees with them has a mend. So they are inferred, and not read off the print.
 
 DOUBTFUL = range(10, 15)
 
