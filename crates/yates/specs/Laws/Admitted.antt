@@ -1,7 +1,7 @@
 -- What is known of a pass call that is not refused, as a record, and that this is all that the call asks.
 --
---   PassAdmitted, pass-admitted, pass-admits    from the number, and back
 --   pass-ten                                    a factor that is no base factor gives 10
+--   PassAdmitted, pass-admitted, pass-admits    from the number, and back
 use mathlib.Core.Path.{_≡_, refl, _∙_}
 use mathlib.Core.List.{List}
 use Prim.Native.Nat.{ℕ, _<_, _≤_}
@@ -19,6 +19,11 @@ use Rattle.plan.specs.Laws.Answers.{passed, plan-passed, after-plan}
 use Rattle.columns.specs.Lines.{wrongLength, anyBeyond}
 use Rattle.columns.specs.Laws.Admitted.{all-within, none-beyond, as-long, not-wrong}
 use Rattle.yates.specs.Calls.{passNumber}
+
+-- "A call whose factor is not a base factor gives 10"
+pub pass-ten : (p : Plan) (f : ℕ) (xs : List ℤ) → planNumber p ≡ 0 → p .k ≤ f → passNumber p f xs ≡ 10
+unfolding passNumber
+pass-ten p f xs e h = after-plan p _ e ∙ rw (le-leb (p .k) f h) refl
 
 pub record PassAdmitted (p : Plan) (f : ℕ) (xs : List ℤ) : Type 0 where
   pub plan : planNumber p ≡ 0
@@ -44,8 +49,3 @@ pub pass-admits : {p : Plan} {f : ℕ} {xs : List ℤ} → PassAdmitted p f xs �
 unfolding passNumber
 pass-admits {p} {f} {xs} a =
     after-plan p _ (a .plan) ∙ rw (lt-leb (p .k) f (a .base), not-wrong p (length xs) (a .whole), none-beyond valueLimit xs (a .within)) refl
-
--- "A call whose factor is not a base factor gives 10"
-pub pass-ten : (p : Plan) (f : ℕ) (xs : List ℤ) → planNumber p ≡ 0 → p .k ≤ f → passNumber p f xs ≡ 10
-unfolding passNumber
-pass-ten p f xs e h = after-plan p _ e ∙ rw (le-leb (p .k) f h) refl
