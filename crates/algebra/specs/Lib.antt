@@ -12,6 +12,8 @@
 --   Tab       the list of a function's first n values
 --   Turns     a list whose places are written one after the other
 --   Spread    the same where each turn writes places that lie a fixed distance apart
+--   Fill      a list that is written place by place
+--   Sorted    terms added to places by their keys
 --   Parts     a list that is worked part by part
 pub mod Ring
 pub mod Solve
@@ -25,4 +27,6 @@ pub mod Signs
 pub mod Tab
 pub mod Turns
 pub mod Spread
+pub mod Fill
+pub mod Sorted
 pub mod Parts

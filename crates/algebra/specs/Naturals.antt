@@ -13,6 +13,7 @@
 --   Σℕ-parity       terms that are odd or even alike give sums that are
 --   Σℕ-ones         n times 1
 --   Σℕ-split        the sum over l * n numbers, by their lowest digit to the base l and the rest
+--   Σℕ-one          a sum with one term only
 --   Σℕ-by           a sum sorted by a key: the parts of all keys add up to the whole
 --   Σℕ-le           smaller terms give a smaller sum
 --   Σℕ-each         terms of at most m add up to at most n * m
@@ -103,6 +104,10 @@ unfolding Σℕ
 pos-cond : (b : Bool) (n : ℕ) → pos (cond b n 0) ≡ cond b (pos n) (pos 0)
 pos-cond true n = refl
 pos-cond false n = refl
+
+pub Σℕ-one : (n i : ℕ) (f : ℕ → ℕ) → i < n → Σℕ n (λ j. cond (eqb i j) (f j) 0) ≡ f i
+Σℕ-one n i f h =
+    same (Σℕ-pos n (λ j. cond (eqb i j) (f j) 0) ∙ Σ-ext n (λ j. pos-cond (eqb i j) (f j)) ∙ Σ-one n i (λ j. pos (f j)) h)
 
 pub Σℕ-by : (n r : ℕ) (key f : ℕ → ℕ) → ((i : ℕ) → i < n → key i < r)
     → Σℕ r (λ w. Σℕ n (λ i. cond (eqb (key i) w) (f i) 0)) ≡ Σℕ n f

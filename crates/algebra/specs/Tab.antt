@@ -5,14 +5,16 @@
 --   getD-tab      its entry at i
 --   is-tab        a list of n entries that are those of f
 --   tab-cong      functions that agree below n
+--   tab-set       one entry written
 --   getD-past     an entry past the end of a list
 use mathlib.Core.Path.{_≡_, refl, sym, _∙_, ap}
 use mathlib.Core.List.{List, [], _∷_}
 use Prim.Native.Nat.{ℕ, zero, suc, _+_, _<_, _≤_}
 use native.Mathlib.Nat.{add-suc, suc-add, add-zero, zero-add}
 use native.Mathlib.Omega.{arith}
-use lib.ListN.{length, getD}
-use lib.Seq.{ext-getD}
+use native.Mathlib.Decide.{ℕ-discrete}
+use lib.ListN.{length, getD, set, length-set}
+use lib.Seq.{ext-getD, getD-set-same, getD-set-other}
 
 module _ {A : Type 0} where
   -- f s, f (s + 1), .., n of them
@@ -48,6 +50,18 @@ module _ {A : Type 0} where
 
     pub tab-cong : (n : ℕ) (f g : ℕ → A) → ((i : ℕ) → i < n → f i ≡ g i) → tab n f ≡ tab n g
     tab-cong n f g h = is-tab (tab n f) n g (length-tab n f) (λ i k. getD-tab n f i k ∙ h i k)
+
+    pub tab-set : (n i : ℕ) (f g : ℕ → A) (v : A) (xs : List A) → xs ≡ tab n f → v ≡ g i
+        → ((j : ℕ) → j < n → (j ≡ i → ⊥) → f j ≡ g j) → set xs i v ≡ tab n g
+    tab-set n i f g v xs e own others =
+        is-tab (set xs i v) n g (length-set xs i v ∙ long) (λ j k. by j k (ℕ-discrete j i))
+      where
+        long : length xs ≡ n
+        long = rw e (length-tab n f)
+
+        by : (j : ℕ) → j < n → Dec (j ≡ i) → getD (set xs i v) j z ≡ g j
+        by j k (yes d) = rw d (getD-set-same xs i v z (omega (arith, long)) ∙ own)
+        by j k (no d) = getD-set-other xs i j v z d ∙ rw e (getD-tab n f j k) ∙ others j k d
 
     pub getD-past : (xs : List A) (i : ℕ) → length xs ≤ i → getD xs i z ≡ z
     getD-past [] i h = refl

@@ -3,6 +3,7 @@
 --
 --   tests                  a comparison of the code, as a test of a contract
 --   is                     a test has the value that the code found for it
+--   same-test              numbers below i + 1 other than i are those below i
 --   and-left, and-right    both sides of a test a && b pass
 --   neither, none          neither side of a test a || b passes
 --   every n p              the test p passes at each number below n
@@ -13,18 +14,25 @@
 --   eqZ→eq                 so they are
 use mathlib.Core.Path.{_≡_, refl, sym, _∙_, ap}
 use mathlib.Core.Bool.{Bool, true, false, cond, _&&_, _||_, true≢false}
-use Prim.Native.Nat.{ℕ, zero, suc, _*_, _/_, _%_, _<_}
+use Prim.Native.Nat.{ℕ, zero, suc, _+_, _*_, _/_, _%_, _<_}
 use native.Mathlib.Nat.{div-add-mod', mul-zero, zero-mul}
 use native.Mathlib.Omega.{arith}
-use native.Mathlib.Decide.{ℕ-discrete}
+use native.Mathlib.Decide.{ℕ-discrete, decLt}
 use borrow.Author.Tests.{lt-ltb, le-ltb, le-leb, lt-leb, eq-eqb, ne-eqb}
-use lib.Dec.{T, eqb, eqb→eq}
+use lib.Dec.{T, eqb, eqb→eq, ltb}
 use lib.IntN.{ℤ, pos, negsuc, _*ℤ_, *ℤ-zero, zero-*ℤ}
 
 pub ruleset tests = (lt-ltb, le-ltb, le-leb, lt-leb, eq-eqb, ne-eqb, arith)
 
 pub is : {b t v : Bool} → b ≡ t → b ≡ v → t ≡ v
 is e f = sym e ∙ f
+
+pub same-test : (j i : ℕ) → (j ≡ i → ⊥) → ltb j i ≡ ltb j (i + 1)
+same-test j i d = by (decLt j i)
+  where
+    by : Dec (j < i) → ltb j i ≡ ltb j (i + 1)
+    by (yes h) = rw (lt-ltb j i h, lt-ltb j (i + 1) (omega arith))
+    by (no h) = rw (le-ltb j i (omega arith), le-ltb j (i + 1) (omega arith))
 
 pub and-left : (a b : Bool) → T (a && b) → T a
 and-left true b t = tt

@@ -16,7 +16,7 @@ use Rattle.contrasts.specs.Columns.{read, totalsOf, passOf, passesOf, st
 use Rattle.contrasts.specs.Factor.{Factor}
 use Rattle.contrasts.specs.Rows.{rowOf, degreesOf}
 use Rattle.contrasts.specs.Tables.{two, three, neg}
-use Rattle.contrasts.specs.Totals.{size, coef*, total, passFrom, passAt, step, divisor*, denominator, weight*, numerator, squared}
+use Rattle.contrasts.specs.Totals.{size, coef*, total, passFrom, passAt, step, divisor*, denominator, weight*, numeratorOf, numerator, squared}
 use Rattle.contrasts.specs.Totals.{checkWeight, round, rounds}
 
 -- ---- "Readings 3, 5, 4, 8: totals 20, -6, -4, 2; numerators 400, 36, 16, 4; sum 456, which is 4 times 114; check 12."
@@ -50,11 +50,11 @@ unfolding stepsOf stepOf step Σ tabFrom two
 four-steps = refl
 
 four-numerators : tab 4 (numerator AB (read four)) ≡ 400 ∷ 36 ∷ 16 ∷ 4 ∷ []
-unfolding numerator total coef* weight* denominator divisor* size Σ tabFrom two
+unfolding numeratorOf total coef* weight* denominator divisor* size Σ tabFrom two
 four-numerators = refl
 
 four-sum : Σℕ 4 (numerator AB (read four)) ≡ 456
-unfolding Σℕ numerator total coef* weight* denominator divisor* size Σ two
+unfolding Σℕ numeratorOf total coef* weight* denominator divisor* size Σ two
 four-sum = refl
 
 four-squared : denominator AB * squared AB (read four) ≡ 4 * 114
@@ -90,7 +90,7 @@ unfolding stepsOf stepOf step Σ tabFrom three
 three-steps = refl
 
 three-numerators : tab 3 (numerator A3 (read threes)) ≡ 200 ∷ 3 ∷ 25 ∷ []
-unfolding numerator total coef* weight* denominator divisor* size Σ tabFrom three
+unfolding numeratorOf total coef* weight* denominator divisor* size Σ tabFrom three
 three-numerators = refl
 
 -- effects 1 and 2 are those of row A, 3 and 25, which has 2 degrees

@@ -9,6 +9,7 @@
 --   CheckSum     the sum of all totals
 --   Bounds       how large values grow
 --   Degrees      the degrees of rows
+--   Rows         the rows of effects, and sums over rows
 --   Stretches    a pass stretch by stretch
 --   Lists        the theorems over columns that are lists
 --   Alike        plans of k factors that are alike
@@ -26,6 +27,7 @@ pub mod Squares
 pub mod CheckSum
 pub mod Bounds
 pub mod Degrees
+pub mod Rows
 pub mod Stretches
 pub mod Lists
 pub mod Alike

@@ -15,6 +15,7 @@
 --   divisor* Fs e                the divisor of effect e
 --   denominator Fs               the common denominator
 --   weight* Fs e                 denominator over divisor
+--   numeratorOf Fs e t           the numerator of effect e, where its total is t
 --   numerator Fs x e             the numerator of effect e
 --   squared Fs x                 the sum of squared readings
 --   checkWeight F j              the sum of a level's coefficients
@@ -118,8 +119,11 @@ unfoldable pub weight* : List Factor → ℕ → ℕ
 weight* Fs e = denominator Fs / divisor* Fs e
 
 -- "A numerator is a total squared times (denominator over divisor)."
-unfoldable pub numerator : List Factor → Column → ℕ → ℕ
-numerator Fs x e = natAbs (total Fs x e) * natAbs (total Fs x e) * weight* Fs e
+unfoldable pub numeratorOf : List Factor → ℕ → ℤ → ℕ
+numeratorOf Fs e t = natAbs t * natAbs t * weight* Fs e
+
+abbrev pub numerator : List Factor → Column → ℕ → ℕ
+numerator Fs x e = numeratorOf Fs e (total Fs x e)
 
 -- "the sum of squared readings"
 unfoldable pub squared : List Factor → Column → ℕ

@@ -16,7 +16,7 @@ use Rattle.algebra.specs.Size.{square}
 use Rattle.algebra.specs.Sum.{Σ, Σ-unit, Σ-cong, Σ-ext, Σ-mul, Σ-mul-r, Σ-prod, Σ-swap, Σ-digits, Σ-split, Σ-one, Σ-at, cond-*ℤ, δ}
 use Rattle.algebra.specs.Naturals.{Σℕ, Σℕ-pos, Σℕ-some, Σℕ-term}
 use Rattle.contrasts.specs.Factor.{Factor, weight}
-use Rattle.contrasts.specs.Totals.{Column, size, coef*, total, denominator, weight*, numerator, squared}
+use Rattle.contrasts.specs.Totals.{Column, size, coef*, total, denominator, weight*, numeratorOf, numerator, squared}
 use Rattle.contrasts.specs.Laws.Digits.{level, total-nil, total-cons}
 use Rattle.contrasts.specs.Laws.Divisors.{weight-nil, weight-cons}
 
@@ -100,7 +100,7 @@ squares (F ∷ Fs) x y =
 -- ---- one column, in whole numbers
 
 numerator-is : (Fs : List Factor) (x : Column) (e : ℕ) → pos (numerator Fs x e) ≡ pos (weight* Fs e) *ℤ (total Fs x e *ℤ total Fs x e)
-unfolding numerator
+unfolding numeratorOf
 numerator-is Fs x e =
     rw (square (total Fs x e)) (ap pos (mul-comm (natAbs (total Fs x e) * natAbs (total Fs x e)) (weight* Fs e)))
 

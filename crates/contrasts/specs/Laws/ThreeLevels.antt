@@ -5,11 +5,12 @@
 --   step-three                the report's step
 --   divisor-three             the divisors of fewer factors
 --   denominator-three         the common denominator
+--   weight-three              denominator over divisor, from the divisors of six factors
 --   round-three               a round of the check
 --   bound-three               the growth of values
 use mathlib.Core.Path.{_≡_, refl, sym, _∙_, ap}
 use mathlib.Core.List.{List, [], _∷_}
-use Prim.Native.Nat.{ℕ, _+_, _*_, _^_, _/_, _<_, _≤_}
+use Prim.Native.Nat.{ℕ, _+_, _*_, _-_, _^_, _/_, _<_, _≤_}
 use native.Mathlib.Nat.{mul-div-left, one-le-pow, add-zero, le-trans, mul-le-mul-right, pow-le-pow-left}
 use native.Mathlib.Omega.{arith}
 use lib.Dec.{lit<}
@@ -19,7 +20,7 @@ use Rattle.algebra.specs.Solve.{solve, var, lit, _⊕_, _⊖_, _⊗_}
 use Rattle.algebra.specs.Sum.{Σ}
 use Rattle.algebra.specs.Naturals.{Σℕ, most}
 use Rattle.contrasts.specs.Tables.{three, neg}
-use Rattle.contrasts.specs.Totals.{Column, size, passAt, passes, step, divisor*, denominator, checkWeight, round}
+use Rattle.contrasts.specs.Totals.{Column, size, passAt, passes, step, divisor*, denominator, weight*, checkWeight, round}
 use Rattle.contrasts.specs.Laws.Alike.{size-alike, denominator-alike, divisor-fewer, widest-alike}
 use Rattle.contrasts.specs.Laws.Bounds.{Within, reach, widest, bound-calls}
 use Rattle.contrasts.specs.Laws.Steps.{step-value}
@@ -105,6 +106,12 @@ divisor-three k j e h =
 pub denominator-three : (k : ℕ) → denominator (replicate k three) ≡ 6 ^ k
 unfolding three
 denominator-three k = denominator-alike k three
+
+pub weight-three : (k e : ℕ) → k ≤ 6 → e < 3 ^ k → weight* (replicate k three) e ≡ 6 ^ k / (divisor* (replicate 6 three) e / 3 ^ (6 - k))
+unfolding weight*
+weight-three k e most h =
+    let six : k + (6 - k) ≡ 6 = omega arith in
+    rw (denominator-three k, divisor-three k (6 - k) e h, six) refl
 
 -- ---- the check
 

@@ -5,12 +5,14 @@
 --   step-two             the report's step
 --   divisor-two          the divisors
 --   denominator-two      the common denominator
+--   weight-two           denominator over divisor
+--   rounds-two           the number of the check from the readings
 --   check-two            the check sum
 --   bound-two            the growth of values
 use mathlib.Core.Path.{_≡_, refl, sym, _∙_, ap}
 use mathlib.Core.List.{List, [], _∷_}
 use Prim.Native.Nat.{ℕ, zero, suc, _+_, _*_, _^_, _/_, _%_, _<_, _≤_}
-use native.Mathlib.Nat.{pow-suc, pow-succ', mod-lt, add-zero, le-trans, mul-le-mul-right, pow-le-pow-left}
+use native.Mathlib.Nat.{div-self, one-le-pow, pow-suc, pow-succ', mod-lt, add-zero, le-trans, mul-le-mul-right, pow-le-pow-left}
 use native.Mathlib.Omega.{arith}
 use lib.Dec.{eqb, eqb→eq, lit<}
 use lib.IntN.{ℤ, pos, _+ℤ_, _*ℤ_, _-ℤ_}
@@ -21,7 +23,7 @@ use Rattle.algebra.specs.Sum.{Σ}
 use Rattle.algebra.specs.Naturals.{Σℕ, most}
 use Rattle.algebra.specs.Tests.{every, every-at}
 use Rattle.contrasts.specs.Tables.{two, neg}
-use Rattle.contrasts.specs.Totals.{Column, size, total, passAt, passes, step, divisor*, denominator, checkWeight, round, rounds}
+use Rattle.contrasts.specs.Totals.{Column, size, total, passAt, passes, step, divisor*, denominator, weight*, checkWeight, round, rounds}
 use Rattle.contrasts.specs.Laws.Alike.{size-alike, denominator-alike, widest-alike}
 use Rattle.contrasts.specs.Laws.Bounds.{Within, reach, widest, bound-calls}
 use Rattle.contrasts.specs.Laws.CheckSum.{check-rounds}
@@ -100,6 +102,11 @@ pub denominator-two : (k : ℕ) → denominator (replicate k two) ≡ 2 ^ k
 unfolding two
 denominator-two k = denominator-alike k two
 
+-- so a numerator is a total squared
+pub weight-two : (k e : ℕ) → weight* (replicate k two) e ≡ 1
+unfolding weight*
+weight-two k e = rw (denominator-two k, divisor-two k e) (div-self (one-le-pow k 2 (lit< tt)))
+
 -- ---- the check
 
 -- 2 times first
@@ -110,7 +117,7 @@ round-two x q =
     (solve (x (q * 2) ∷ x (q * 2 + 1) ∷ [])
     (lit (pos 0) ⊕ lit (pos 2) ⊗ var 0 ⊕ lit (pos 0) ⊗ var 1) (lit (pos 2) ⊗ var 0) refl)
 
-rounds-two : (k : ℕ) (x : Column) → rounds (replicate k two) x ≡ pos (2 ^ k) *ℤ x 0
+pub rounds-two : (k : ℕ) (x : Column) → rounds (replicate k two) x ≡ pos (2 ^ k) *ℤ x 0
 unfolding rounds
 rounds-two zero x = sym (one-*ℤ (x 0))
 rounds-two (suc k) x =

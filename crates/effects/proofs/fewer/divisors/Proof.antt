@@ -1,0 +1,27 @@
+use mathlib.Core.Path.{sym}
+use Prim.Native.Nat.{_-_}
+use native.Mathlib.Omega.{arith}
+use Rattle.effects.proofs.Divided.{Missing, missing-none, missing-long, missing-more, missing-all}
+use Rattle.effects.proofs.fewer.divisors.Statement.{statement}
+use Rattle.effects.proofs.fewer.divisors.Tie as tie
+
+abbrev Inv-loop : tie.InvT-loop
+Inv-loop k divisors₀ factors₀ divisors factors = Missing k factors divisors
+
+abbrev μ-loop : tie.MeasureT-loop
+μ-loop k divisors₀ factors₀ divisors factors = factors
+
+pub divisors-spec : {M : Type 1} → statement M
+divisors-spec =
+    tie.close
+    (tie.spec
+    Inv-loop
+    μ-loop
+    (λ c κs. tt)
+    (λ c. missing-none _ (c .six-factors .ensures))
+    (λ c. sym (missing-long (c .before .before .loop .inv)))
+    (λ c κs. tt)
+    (λ c. omega arith)
+    (λ c. omega arith)
+    (λ c. missing-more (c .before .before .before .before .loop .inv) (c .before .before .before .loop-test .taken) (c .before .divide-by-three .ensures))
+    (λ c. missing-all (c .before .loop .inv) (c .loop-test .left)))
