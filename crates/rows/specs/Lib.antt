@@ -1,0 +1,6 @@
+-- What the calls on rows promise.
+--
+--   Kinds      the kinds of rows, and the marks that are refused
+--   Written    what the inner functions leave in a list of kinds
+pub mod Kinds
+pub mod Written
