@@ -2,7 +2,7 @@
 --
 --   in-stretches                     a column of levels to the power k is stretches of the factor at position f
 --   pass-ready, pass-made            the pass call
---   totals-alike, totals-ready       the totals call
+--   totals-ready                     the totals call
 --   AllPassed levels k xs s f ys     ys is xs after the passes of the first f factors, and the next one's values lie s apart
 --   all-none, all-ready, all-more, all-done    before the first pass, before each, after each, after the last
 use mathlib.Core.Path.{_≡_, refl, sym, _∙_, ap}
@@ -33,7 +33,7 @@ use Rattle.plan.specs.Laws.Accepted.{accepted}
 use Rattle.plan.specs.Laws.Sizes.{as-power, spacing-power, spacing-is, plan-kind, plan-within}
 use Rattle.columns.specs.Laws.Admitted.{Columns}
 use Rattle.yates.specs.Laws.Admitted.{PassAdmitted}
-use Rattle.yates.specs.Ready.{Stretches, Readings, Alike}
+use Rattle.yates.specs.Ready.{Stretches, Readings}
 
 -- ---- columns of levels to the power k
 
@@ -72,13 +72,6 @@ module _ {p : Plan} {f : ℕ} {xs : List ℤ} (a : PassAdmitted p f xs) {s : ℕ
 -- ---- the totals
 
 module _ {p : Plan} {readings totals : List ℤ} (a : Columns readingLimit p readings totals) where
-  pub totals-alike : Alike readings totals
-  totals-alike =
-      record {
-        some = rw (as-power p (a .plan) (a .whole)) (one-le-pow (p .k) (p .levels) (some-levels (p .levels) (plan-kind p (a .plan))));
-        same = a .whole ∙ sym (a .same);
-      }
-
   pub totals-ready : Readings (p .levels) (p .k) readings
   totals-ready =
       record {

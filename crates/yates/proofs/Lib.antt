@@ -1,6 +1,6 @@
 -- Laws of the loops and of the calls.
 --
---   Worked   the turns of a copy, and of a stretch
+--   Worked   the turns of a stretch
 --   Passed   the loop over the stretches of a column
 --   Called   what the calls hand to the inner functions
 pub mod Worked

@@ -1,6 +1,5 @@
--- The turns of a copy, and of a stretch of a pass.
+-- The turns of a stretch of a pass.
 --
---   copy-begun, copied, copy-ended   before the first turn of a copy, a turn, and after the last
 --   stretch-begun, stretch-ended     before the first turn of a stretch, and after the last
 --   still                            the values of the next turn are those of the stretch as it came
 --   stretch-small                    and they are small
@@ -8,45 +7,18 @@
 use mathlib.Core.Path.{_≡_, refl, sym, _∙_, ap}
 use mathlib.Core.List.{List}
 use Prim.Native.Nat.{ℕ, _+_, _*_, _<_, _≤_}
-use native.Mathlib.Nat.{one-mul}
 use native.Mathlib.Omega.{arith}
 use lib.Dec.{lit<}
 use lib.IntN.{ℤ, pos, _+ℤ_, _-ℤ_, _*ℤ_}
-use lib.ListN.{length, set}
+use lib.ListN.{set}
 use Rattle.algebra.specs.Size.{wrap}
-use Rattle.algebra.specs.Spread.{Turned, begun, ended, unread, opened, put, closed}
+use Rattle.algebra.specs.Spread.{Turned, begun, ended, unread}
 use Rattle.contrasts.specs.Columns.{read}
 use Rattle.contrasts.specs.Tables.{two, three, ofLevels}
 use Rattle.contrasts.specs.Totals.{passAt}
-use Rattle.contrasts.specs.Laws.Lists.{tab-read}
 use Rattle.contrasts.specs.Laws.Stretches.{passOver, stretch-value}
-use Rattle.yates.specs.Ready.{Stretch, Alike}
+use Rattle.yates.specs.Ready.{Stretch}
 use Rattle.contrasts.specs.Laws.Turns.{Small, turn-two, turn-three}
-
--- ---- a copy
-
-abbrev pub Copied : List ℤ → List ℤ → ℕ → List ℤ → Type 0
-Copied xs old i ys = Turned 1 (length xs) (read xs) (read old) i ys
-
-module _ {xs old : List ℤ} (pre : Alike xs old) where
-  pub copy-begun : Copied xs old 0 old
-  copy-begun = begun (pos 0) old (omega (arith, pre .same)) (λ p _. refl)
-
-  module _ {i : ℕ} {ys : List ℤ} (w : Copied xs old i ys) where
-    pub copied : i < length xs → (v : ℤ) → v ≡ read xs i → Copied xs old (i + 1) (set ys i v)
-    copied low v e =
-        let t = closed (pos 0) low (put (pos 0) low 0 (lit< tt) (opened (pos 0) w) v (e ∙ ap (read xs) (sym place))) in
-        rw place at t
-      where
-        place : i + 0 * length xs ≡ i
-        place = omega arith
-
-    pub copy-ended : length xs ≤ i → ys ≡ xs
-    copy-ended k =
-        let e : i ≡ length xs = omega (arith, w .some) in
-        ended (pos 0) w (pre .some) e ∙ rw (one-mul (length xs)) (sym (tab-read xs (length xs) refl))
-
--- ---- a stretch
 
 abbrev pub Stretched : ℕ → ℕ → List ℤ → ℕ → List ℤ → Type 0
 Stretched levels h xs i ys = Turned levels h (passAt h (ofLevels levels) (read xs)) (read xs) i ys

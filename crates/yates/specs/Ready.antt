@@ -3,7 +3,6 @@
 --   Stretch levels h xs        xs is one stretch of a factor whose values lie h apart
 --   Stretches levels h xs      xs is one or more of them
 --   Readings levels k xs       the readings of a plan of k factors
---   Alike xs ys                two columns of one length
 use mathlib.Core.Path.{_≡_}
 use mathlib.Core.List.{List}
 use Prim.Native.Nat.{ℕ, _*_, _<_, _^_}
@@ -34,7 +33,3 @@ pub record Readings (levels k : ℕ) (xs : List ℤ) : Type 0 where
   pub admitted : T (withinLimits (ofLevels levels) k)
   pub whole : length xs ≡ levels ^ k
   pub within : AllWithin readingLimit xs
-
-pub record Alike (xs ys : List ℤ) : Type 0 where
-  pub some : 0 < length xs
-  pub same : length xs ≡ length ys

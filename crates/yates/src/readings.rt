@@ -3,6 +3,7 @@ ghost use mathlib.Core.Path.{_≡_};
 ghost use lib.ListN.{replicate};
 use super::stretches::pass_over;
 use columns::Answer;
+use columns::copy;
 use columns::readings_number;
 use plan::Plan;
 ghost use Rattle.contrasts.specs.Columns.{totalsOf};
@@ -10,19 +11,7 @@ ghost use Rattle.contrasts.specs.Tables.{ofLevels};
 ghost use Rattle.plan.specs.Outcome.{outcome};
 ghost use Rattle.columns.specs.Lines.{answerOutcome};
 ghost use Rattle.yates.specs.Calls.{totalsNumber, totalsColumn};
-ghost use Rattle.yates.specs.Ready.{Alike, Readings};
-
-// The readings as the values of a column.
-fn copy(readings: &[i32], column: &mut [i64])
-    requires { ⌜ Alike (now readings) (now column) ⌝ }
-    ensures { λ _. ⌜ now (column .exit) ≡ now (readings .entry) ⌝ }
-{
-    let mut i = 0;
-    while i < readings.len() {
-        column[i] = readings[i] as i64;
-        i += 1;
-    }
-}
+ghost use Rattle.yates.specs.Ready.{Readings};
 
 // The passes of all factors, A first.
 fn all_passes(levels: usize, k: usize, column: &mut [i64])

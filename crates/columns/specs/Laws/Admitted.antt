@@ -3,7 +3,8 @@
 --   all-within, none-beyond           no value is beyond a limit, as a bound and as a test
 --   as-long, not-wrong                the length, as a number and as a test
 --   Columns, admitted, admits         a column of N within a limit, and one of N to be written: from the number, and back
-use mathlib.Core.Path.{_≡_, refl, _∙_}
+--   copied-over                       such a column takes a copy of the other
+use mathlib.Core.Path.{_≡_, refl, sym, _∙_}
 use mathlib.Core.Bool.{false, _||_}
 use mathlib.Core.List.{List}
 use Prim.Native.Nat.{ℕ}
@@ -20,6 +21,7 @@ use Rattle.plan.specs.declared.types.Plan.{Plan}
 use Rattle.plan.specs.Check.{planNumber}
 use Rattle.plan.specs.Plan.{runsOf}
 use Rattle.plan.specs.Laws.Answers.{passed, plan-passed, after-plan}
+use Rattle.columns.specs.Copies.{copied}
 use Rattle.columns.specs.Lines.{wrongLength, isBeyond, anyBeyond, columnsNumber}
 
 pub all-within : (limit : ℕ) (xs : List ℤ) → anyBeyond limit xs ≡ false → AllWithin limit xs
@@ -57,3 +59,7 @@ pub admits : {limit : ℕ} {p : Plan} {xs ys : List ℤ} → Columns limit p xs 
 unfolding columnsNumber
 admits {limit} {p} {xs} {ys} a =
     after-plan p _ (a .plan) ∙ rw (not-wrong p (length xs) (a .whole), not-wrong p (length ys) (a .same), none-beyond limit xs (a .within)) refl
+
+pub copied-over : {limit : ℕ} {p : Plan} {xs ys : List ℤ} → Columns limit p xs ys → {zs : List ℤ} → zs ≡ copied xs ys → zs ≡ xs
+unfolding copied
+copied-over {xs = xs} {ys = ys} a e = e ∙ rw (eq-eqb (length xs) (length ys) (a .whole ∙ sym (a .same))) refl

@@ -12,7 +12,6 @@ use mathlib.Core.List.{List, [], _∷_, _++_}
 use Prim.Native.Nat.{ℕ, zero, suc, _+_, _*_, _/_, _%_, _^_, _<_}
 use native.Mathlib.Nat.{zero-mod, zero-div, mod-lt, div-add-mod', div-lt-iff-lt-mul, pow-suc}
 use native.Mathlib.Numerals.{add-one}
-use native.Mathlib.Omega.{arith}
 use lib.Arith.{lt-one}
 use lib.Dec.{eqb, eqb→eq, lit<}
 use lib.ListN.{length, replicate, replicate-append-replicate}

@@ -1,6 +1,5 @@
 use Prim.Native.Nat.{_-_}
 use native.Mathlib.Omega.{arith}
-use Rattle.algebra.specs.Fill.{filled-long}
 use Rattle.effects.proofs.Rowed.{Rowed, rowed-none, row-fits, rowed-more, rowed-all}
 use Rattle.effects.proofs.letters.rows.Statement.{statement}
 use Rattle.effects.proofs.letters.rows.Tie as tie

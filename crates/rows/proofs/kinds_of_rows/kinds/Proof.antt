@@ -1,5 +1,3 @@
-use mathlib.Core.Path.{sym, ap, _∙_}
-use native.Mathlib.Omega.{arith}
 use borrow.Author.Needs.{needs}
 use Rattle.rows.proofs.Putting.{all-kinds}
 use Rattle.rows.proofs.kinds_of_rows.kinds.Statement.{statement}

@@ -1,5 +1,4 @@
 use mathlib.Core.Path.{refl, sym}
-use native.Mathlib.Omega.{arith}
 use lib.Seq.{set-out}
 use borrow.Author.Needs.{needs}
 use Rattle.rows.proofs.kinds_of_rows.put.Statement.{statement}

@@ -1,5 +1,4 @@
-use mathlib.Core.Path.{sym, _∙_}
-use mathlib.Core.Bool.{Bool, true, false}
+use mathlib.Core.Path.{_∙_}
 use borrow.Author.Needs.{needs}
 use Rattle.algebra.specs.Tests.{is}
 use Rattle.rows.proofs.Judging.{over-bad, mean-bad, blocks-or-none}
