@@ -1,4 +1,4 @@
--- Finite sums and largest values of natural numbers.
+-- Finite sums and largest values of natural numbers, and powers of products.
 --
 --   Σℕ n f          f 0 + .. + f (n - 1)
 --   Σℕ-pos          as an integer it is the sum Σ, whose laws it has
@@ -21,10 +21,11 @@
 --   Σℕ-term         and so is one term
 --   most n f        the largest of f 0, .., f (n - 1)
 --   most-ge         it is at least each of them
+--   mul-pow         the power of a product
 use mathlib.Core.Path.{_≡_, refl, sym, _∙_, ap, ap₂}
 use mathlib.Core.Bool.{Bool, true, false, cond}
-use Prim.Native.Nat.{ℕ, zero, suc, _+_, _*_, _-_, _/_, _%_, _<_, _≤_, max}
-use native.Mathlib.Nat.{add-zero, le-refl, suc-mul, le-trans}
+use Prim.Native.Nat.{ℕ, zero, suc, _+_, _*_, _-_, _/_, _%_, _^_, _<_, _≤_, max}
+use native.Mathlib.Nat.{add-zero, le-refl, suc-mul, le-trans, pow-zero, pow-suc, mul-mul-mul-comm}
 use native.Mathlib.Numerals.{add-one}
 use native.Mathlib.Omega.{arith}
 use native.Mathlib.Decide.{ℕ-discrete}
@@ -162,3 +163,7 @@ most-ge (suc n) f i h = go (ℕ-discrete i n) (most-ge n f i)
     go : Dec (i ≡ n) → (i < n → f i ≤ most n f) → f i ≤ max (most n f) (f n)
     go (yes e) r = rw e (omega arith)
     go (no e) r = omega (arith, r (omega arith))
+
+pub mul-pow : (a b k : ℕ) → (a * b) ^ k ≡ a ^ k * b ^ k
+mul-pow a b zero = rw (pow-zero (a * b), pow-zero a, pow-zero b) refl
+mul-pow a b (suc k) = rw (pow-suc (a * b) k, mul-pow a b k, pow-suc a k, pow-suc b k) (mul-mul-mul-comm (a ^ k) (b ^ k) a b)

@@ -1,6 +1,6 @@
--- What the calls on effects of three-level plans promise.
+-- What the calls on effects promise.
 --
+--   Effects    the rows and the weights of a plan's effects
 --   Divisors   the table of divisors, and the divisors of fewer factors
---   Rows       the rows of the effects
+pub mod Effects
 pub mod Divisors
-pub mod Rows

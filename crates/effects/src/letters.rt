@@ -1,26 +1,59 @@
-// The rows of the effects of three-level plans.
+// The rows of effects: each effect belongs to the row of the letters that it uses.
 ghost use mathlib.Core.Path.{_≡_};
 ghost use mathlib.Core.Bool.{cond};
 ghost use Prim.Native.Nat.{_%_, _≤_};
-ghost use lib.Dec.{eqb};
-ghost use Rattle.effects.specs.Rows.{effectRows};
+ghost use lib.Dec.{eqb, ltb};
+ghost use lib.ListN.{replicate};
+ghost use Rattle.algebra.specs.Tab.{tab};
+ghost use Rattle.contrasts.specs.Rows.{rowOf};
+ghost use Rattle.contrasts.specs.Tables.{three};
+use plan::Plan;
+use sizes::runs;
+ghost use Rattle.effects.specs.Effects.{effectRows};
 
-// 1 where the effect uses the first letter, and else 0.
+// At two levels an effect's row is its own number.
+fn rows_of_two(n: usize) -> [u16; 1024]
+    requires { ⌜ n ≤ 1024 ⌝ }
+    ensures { λ r. ⌜ r ≡ tab 1024 (λ e. cond (ltb e n) e 0) ⌝ }
+{
+    let mut rows = [0u16; 1024];
+    let mut e = 0;
+    while e < n {
+        rows[e] = e as u16;
+        e += 1;
+    }
+    rows
+}
+
+// 1 where a three-level effect uses the first letter, and else 0.
 fn first_letter(e: usize) -> u16
     ensures { λ r. ⌜ (r ≡ cond (eqb (e % 3) 0) 0 1) × (r ≤ 1) ⌝ }
 {
     if e % 3 == 0 { 0 } else { 1 }
 }
 
-// The row of each effect of six factors. An effect of fewer factors has the same row.
-pub fn rows() -> [u16; 729]
-    ensures { λ r. ⌜ r ≡ effectRows ⌝ }
+// At three levels an effect's row follows from that of the effect without its lowest digit. An effect of fewer factors than six has the same
+// row as one of six.
+fn rows_of_three(n: usize) -> [u16; 1024]
+    requires { ⌜ n ≤ 729 ⌝ }
+    ensures { λ r. ⌜ r ≡ tab 1024 (λ e. cond (ltb e n) (rowOf (replicate 6 three) e) 0) ⌝ }
 {
-    let mut rows = [0u16; 729];
+    let mut rows = [0u16; 1024];
     let mut e = 0;
-    while e < 729 {
+    while e < n {
         rows[e] = rows[e / 3] * 2 + first_letter(e);
         e += 1;
     }
     rows
+}
+
+// The row of each effect, and 0 where a plan has no such effect.
+pub fn rows(p: Plan) -> [u16; 1024]
+    ensures { λ r. ⌜ r ≡ effectRows p ⌝ }
+{
+    let n = runs(p);
+    if p.levels == 2 {
+        return rows_of_two(n);
+    }
+    rows_of_three(n)
 }

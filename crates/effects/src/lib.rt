@@ -1,10 +1,11 @@
-// Effects of three-level plans: their divisors, and the rows that they belong to.
+// The effects of a plan: the row that each belongs to, and its weight in the sum of squares.
 //
-//   divisors(k)   the divisors of the effects of k factors
-//   rows()        the rows of the effects of six factors, and of fewer
-mod fewer;
+//   rows(p)      the row of each effect
+//   weights(p)   the weight of each effect: denominator over divisor
+mod divisors;
 mod letters;
+mod shares;
 mod table;
 
-pub use fewer::divisors;
 pub use letters::rows;
+pub use shares::weights;

@@ -3,6 +3,7 @@
 --   sum, linear, quadratic    the three rows, over any three values
 --   pass-three                the pass
 --   step-three                the report's step
+--   size-three                the number of runs
 --   divisor-three             the divisors of fewer factors
 --   denominator-three         the common denominator
 --   weight-three              denominator over divisor, from the divisors of six factors
@@ -95,6 +96,10 @@ step-three n x q h = (
     first = ap x (add-zero (q * 3))
 
 -- ---- divisors and denominator
+
+pub size-three : (k : ℕ) → size (replicate k three) ≡ 3 ^ k
+unfolding three
+size-three k = size-alike k three
 
 -- "with fewer factors the entry is divided by 3 for each factor missing"
 pub divisor-three : (k j e : ℕ) → e < 3 ^ k → divisor* (replicate k three) e ≡ divisor* (replicate (k + j) three) e / 3 ^ j

@@ -6,10 +6,12 @@
 --   plan-kind                     the factor of the plan's levels has so many
 --   plan-within                   its totals, and all values on the way, are within the limits
 --   spacing-power                 the values of the factor at position f lie levels to the power f apart
+--   RunsTwo, RunsThree, runs-known    what `runs` gives of any plan: 0, or the number of runs at two or at three levels
 --   run-count, spacing-is, confounded-is    what `runs`, `spacing` and `confounded` give of an accepted plan
 --   power-room, power-more        the loop that multiplies
 use mathlib.Core.Path.{_≡_, refl, _∙_}
 use mathlib.Core.Logic.{_⊎_, inl, inr}
+use mathlib.Core.Bool.{Bool, true, false}
 use Prim.Native.Nat.{ℕ, _+_, _*_, _^_, _<_, _≤_}
 use native.Mathlib.Nat.{le-trans, mul-le-mul-left, pow-le-pow-left, pow-le-pow-right, pow-suc}
 use native.Mathlib.Numerals.{add-one}
@@ -17,6 +19,7 @@ use native.Mathlib.Omega.{arith}
 use lib.Dec.{T}
 use lib.ListN.{replicate}
 use borrow.Author.Tests.{eq-eqb, lt-leb}
+use Rattle.contrasts.specs.Limits.{mostTwo, mostThree}
 use Rattle.contrasts.specs.Tables.{two, three, ofLevels}
 use Rattle.contrasts.specs.Laws.Alike.{size-alike, spacing-alike}
 use Rattle.contrasts.specs.Laws.Kinds.{kind-of}
@@ -24,8 +27,8 @@ use Rattle.contrasts.specs.Laws.Limits.{withinLimits, two-within, three-within}
 use Rattle.contrasts.specs.Laws.Stretches.{spacing}
 use Rattle.plan.specs.declared.types.Plan.{Plan}
 use Rattle.plan.specs.Plan.{factorsOf, runsOf, confoundedIn}
-use Rattle.plan.specs.Check.{planNumber, runCount, spacingAt, confoundedAccepted}
-use Rattle.plan.specs.Laws.Accepted.{accepted}
+use Rattle.plan.specs.Check.{badLevels, badFactors, planNumber, runCount, spacingAt, confoundedAccepted}
+use Rattle.plan.specs.Laws.Accepted.{accepted, levels-known, factors-known}
 use Rattle.plan.specs.Laws.Accepts.{levels-right, factors-right}
 
 two-then : (p : Plan) → (p .levels ≡ 2) ⊎ (p .levels ≡ 3) → (p .levels ≡ 3 → ⊥) → p .levels ≡ 2
@@ -68,6 +71,34 @@ plan-within p e = by (accepted p e .levels)
     by : (p .levels ≡ 2) ⊎ (p .levels ≡ 3) → T (withinLimits (ofLevels (p .levels)) (p .k))
     by (inl d) = rw d (two-within (p .k) (accepted p e .factors .1))
     by (inr d) = rw d (three-within (p .k) (accepted p e .factors .2 d))
+
+pub record RunsTwo (p : Plan) : Type 0 where
+  pub levels : p .levels ≡ 2
+  pub most : p .k ≤ 10
+  pub factors : factorsOf p ≡ replicate (p .k) two
+  pub count : runCount p ≡ 2 ^ p .k
+
+pub record RunsThree (p : Plan) : Type 0 where
+  pub levels : p .levels ≡ 3
+  pub most : p .k ≤ 6
+  pub factors : factorsOf p ≡ replicate (p .k) three
+  pub count : runCount p ≡ 3 ^ p .k
+
+pub runs-known : (p : Plan) → (runCount p ≡ 0) ⊎ (RunsTwo p ⊎ RunsThree p)
+unfolding runCount mostTwo mostThree
+runs-known p = by (badLevels (p .levels)) (badFactors (p .levels) (p .k)) refl refl
+  where
+    inside : (p .levels ≡ 2) ⊎ (p .levels ≡ 3) → (0 < p .k) × (p .k ≤ mostTwo) × (p .levels ≡ 3 → p .k ≤ mostThree) → runCount p ≡ runsOf p
+        → RunsTwo p ⊎ RunsThree p
+    inside (inl e) f c =
+        inl (record { levels = e; most = f .1; factors = factors-two p e; count = c ∙ runs-power p (inl e) ∙ rw e refl })
+    inside (inr e) f c =
+        inr (record { levels = e; most = f .2 e; factors = factors-three p e; count = c ∙ runs-power p (inr e) ∙ rw e refl })
+
+    by : (a b : Bool) → badLevels (p .levels) ≡ a → badFactors (p .levels) (p .k) ≡ b → (runCount p ≡ 0) ⊎ (RunsTwo p ⊎ RunsThree p)
+    by true b d e = inl (rw d refl)
+    by false true d e = inl (rw (d, e) refl)
+    by false false d e = inr (inside (levels-known (p .levels) d) (factors-known (p .levels) (p .k) e) (rw (d, e) refl))
 
 pub run-count : (p : Plan) → planNumber p ≡ 0 → runCount p ≡ runsOf p
 unfolding runCount

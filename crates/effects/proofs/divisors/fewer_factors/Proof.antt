@@ -1,9 +1,8 @@
 use mathlib.Core.Path.{sym}
-use Prim.Native.Nat.{_-_}
 use native.Mathlib.Omega.{arith}
 use Rattle.effects.proofs.Divided.{Missing, missing-none, missing-long, missing-more, missing-all}
-use Rattle.effects.proofs.fewer.divisors.Statement.{statement}
-use Rattle.effects.proofs.fewer.divisors.Tie as tie
+use Rattle.effects.proofs.divisors.fewer_factors.Statement.{statement}
+use Rattle.effects.proofs.divisors.fewer_factors.Tie as tie
 
 abbrev Inv-loop : tie.InvT-loop
 Inv-loop k divisors₀ factors₀ divisors factors = Missing k factors divisors
@@ -11,8 +10,8 @@ Inv-loop k divisors₀ factors₀ divisors factors = Missing k factors divisors
 abbrev μ-loop : tie.MeasureT-loop
 μ-loop k divisors₀ factors₀ divisors factors = factors
 
-pub divisors-spec : {M : Type 1} → statement M
-divisors-spec =
+pub fewer-factors-spec : {M : Type 1} → statement M
+fewer-factors-spec =
     tie.close
     (tie.spec
     Inv-loop

@@ -1,4 +1,4 @@
-// The divisors of fewer than six three-level factors.
+// The divisors of three-level plans with fewer than six factors.
 ghost use mathlib.Core.Path.{_≡_};
 use super::table::six_factors;
 ghost use Rattle.effects.specs.Divisors.{divisorsOf, thirds};
@@ -15,7 +15,7 @@ fn divide_by_three(divisors: &mut [u32])
 }
 
 // The divisors of k factors: the entry divided by 3 for each factor missing of six.
-pub fn divisors(k: usize) -> [u32; 729]
+pub fn fewer_factors(k: usize) -> [u32; 729]
     ensures { λ r. ⌜ r ≡ divisorsOf k ⌝ }
 {
     let mut divisors = six_factors();
