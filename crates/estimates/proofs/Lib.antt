@@ -1,0 +1,8 @@
+-- Laws of the code's numbers and answers.
+--
+--   Division   a total over a power of two, as doubles
+--   Limit      a total beside its limit
+--   Answers    the answers of the call, by the number that was found
+pub mod Division
+pub mod Limit
+pub mod Answers

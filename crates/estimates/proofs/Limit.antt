@@ -1,0 +1,39 @@
+-- A total beside its limit, as code compares the two: a negative one by -1 minus it, its size less 1.
+--
+--   below, above    a negative total, and one that is not
+use mathlib.Core.Path.{_≡_, refl, sym, _∙_, subst}
+use mathlib.Core.Bool.{true, false}
+use Prim.Native.Nat.{ℕ, _*_, _%_, _^_, _≤_}
+use native.Mathlib.Nat.{mul-comm, mod-eq-of-lt}
+use native.Mathlib.Omega.{arith}
+use borrow.Author.Tests.{le-ltb}
+use lib.Dec.{T, leb, ltb, leb·suc-suc}
+use lib.IntN.{ℤ, pos, negsuc, _-ℤ_, natAbs}
+use lib.Pow.{pow-mono}
+use lib.Signed.{ltZ, mag}
+use mir.Facts.{toZ-ofZ}
+use mir.Syntax.{w64}
+use mir.Val.{SFits}
+use Rattle.algebra.specs.Signs.{turned-is, upright-is}
+use Rattle.algebra.specs.Size.{wrap}
+use Rattle.contrasts.specs.Limits.{readingLimit}
+
+limit : (k : ℕ) → k ≤ 10 → 100000 * 2 ^ k % 2 ^ 64 ≡ 2 ^ k * readingLimit
+unfolding readingLimit
+limit k h = let l : 2 ^ k ≤ 2 ^ 10 = pow-mono h in mod-eq-of-lt (omega (arith, l)) ∙ mul-comm 100000 (2 ^ k)
+
+under : (m : ℕ) (x : ℤ) → ltZ x (pos 0) ≡ true → leb m (mag x) ≡ ltb m (natAbs x)
+under m (pos n) t = cc (le-ltb n 0 (omega arith))
+under m (negsuc n) t = sym (leb·suc-suc m n)
+
+over : (m : ℕ) (x : ℤ) → ltZ x (pos 0) ≡ false → ltb m (mag x) ≡ ltb m (natAbs x)
+over m (pos n) t = refl
+over m (negsuc n) t = absurd (subst T t tt)
+
+module _ {x : ℤ} (f : SFits w64 x) {k : ℕ} (h : k ≤ 10) where
+  pub below : ltZ (wrap x) (pos 0) ≡ true
+      → leb (100000 * 2 ^ k % 2 ^ 64) (natAbs (wrap (negsuc 0 -ℤ wrap x))) ≡ ltb (2 ^ k * readingLimit) (natAbs x)
+  below t = rw (limit k h, turned-is f t) (under (2 ^ k * readingLimit) x (rw (toZ-ofZ f) at t))
+
+  pub above : ltZ (wrap x) (pos 0) ≡ false → ltb (100000 * 2 ^ k % 2 ^ 64) (natAbs (wrap x)) ≡ ltb (2 ^ k * readingLimit) (natAbs x)
+  above t = rw (limit k h, upright-is f t) (over (2 ^ k * readingLimit) x (rw (toZ-ofZ f) at t))

@@ -1,0 +1,67 @@
+-- The estimate call: the mean, a difference, or lost to blocks.
+--
+--   Value                   the three outcomes
+--   meanOf, differenceOf    the mean and a difference, by k and the total
+--   valueBy lost k e t      the outcome of the effect e with the total t, by whether it is lost
+--   estimateValue p e t     the outcome of an effect of a plan
+--   totalLimit p            the largest size of a total that is admitted
+--   estimateNumber p e t    the lowest number that applies, 0 where an estimate is given
+--   estimateOutcome         the cases of the call's answer
+use mathlib.Core.Bool.{Bool, cond}
+use mathlib.Core.List.{[], _∷_}
+use Prim.Native.Nat.{ℕ, _*_, _-_, _^_}
+use lib.Dec.{eqb, ltb}
+use lib.IntN.{ℤ, natAbs}
+use lib.Ieee.{Float}
+use Rattle.contrasts.specs.Limits.{readingLimit}
+use Rattle.words.specs.Words.{beyond}
+use Rattle.plan.specs.declared.types.Plan.{Plan}
+use Rattle.plan.specs.Outcome.{line, Outcome, given, refused}
+use Rattle.plan.specs.Plan.{confoundedIn}
+use Rattle.plan.specs.Check.{withPlan}
+use Rattle.estimates.specs.declared.types.Estimate.{Estimate}
+use Rattle.estimates.specs.declared.types.Estimate.the-variants as answer
+use Rattle.estimates.specs.Quotient.{quotient}
+
+-- ---- the values
+
+-- "the estimate has three outcomes: the mean as a double, a difference as a double, or lost to blocks with no number"
+pub data Value : Type 0 where
+  mean : Float → Value
+  difference : Float → Value
+  lost : Value
+
+-- "The mean is the total over 2 to the power k (the report's first entry is twice that)"
+unfoldable pub meanOf : ℕ → ℤ → Float
+meanOf k t = quotient t k
+
+-- "a difference the total over 2 to the power k - 1"
+unfoldable pub differenceOf : ℕ → ℤ → Float
+differenceOf k t = quotient t (k - 1)
+
+-- the empty effect, 0, has the mean, and every other a difference
+unfoldable pub valueBy : Bool → ℕ → ℕ → ℤ → Value
+valueBy b k e t = cond b lost (cond (eqb e 0) (mean (meanOf k t)) (difference (differenceOf k t)))
+
+-- "Lost is the outcome exactly when the effect is confounded."
+abbrev pub estimateValue : Plan → ℕ → ℤ → Value
+estimateValue p e t = valueBy (confoundedIn p e) (p .k) e t
+
+-- ---- the numbers
+
+-- "The caller hands in the total; it must lie within 2 to the power k times 100,000 either way"
+abbrev pub totalLimit : Plan → ℕ
+totalLimit p = 2 ^ p .k * readingLimit
+
+-- 9: "estimate, alias or run call asked at three levels"; 10: "[..] estimate's letter not a base factor";
+-- 12: "estimate's total beyond its limit"
+unfoldable pub estimateNumber : Plan → ℕ → ℤ → ℕ
+estimateNumber p e t = withPlan p (line 9 (eqb (p .levels) 3) ∷ line 10 (beyond (p .k) e) ∷ line 12 (ltb (totalLimit p) (natAbs t)) ∷ [])
+
+-- ---- the answer
+
+abbrev pub estimateOutcome : Estimate → Outcome Value
+estimateOutcome (answer.Mean x) = given (mean x)
+estimateOutcome (answer.Difference x) = given (difference x)
+estimateOutcome answer.Lost = given lost
+estimateOutcome (answer.Refused n) = refused n

@@ -1,0 +1,106 @@
+-- Estimates of small plans, computed over the definitions.
+--
+--   quotients              totals over powers of two, as doubles
+--   four, eight            readings 3, 5, 4, 8, and readings 1 to 8 with the block word ABC
+--   largest                "k = 1, -100,000 and 100,000"
+--   small-inputs           the small inputs of lines 9, 10 and 12, and the lowest of them where several apply
+--   at-limits              the largest totals that are admitted, and those one larger
+use mathlib.Core.Path.{_≡_, refl}
+use mathlib.Core.Bool.{true, false}
+use mathlib.Core.List.{List, [], _∷_}
+use Prim.Native.Nat.{ℕ, suc}
+use lib.Count.{trailingZeros}
+use lib.IntN.{ℤ, pos}
+use lib.Ieee.{Float, fin, odd}
+use Rattle.algebra.specs.Naturals.{Σℕ}
+use Rattle.algebra.specs.Bits.{bits}
+use Rattle.algebra.specs.Search.{some}
+use Rattle.contrasts.specs.Limits.{readingLimit, mostTwo, mostThree}
+use Rattle.contrasts.specs.Tables.{neg}
+use Rattle.words.specs.Words.{letters, beyond, times, combined, any, among, repeated}
+use Rattle.plan.specs.declared.types.Plan.{Plan}
+use Rattle.plan.specs.Examples.{plan, A, C, ABC}
+use Rattle.plan.specs.Outcome.{Outcome, given, refused, outcome}
+use Rattle.plan.specs.Plan.{someCombination, combinesTo}
+use Rattle.plan.specs.Check.{badLevels, badFactors, badCounts, badWord, badSign, badWords, dependent, factorWord, losesFactor, planNumber, withPlan}
+use Rattle.estimates.specs.Quotient.{quotient}
+use Rattle.estimates.specs.Estimate.{Value, mean, difference, lost, meanOf, differenceOf, valueBy, estimateValue, estimateNumber}
+
+-- 7 / 4 is 7 * 2 ^ -2, 12 / 4 is 3, -6 / 8 is -3 * 2 ^ -2, and 0 / 8 is positive zero
+quotients : quotient (pos 7) 2 ∷ quotient (pos 12) 2 ∷ quotient (neg 6) 3 ∷ quotient (pos 0) 3 ∷ []
+    ≡ fin false 7 (neg 2) ∷ fin false 3 (pos 0) ∷ fin true 3 (neg 2) ∷ fin false 0 (pos 0) ∷ []
+unfolding quotient odd trailingZeros
+quotients = refl
+
+abbrev answer : Plan → ℕ → ℤ → Outcome Value
+answer p e t = outcome (estimateNumber p e t) (estimateValue p e t)
+
+-- the answers by a column of totals, from effect e on: "place e of a column of totals holds the total of effect e"
+abbrev answers : Plan → ℕ → List ℤ → List (Outcome Value)
+answers p e [] = []
+answers p e (t ∷ ts) = answer p e t ∷ answers p (suc e) ts
+
+abbrev positiveZero : Float
+positiveZero = fin false 0 (pos 0)
+
+abbrev twoFactors : Plan
+twoFactors = plan 2 2 [] [] []
+
+-- "totals 20, -6, -4, 2": the mean is 5, and the differences are -3, -2 and 1
+four : answers twoFactors 0 (pos 20 ∷ neg 6 ∷ neg 4 ∷ pos 2 ∷ [])
+    ≡ given (mean (fin false 5 (pos 0)))
+    ∷ given (difference (fin true 3 (pos 0)))
+    ∷ given (difference (fin true 1 (pos 1)))
+    ∷ given (difference (fin false 1 (pos 0)))
+    ∷ []
+unfolding estimateNumber withPlan planNumber badLevels badFactors mostTwo mostThree badCounts badWords badWord badSign repeated dependent losesFactor factorWord any among beyond letters combined times someCombination combinesTo some bits Σℕ readingLimit valueBy meanOf differenceOf quotient odd trailingZeros
+four = refl
+
+abbrev inBlocks : Plan
+inBlocks = plan 2 3 [] [] (ABC ∷ [])
+
+-- "totals 36, -4, -8, 0, -16, 0, 0, 0; row ABC is blocks.": the mean is 4.5, the differences are -1, -2, 0, -4, 0 and 0, and ABC is lost
+eight : answers inBlocks 0 (pos 36 ∷ neg 4 ∷ neg 8 ∷ pos 0 ∷ neg 16 ∷ pos 0 ∷ pos 0 ∷ pos 0 ∷ [])
+    ≡ given (mean (fin false 9 (neg 1)))
+    ∷ given (difference (fin true 1 (pos 0)))
+    ∷ given (difference (fin true 1 (pos 1)))
+    ∷ given (difference positiveZero)
+    ∷ given (difference (fin true 1 (pos 2)))
+    ∷ given (difference positiveZero)
+    ∷ given (difference positiveZero)
+    ∷ given lost
+    ∷ []
+unfolding estimateNumber withPlan planNumber badLevels badFactors mostTwo mostThree badCounts badWords badWord badSign repeated dependent losesFactor factorWord any among beyond letters combined times someCombination combinesTo some bits Σℕ readingLimit valueBy meanOf differenceOf quotient odd trailingZeros
+eight = refl
+
+-- "totals 0, -200,000; difference -200,000", which is -3,125 * 2 ^ 6
+largest : answers (plan 2 1 [] [] []) 0 (pos 0 ∷ neg 200_000 ∷ []) ≡ given (mean positiveZero) ∷ given (difference (fin true 3_125 (pos 6))) ∷ []
+unfolding estimateNumber withPlan planNumber badLevels badFactors mostTwo mostThree badCounts badWords badWord badSign repeated dependent losesFactor factorWord any among beyond letters combined times someCombination combinesTo some bits Σℕ readingLimit valueBy meanOf differenceOf quotient odd trailingZeros
+largest = refl
+
+-- "levels 3, k = 1"; k = 2, effect C; k = 2, total 400,001; then calls to which 3, 9, 10 and 12 apply, 9, 10
+-- and 12, and 10 and 12
+small-inputs : answer (plan 3 1 [] [] []) A (pos 0)
+    ∷ answer twoFactors C (pos 0)
+    ∷ answer twoFactors A (pos 400_001)
+    ∷ answer (plan 3 7 [] [] []) 2048 (neg 1_000_000_000)
+    ∷ answer (plan 3 1 [] [] []) C (neg 1_000_000_000)
+    ∷ answer twoFactors C (neg 1_000_000_000)
+    ∷ []
+    ≡ refused 9 ∷ refused 10 ∷ refused 12 ∷ refused 3 ∷ refused 9 ∷ refused 10 ∷ []
+unfolding estimateNumber withPlan planNumber badLevels badFactors mostTwo mostThree badCounts badWords badWord badSign repeated dependent losesFactor factorWord any among beyond letters combined times someCombination combinesTo some bits Σℕ readingLimit valueBy meanOf differenceOf quotient odd trailingZeros
+small-inputs = refl
+
+-- both ways, with two factors and with ten, and the smallest i64; an effect that is lost is refused by its total too
+at-limits : estimateNumber twoFactors A (pos 400_000)
+    ∷ estimateNumber twoFactors A (neg 400_000)
+    ∷ estimateNumber twoFactors A (pos 400_001)
+    ∷ estimateNumber twoFactors A (neg 400_001)
+    ∷ estimateNumber (plan 2 10 [] [] []) 0 (neg 102_400_000)
+    ∷ estimateNumber (plan 2 10 [] [] []) 0 (pos 102_400_001)
+    ∷ estimateNumber twoFactors A (neg 9_223_372_036_854_775_808)
+    ∷ estimateNumber inBlocks ABC (pos 800_001)
+    ∷ []
+    ≡ 0 ∷ 0 ∷ 12 ∷ 12 ∷ 0 ∷ 12 ∷ 12 ∷ 12 ∷ []
+unfolding estimateNumber withPlan planNumber badLevels badFactors mostTwo mostThree badCounts badWords badWord badSign repeated dependent losesFactor factorWord any among beyond letters combined times someCombination combinesTo some bits Σℕ readingLimit
+at-limits = refl

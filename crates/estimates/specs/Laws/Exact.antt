@@ -1,0 +1,105 @@
+-- "The double is exactly that quotient; a zero total gives positive zero."
+--
+--   IsQuotient t j x    x is finite, has the sign of t, and is t / 2 ^ j in size
+--   Exactly t j x       besides, x is a double, and no other double is that quotient
+--   exact               so is `quotient t j`, for every t below 2 ^ 53 in size
+--   positive-zero       and where t is 0 it is positive zero
+--   of-value            `IsQuotient` from the kit's own terms
+use mathlib.Core.Path.{_≡_, refl, sym, ap, _∙_, subst}
+use mathlib.Core.Bool.{Bool, true, false}
+use Prim.Native.Nat.{ℕ, zero, suc, _+_, _*_, _-_, _/_, _^_, _<_, _≤_}
+use native.Mathlib.Nat.{mul-one, mul-right-comm, eq-of-mul-eq-mul-right, le-of-lt, lt-of-lt-of-le}
+use native.Mathlib.Omega.{arith}
+use borrow.Author.Tests.{le-leb, lt-leb, leb-true, leb-false}
+use lib.Count.{trailingZeros}
+use lib.Dec.{T, leb}
+use lib.IntN.{ℤ, pos, negsuc, natAbs}
+use lib.Pow.{pow-pos, pow-mono, shl-lt}
+use lib.Ieee.{Float, nan, inf, fin, binary64, up, down, minus, odd, fits}
+use lib.Ieee.Exact.{HasValue, odd-sign}
+use lib.Ieee.Fits.{odd-fits}
+use Rattle.estimates.specs.Quotient.{negative, quotient}
+use Rattle.estimates.specs.Laws.Doubles.{one-double}
+
+-- x is digits * 2 ^ exponent, negative where t is, and in size that times 2 ^ j is t; 2 ^ e is the fraction up e / down e
+pub record IsQuotient (t : ℤ) (j : ℕ) (x : Float) : Type 0 where
+  pub digits : ℕ
+  pub exponent : ℤ
+  pub finite : x ≡ fin (negative t) digits exponent
+  pub times : digits * up exponent * 2 ^ j ≡ natAbs t * down exponent
+
+pub record Exactly (t : ℤ) (j : ℕ) (x : Float) : Type 0 where
+  pub value : IsQuotient t j x
+  pub double : T (fits binary64 x)
+  pub only : (y : Float) → T (fits binary64 y) → IsQuotient t j y → y ≡ x
+
+pub of-value : (t : ℤ) (j : ℕ) (x : Float) → HasValue x (negative t) (natAbs t) (2 ^ j) → IsQuotient t j x
+of-value t j nan v = absurd v
+of-value t j (inf s) v = absurd v
+of-value t j (fin s m e) v = record { digits = m; exponent = e; finite = ap (λ (b : Bool). fin b m e) (v .0); times = v .1 }
+
+-- ---- no other double
+
+-- x / p and y / q are both a / c
+cross : (x y p q a c : ℕ) → 0 < c → x * c ≡ a * p → y * c ≡ a * q → x * q ≡ y * p
+cross x y p q a c h k l =
+    eq-of-mul-eq-mul-right c h (x * q) (y * p)
+    (mul-right-comm x q c
+    ∙ ap (λ (z : ℕ). z * q) k
+    ∙ mul-right-comm a p q
+    ∙ ap (λ (z : ℕ). z * p) (sym l)
+    ∙ mul-right-comm y c p)
+
+unique : {t : ℤ} {j : ℕ} {x y : Float} → T (fits binary64 x) → T (fits binary64 y) → IsQuotient t j x → IsQuotient t j y → x ≡ y
+unique {t} {j} f g v w =
+    let m = v .digits in
+    let n = w .digits in
+    let d = v .exponent in
+    let e = w .exponent in
+    let p : T (fits binary64 (fin (negative t) m d)) = subst (λ (z : Float). T (fits binary64 z)) (v .finite) f in
+    let q : T (fits binary64 (fin (negative t) n e)) = subst (λ (z : Float). T (fits binary64 z)) (w .finite) g in
+    let c = cross (m * up d) (n * up e) (down d) (down e) (natAbs t) (2 ^ j) (pow-pos j) (v .times) (w .times) in
+    v .finite ∙ one-double binary64 (negative t) m n d e p q c ∙ sym (w .finite)
+
+-- ---- it is a double
+
+same-exponent : (a b c d : ℕ) → a + d ≡ c + b → minus a b ≡ minus c d
+same-exponent a b c d h = by (leb b a) refl
+  where
+    by : (t : Bool) → leb b a ≡ t → minus a b ≡ minus c d
+    by true e =
+        let k : b ≤ a = leb-true b a e in
+        let l : d ≤ c = omega arith in
+        simp (le-leb b a k, le-leb d c l) (ap pos (omega arith))
+    by false e =
+        let k : a < b = leb-false b a e in
+        let l : c < d = omega arith in
+        simp (lt-leb b a k, lt-leb d c l) (ap negsuc (omega arith))
+
+-- the same number in units of 2 ^ -l
+in-units : (d : ℕ) (s : Bool) (q j l : ℕ) → j ≤ l → odd d s q 0 j ≡ odd d s q (l - j) l
+unfolding odd
+in-units d s zero j l h = refl
+in-units d s (suc q) j l h =
+    let z = trailingZeros d (suc q) in
+    ap (fin s (suc q / 2 ^ z)) (same-exponent (0 + z) j (l - j + z) l (omega arith))
+
+is-double : (s : Bool) (n j : ℕ) → n < 2 ^ 53 → j ≤ 1074 → T (fits binary64 (odd 53 s n 0 j))
+is-double s n j h k =
+    let room : 53 + (1074 - j) ≤ 2098 = omega arith in
+    rw (in-units 53 s n j 1074 k)
+    (odd-fits binary64 53 s n (1074 - j) h (le-of-lt h) (lt-of-lt-of-le (shl-lt 53 (1074 - j) h) (pow-mono room)))
+
+-- ---- the laws
+
+pub exact : (t : ℤ) (j : ℕ) → natAbs t < 2 ^ 53 → j ≤ 1074 → Exactly t j (quotient t j)
+unfolding quotient
+exact t j h k =
+    let a : HasValue (quotient t j) (negative t) (natAbs t * 1) (2 ^ j) = odd-sign 53 (negative t) (natAbs t) 0 j in
+    let v : IsQuotient t j (quotient t j) = of-value t j (quotient t j) (rw (mul-one (natAbs t)) at a) in
+    let f : T (fits binary64 (quotient t j)) = is-double (negative t) (natAbs t) j h k in
+    record { value = v; double = f; only = λ y g w. unique g f w v }
+
+pub positive-zero : (j : ℕ) → quotient (pos 0) j ≡ fin false 0 (pos 0)
+unfolding quotient odd
+positive-zero j = refl

@@ -1,0 +1,115 @@
+-- The numbers of the estimate call, and what it hands out where it is not refused.
+--
+--   estimate-two         of an accepted plan of two levels lines 10 and 12 are left
+--   Admitted p e t       the plan is accepted and has two levels, the effect has base letters only, the total is within its limit
+--   admitted, admits     so it is where the call gives no number, and it gives none where this holds
+--   some-factor, held    such a plan has a factor, and doubles hold the total and 2 ^ k
+--   Estimated p e t      the outcome of the effect e of the plan p with the total t
+--   estimated            so it is where the call gives no number
+use mathlib.Core.Path.{_≡_, refl, sym, ap, _∙_}
+use mathlib.Core.Bool.{Bool, true, false, cond}
+use Prim.Native.Nat.{ℕ, _*_, _-_, _^_, _<_, _≤_}
+use native.Mathlib.Nat.{mul-le-mul-right}
+use native.Mathlib.Omega.{arith}
+use borrow.Author.Tests.{eq-eqb, ne-eqb, eqb-false, le-ltb, ltb-false}
+use lib.Dec.{eqb, ltb}
+use lib.IntN.{ℤ, natAbs}
+use lib.Pow.{pow-mono}
+use lib.Ieee.{Float}
+use Rattle.contrasts.specs.Limits.{readingLimit}
+use Rattle.words.specs.Words.{beyond}
+use Rattle.plan.specs.declared.types.Plan.{Plan}
+use Rattle.plan.specs.Plan.{confoundedIn}
+use Rattle.plan.specs.Check.{planNumber}
+use Rattle.plan.specs.Laws.Accepted.{accepted, sizes}
+use Rattle.plan.specs.Laws.Answers.{after-plan, passed, plan-passed}
+use Rattle.plan.specs.Laws.Confounded.{not-empty}
+use Rattle.plan.specs.Laws.Sizes.{two-levels}
+use Rattle.estimates.specs.Quotient.{Held}
+use Rattle.estimates.specs.Estimate.{Value, mean, difference, lost, meanOf, differenceOf, valueBy, estimateValue, totalLimit, estimateNumber}
+use Rattle.estimates.specs.Laws.Exact.{Exactly, exact}
+
+-- ---- the numbers
+
+pub estimate-two : (p : Plan) (e : ℕ) (t : ℤ) → planNumber p ≡ 0 → (p .levels ≡ 3 → ⊥)
+    → estimateNumber p e t ≡ cond (beyond (p .k) e) 10 (cond (ltb (totalLimit p) (natAbs t)) 12 0)
+unfolding estimateNumber
+estimate-two p e t z h = after-plan p _ z ∙ rw (ne-eqb (p .levels) 3 h) refl
+
+pub record Admitted (p : Plan) (e : ℕ) (t : ℤ) : Type 0 where
+  pub plan : planNumber p ≡ 0
+  pub levels : p .levels ≡ 2
+  pub letters : beyond (p .k) e ≡ false
+  pub within : natAbs t ≤ totalLimit p
+
+pub admitted : (p : Plan) (e : ℕ) (t : ℤ) → estimateNumber p e t ≡ 0 → Admitted p e t
+unfolding estimateNumber
+admitted p e t n =
+    let q = plan-passed p _ n in
+    let l9 = passed (eqb (p .levels) 3) 9 _ (omega arith) (q .1) in
+    let l10 = passed (beyond (p .k) e) 10 _ (omega arith) (l9 .1) in
+    let l12 = passed (ltb (totalLimit p) (natAbs t)) 12 _ (omega arith) (l10 .1) in
+    record {
+      plan = q .0;
+      levels = two-levels p (q .0) (eqb-false (p .levels) 3 (l9 .0));
+      letters = l10 .0;
+      within = ltb-false (totalLimit p) (natAbs t) (l12 .0);
+    }
+
+module _ {p : Plan} {e : ℕ} {t : ℤ} (a : Admitted p e t) where
+  pub admits : estimateNumber p e t ≡ 0
+  admits =
+      estimate-two p e t (a .plan) (λ h. omega (arith, h, a .levels))
+      ∙ rw (a .letters, le-ltb (totalLimit p) (natAbs t) (a .within)) refl
+
+  pub some-factor : 0 < p .k
+  some-factor = accepted p (a .plan) .factors .0
+
+  pub held : Held t (p .k)
+  unfolding readingLimit
+  held =
+      let k : p .k ≤ 10 = sizes p (a .plan) .0 in
+      let l : totalLimit p ≤ 2 ^ 10 * readingLimit = mul-le-mul-right readingLimit (pow-mono k) in
+      record { number = omega (arith, a .within, l); power = omega (arith, k) }
+
+-- ---- the outcome
+
+pub record Estimated (p : Plan) (e : ℕ) (t : ℤ) : Type 0 where
+  -- "Lost is the outcome exactly when the effect is confounded."
+  pub lost-when : confoundedIn p e ≡ true → estimateValue p e t ≡ lost
+  pub lost-only : estimateValue p e t ≡ lost → confoundedIn p e ≡ true
+  -- "The mean is the total over 2 to the power k": of the empty effect, which is never lost
+  pub of-mean : e ≡ 0 → estimateValue p e t ≡ mean (meanOf (p .k) t)
+  pub mean-exact : Exactly t (p .k) (meanOf (p .k) t)
+  -- "a difference the total over 2 to the power k - 1": of every other effect that is not lost
+  pub of-difference : confoundedIn p e ≡ false → (e ≡ 0 → ⊥) → estimateValue p e t ≡ difference (differenceOf (p .k) t)
+  pub difference-exact : Exactly t (p .k - 1) (differenceOf (p .k) t)
+
+-- an accepted plan does not lose the mean
+never-lost : {p : Plan} {e : ℕ} {t : ℤ} → Admitted p e t → e ≡ 0 → (b : Bool) → confoundedIn p e ≡ b → b ≡ false
+never-lost {p} {e} a z true c = absurd (not-empty (accepted p (a .plan)) e c z)
+never-lost a z false c = refl
+
+abbrev isLost : Value → Bool
+isLost (mean x) = false
+isLost (difference x) = false
+isLost lost = true
+
+lost-by : (b zero : Bool) (x y : Float) → isLost (cond b lost (cond zero (mean x) (difference y))) ≡ b
+lost-by true zero x y = refl
+lost-by false true x y = refl
+lost-by false false x y = refl
+
+pub estimated : (p : Plan) (e : ℕ) (t : ℤ) → estimateNumber p e t ≡ 0 → Estimated p e t
+unfolding valueBy meanOf differenceOf
+estimated p e t n =
+    let a = admitted p e t n in
+    let h = held a in
+    record {
+      lost-when = λ c. rw c refl;
+      lost-only = λ c. sym (lost-by (confoundedIn p e) (eqb e 0) (meanOf (p .k) t) (differenceOf (p .k) t)) ∙ ap isLost c;
+      of-mean = λ z. rw (never-lost a z (confoundedIn p e) refl, eq-eqb e 0 z) refl;
+      mean-exact = exact t (p .k) (h .number) (omega (arith, h .power));
+      of-difference = λ c z. rw (c, ne-eqb e 0 z) refl;
+      difference-exact = exact t (p .k - 1) (h .number) (omega (arith, h .power));
+    }

@@ -1,0 +1,77 @@
+// The estimate call: the lowest number that applies, and else the mean, a difference, or lost to blocks.
+ghost use mathlib.Core.Path.{_≡_};
+ghost use Prim.Native.Nat.{_*_, _^_, _<_, _≤_};
+ghost use lib.Dec.{ltb};
+ghost use lib.IntN.{natAbs};
+use super::quotients::scaled;
+use super::types::Estimate;
+use plan::Plan;
+use plan::confounded;
+use plan::lowest;
+use words::has_beyond;
+ghost use Rattle.contrasts.specs.Limits.{readingLimit};
+ghost use Rattle.plan.specs.Outcome.{outcome, given};
+ghost use Rattle.estimates.specs.Quotient.{Held};
+ghost use Rattle.estimates.specs.Estimate.{valueBy, estimateNumber, estimateValue, estimateOutcome};
+
+const READING_LIMIT: u64 = 100_000;
+
+// Line 12: whether a total lies beyond 2 to the power k times the limit of a reading, either way. Of a negative total the size less 1 is
+// compared, -1 minus the total, which is an i64 for every total.
+fn is_beyond(total: i64, k: usize) -> bool
+    requires { ⌜ k ≤ 10 ⌝ }
+    ensures { λ r. ⌜ r ≡ ltb (2 ^ k * readingLimit) (natAbs total) ⌝ }
+{
+    let most = READING_LIMIT << k;
+    if total < 0 {
+        return most <= (-1 - total) as u64;
+    }
+    most < total as u64
+}
+
+// The lowest number that applies, and 0 where none does.
+fn estimate_number(p: Plan, effect: u16, total: i64) -> u8
+    ensures { λ r. ⌜ r ≡ estimateNumber p effect total ⌝ }
+{
+    let n = lowest(p);
+    if n != 0 {
+        return n;
+    }
+    if p.levels == 3 {
+        return 9;
+    }
+    let k = p.k as usize;
+    if has_beyond(effect, k) {
+        return 10;
+    }
+    if is_beyond(total, k) {
+        return 12;
+    }
+    0
+}
+
+// The answer where nothing is refused, by whether the effect is lost.
+fn value(lost: bool, k: usize, effect: u16, total: i64) -> Estimate
+    requires { ⌜ (0 < k) × Held total k ⌝ }
+    ensures { λ r. ⌜ estimateOutcome r ≡ given (valueBy lost k effect total) ⌝ }
+{
+    if lost {
+        return Estimate::Lost;
+    }
+    if effect == 0 {
+        return Estimate::Mean(scaled(total, k));
+    }
+    Estimate::Difference(scaled(total, k - 1))
+}
+
+// The mean or the difference by the total of an effect, or that the effect is lost to blocks.
+pub fn estimate(p: Plan, effect: u16, total: i64) -> Estimate
+    ensures { λ r. ⌜ estimateOutcome r ≡ outcome (estimateNumber p effect total) (estimateValue p effect total) ⌝ }
+{
+    let n = estimate_number(p, effect, total);
+    if n != 0 {
+        return Estimate::Refused(n);
+    }
+    let lost = confounded(p, effect);
+    value(lost, p.k as usize, effect, total)
+}
