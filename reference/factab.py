@@ -3,6 +3,8 @@
 # It is written apart from the proved program and shares nothing with it. Where that program works by passes in one
 # column, this one adds up reading times coefficient over all runs, so that an error of a pass cannot be in both.
 #
+# The table and the estimate are in anova.py.
+#
 # Names: a plan has levels (2 or 3), k base factors, added factors (word, sign) and block words. N is levels to the
 # power k. A run or an effect is a number below N whose digits, lowest first, belong to the factors A, B, C and so on;
 # a run's digit is the factor's level, an effect's digit chooses a coefficient row. A word is a set of base letters,

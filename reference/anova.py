@@ -1,0 +1,173 @@
+# Reference program for factorial tables, second part: the table and the estimate, straight from the wording of the rules.
+#
+# Plans, totals, numerators and words are those of factab.py. Like it, this file is written apart from the proved program
+# and shares nothing with it.
+#
+# Names: a row is a set of base letters, bit 0 for A. There are R rows, 2 to the power k. An effect uses the letters whose
+# digits in its number are not 0. Each row has a mark, 0 or 1, and is of one kind: mean, blocks, error or kept.
+#
+# Defined here:
+#   row_count, row_label, row_number    R, the label of a row, and the row of a label
+#   letters_used                        the row to which an effect belongs
+#   row_degrees, row_numerators         degrees and numerators of rows
+#   row_kinds                           the kind of every row
+#   Part, Table                         a part of a table, and a table
+#   table, table_of_totals              the table of readings and marks; the same where the totals are already there
+#   table_answer                        0, or the lowest of 2 to 8, 11, 12, 13 that applies
+#   estimate                            mean, difference or lost, with the exact quotient
+#   estimate_answer                     0, or the lowest of 2 to 8, 9, 10, 12 that applies
+#   exact_double, double_pattern        the double that is exactly a quotient, and its 64 bits as a number
+
+import struct
+from collections import namedtuple
+from fractions import Fraction
+
+import factab
+
+MEAN, KEPT, BLOCKS, ERROR = "mean", "kept", "blocks", "error"
+KINDS = (MEAN, KEPT, BLOCKS, ERROR)
+
+# A part of a table: its degrees, and its numerator over the table's denominator.
+Part = namedtuple("Part", "degrees numerator")
+
+# mean, kept, blocks, error and total are parts; rows are the parts of the single rows, and kinds their kinds.
+Table = namedtuple("Table", "denominator mean kept blocks error total sum_of_totals check_number totals rows kinds")
+
+
+# ---- rows ----
+
+def row_count(k):
+    """R, the number of rows."""
+    return 2 ** k
+
+
+def row_label(row):
+    """`mean` for row 0, else the row's letters, A first."""
+    return "".join(chr(ord("A") + letter) for letter in range(row.bit_length()) if row >> letter & 1) or MEAN
+
+
+def row_number(label):
+    """The row of a label."""
+    return 0 if label == MEAN else sum(1 << ord(letter) - ord("A") for letter in label)
+
+
+def letters_used(levels, k, effect):
+    """The set of the letters whose digits in the effect's number are not 0."""
+    return sum(1 << letter for letter, digit in enumerate(factab.digits(levels, k, effect)) if digit)
+
+
+def row_degrees(levels, row):
+    """1 at two levels. At three levels 2 for each letter multiplied; row 0 has 1."""
+    if levels == 2:
+        return 1
+    return 2 ** factab.letter_count(row)
+
+
+def row_numerators(levels, k, totals):
+    """For each row the sum of the numerators of every effect using exactly its letters."""
+    sums = [0] * row_count(k)
+    for effect, total in enumerate(totals):
+        sums[letters_used(levels, k, effect)] += factab.numerator(levels, k, effect, total)
+    return sums
+
+
+def row_kind(plan, row, mark):
+    """Row 0 is the mean, confounded rows are blocks, rows with mark 1 are error, and mark 0 keeps any other row."""
+    if row == 0:
+        return MEAN
+    if row in factab.confounded(plan.blocks):
+        return BLOCKS
+    return ERROR if mark == 1 else KEPT
+
+
+def row_kinds(plan, marks):
+    """The kind of every row."""
+    return [row_kind(plan, row, mark) for row, mark in enumerate(marks)]
+
+
+# ---- the table ----
+
+def added_up(parts):
+    """Degrees and numerators added up."""
+    return Part(sum(part.degrees for part in parts), sum(part.numerator for part in parts))
+
+
+def table_of_totals(plan, readings, marks, totals):
+    """The table of an accepted plan, its readings and marks, where the totals are already there."""
+    levels, k = plan.levels, plan.k
+    over = factab.denominator(levels, k)
+    rows = [Part(row_degrees(levels, row), numerator)
+            for row, numerator in enumerate(row_numerators(levels, k, totals))]
+    kinds = row_kinds(plan, marks)
+    of_kind = {kind: added_up([part for part, own in zip(rows, kinds) if own == kind]) for kind in KINDS}
+    total = Part(factab.run_count(levels, k), over * sum(reading ** 2 for reading in readings))
+    return Table(over, of_kind[MEAN], of_kind[KEPT], of_kind[BLOCKS], of_kind[ERROR], total,
+                 sum(totals), factab.check_number(levels, k, readings), totals, rows, kinds)
+
+
+def table(plan, readings, marks):
+    """The table of an accepted plan, its readings and marks, with totals by the definition."""
+    return table_of_totals(plan, readings, marks, factab.totals(plan.levels, plan.k, readings))
+
+
+def wrong_lengths(plan, readings, marks, totals_length, rows_length):
+    """Number 11: readings, totals, rows or marks not N, N, R, R long."""
+    runs, rows = factab.run_count(plan.levels, plan.k), row_count(plan.k)
+    return (len(readings), totals_length, rows_length, len(marks)) != (runs, runs, rows, rows)
+
+
+def bad_mark(plan, marks):
+    """Number 13: a mark over 1, or mark 1 on the mean or a blocks row."""
+    kinds = row_kinds(plan, [0] * len(marks))
+    return any(mark > 1 or mark == 1 and kind in (MEAN, BLOCKS) for mark, kind in zip(marks, kinds))
+
+
+def table_answer(plan, readings, marks, totals_length, rows_length):
+    """The table call: 2 to 8, 11, 12, 13, or 0."""
+    refused = factab.plan_answer(plan)
+    if refused:
+        return refused
+    if wrong_lengths(plan, readings, marks, totals_length, rows_length):
+        return 11
+    if factab.beyond(readings, factab.MOST_READING):
+        return 12
+    return 13 if bad_mark(plan, marks) else factab.DONE
+
+
+# ---- the estimate ----
+
+LOST, DIFFERENCE = "lost", "difference"
+
+
+def estimate(plan, effect, total):
+    """The outcome for an effect of an accepted two-level plan, with the exact quotient; None where it is lost."""
+    if effect in factab.confounded(plan.blocks):
+        return LOST, None
+    if effect == 0:
+        return MEAN, Fraction(total, 2 ** plan.k)
+    return DIFFERENCE, Fraction(total, 2 ** (plan.k - 1))
+
+
+def estimate_answer(plan, effect, total):
+    """The estimate call: 2 to 8, 9, 10, 12, or 0."""
+    refused = factab.plan_answer(plan)
+    if refused:
+        return refused
+    if plan.levels == 3:
+        return 9
+    if effect >> plan.k:
+        return 10
+    return 12 if abs(total) > 2 ** plan.k * factab.MOST_READING else factab.DONE
+
+
+def exact_double(quotient):
+    """The double that is exactly the quotient. Raises if there is none."""
+    double = float(quotient)
+    if Fraction(double) != quotient:
+        raise ValueError("no double is exactly %s" % quotient)
+    return double
+
+
+def double_pattern(double):
+    """The 64 bits of a double as an unsigned number, the sign highest."""
+    return struct.unpack(">Q", struct.pack(">d", double))[0]

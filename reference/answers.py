@@ -1,0 +1,263 @@
+# Inputs of the table call that are refused, and inputs of the estimate call with their outcomes. Each is listed with the
+# answer that the rules give; check() compares it with what anova.py answers.
+#
+# Defined here:
+#   FOUR_BLOCKS, SIX_ADDED, TEN, TEN_BLOCKED   words and plans of ten factors, which tables.py uses too
+#   REFUSALS                  refused inputs of the table call: every line of the rules, and inputs to which several apply
+#   ESTIMATES                 inputs of the estimate call: a plan, an effect and a total
+#   check                     list of complaints, empty if all is well
+#   expected_lines            the lines of refusals and estimates in the text that the program must write
+#   input_lines, plan_text    the inputs, a line for each; a plan in words
+
+from collections import namedtuple
+from fractions import Fraction
+
+import anova
+import factab
+import published
+from anova import row_number
+from factab import Plan
+
+Refusal = namedtuple("Refusal", "number why plan readings marks totals_length rows_length")
+
+# outcome: "mean", "difference" and the quotient, "lost", or "refused" and the number.
+Estimate = namedtuple("Estimate", "plan effect total outcome")
+
+# All four block words combine to the row of all ten letters.
+FOUR_BLOCKS = tuple(row_number(label) for label in "ABC DEF GH IJ".split())
+SIX_ADDED = tuple((row_number(label), sign) for label, sign in (
+    ("AB", 0), ("BCD", 1), ("ADG", 0), ("CEHJ", 1), ("ABCDEFGHI", 0), ("ABCDEFGHJ", 1)))
+TEN, TEN_BLOCKED = Plan(2, 10), Plan(2, 10, (), FOUR_BLOCKS)
+
+
+# ---- refusals of the table call ----
+
+FOUR, EIGHT = [3, 5, 4, 8], [1, 2, 3, 4, 5, 6, 7, 8]
+AB, AC, BC, ABC = (row_number(label) for label in "AB AC BC ABC".split())
+
+
+def refusal(number, why, plan, readings=None, marks=None, totals_length=None, rows_length=None):
+    """A refused input. What is not said: readings 1 to 8 for three factors, 2, 5, 3 for one at three levels, else 3, 5, 4,
+    8; marks 0; totals as many as these readings, rows as many as marks."""
+    usual = EIGHT if plan.k == 3 else [2, 5, 3] if (plan.levels, plan.k) == (3, 1) else FOUR
+    rows = 2 if len(usual) == 3 else len(usual)
+    return Refusal(number, why, plan, usual if readings is None else readings, [0] * rows if marks is None else marks,
+                   len(usual) if totals_length is None else totals_length, rows if rows_length is None else rows_length)
+
+
+TWO, BLOCKED = Plan(2, 2), Plan(2, 3, (), (AB, BC))
+REFUSALS = [
+    refusal(2, "levels 4", Plan(4, 2)),
+    refusal(2, "levels 1", Plan(1, 2)),
+    refusal(2, "levels 0", Plan(0, 2)),
+    refusal(3, "three levels, k = 7", Plan(3, 7)),
+    refusal(3, "two levels, k = 11", Plan(2, 11)),
+    refusal(3, "two levels, k = 0", Plan(2, 0)),
+    refusal(3, "three levels, k = 0", Plan(3, 0)),
+    refusal(4, "three levels, one block word", Plan(3, 1, (), (1,))),
+    refusal(4, "three levels, one added factor", Plan(3, 1, ((1, 0),), ())),
+    refusal(4, "seven added factors", Plan(2, 2, ((AB, 0),) * 7, ())),
+    refusal(4, "five block words", Plan(2, 2, (), (AB,) * 5)),
+    refusal(5, "k = 2, block word C", Plan(2, 2, (), (row_number("C"),))),
+    refusal(5, "k = 2, added word AC", Plan(2, 2, ((AC, 0),), ())),
+    refusal(5, "added word A", Plan(2, 2, ((1, 0),), ())),
+    refusal(5, "added word empty", Plan(2, 2, ((0, 0),), ())),
+    refusal(5, "sign 2", Plan(2, 2, ((AB, 2),), ())),
+    refusal(5, "block word empty", Plan(2, 2, (), (0,))),
+    refusal(6, "added AB and AB", Plan(2, 2, ((AB, 0), (AB, 1)), ())),
+    refusal(7, "block words AB, AB", Plan(2, 3, (), (AB, AB))),
+    refusal(7, "block words AB, BC, AC", Plan(2, 3, (), (AB, BC, AC))),
+    refusal(8, "block words AB, ABC", Plan(2, 3, (), (AB, ABC))),
+    refusal(8, "block words BC, ABC, as P K and N P K in Yates's squares", Plan(2, 3, (), (BC, ABC))),
+    refusal(8, "block word A", Plan(2, 2, (), (1,))),
+    refusal(8, "added ABC, block word ABC", Plan(2, 3, ((ABC, 0),), (ABC,))),
+    refusal(8, "added AC, block words AB, BC", Plan(2, 3, ((AC, 1),), (AB, BC))),
+    refusal(11, "k = 2, 3 readings", TWO, readings=[3, 5, 4]),
+    refusal(11, "k = 2, 5 readings", TWO, readings=[3, 5, 4, 8, 0]),
+    refusal(11, "no readings", TWO, readings=[]),
+    refusal(11, "3 totals", TWO, totals_length=3),
+    refusal(11, "5 totals", TWO, totals_length=5),
+    refusal(11, "3 rows", TWO, rows_length=3),
+    refusal(11, "5 rows", TWO, rows_length=5),
+    refusal(11, "3 marks", TWO, marks=[0, 0, 0]),
+    refusal(11, "5 marks", TWO, marks=[0, 0, 0, 0, 0]),
+    refusal(11, "three levels, 3 rows, where N is 3 and R is 2", Plan(3, 1), rows_length=3),
+    refusal(11, "three levels, 3 marks", Plan(3, 1), marks=[0, 0, 0]),
+    refusal(12, "reading 100001", TWO, readings=[3, 100001, 4, 8]),
+    refusal(12, "reading -100001", TWO, readings=[3, 5, 4, -100001]),
+    refusal(12, "the least i32", TWO, readings=[-2147483648, 5, 4, 8]),
+    refusal(13, "mark 1 on row 0", TWO, marks=[1, 0, 0, 0]),
+    refusal(13, "mark 2", TWO, marks=[0, 0, 2, 0]),
+    refusal(13, "mark 255", TWO, marks=[0, 0, 0, 255]),
+    refusal(13, "mark 1 on a blocks row", BLOCKED, marks=[0, 0, 0, 1, 0, 0, 0, 0]),
+    refusal(13, "mark 1 on the combination of block words", BLOCKED, marks=[0, 0, 0, 0, 0, 1, 0, 0]),
+    refusal(13, "mark 2 on a blocks row", BLOCKED, marks=[0, 0, 0, 0, 0, 0, 2, 0]),
+    refusal(13, "three levels, mark 1 on row 0", Plan(3, 1), marks=[1, 0]),
+    refusal(2, "2 and 3: levels 4, k = 11", Plan(4, 11)),
+    refusal(2, "2, 11, 12 and 13", Plan(4, 2), readings=[100001], marks=[1, 2], totals_length=1, rows_length=1),
+    refusal(3, "3 and 4: three levels, k = 7, one block word", Plan(3, 7, (), (AB,))),
+    refusal(4, "4 and 5: three levels, an empty block word", Plan(3, 1, (), (0,))),
+    refusal(5, "5 and 6: k = 2, added AC and AC", Plan(2, 2, ((AC, 0), (AC, 0)), ())),
+    refusal(5, "5 and 8: k = 2, block words A, C", Plan(2, 2, (), (1, row_number("C")))),
+    refusal(6, "6 and 7: added AB, AB, block words ABC, ABC", Plan(2, 3, ((AB, 0), (AB, 0)), (ABC, ABC))),
+    refusal(7, "7 and 8: block words A, A", Plan(2, 2, (), (1, 1))),
+    refusal(8, "8 and 11: block words AB, ABC, 3 readings", Plan(2, 3, (), (AB, ABC)), readings=[1, 2, 3]),
+    refusal(11, "11 and 12: 3 readings, one of them 100001", TWO, readings=[3, 5, 100001]),
+    refusal(11, "11 and 13: 5 rows, mark 1 on row 0", TWO, marks=[1, 0, 0, 0], rows_length=5),
+    refusal(12, "12 and 13: reading 100001, mark 2", TWO, readings=[100001, 5, 4, 8], marks=[0, 2, 0, 0]),
+]
+
+
+# ---- estimates ----
+
+# Report, Section 1: the totals and the column of differences; the first of these is twice the mean.
+REPORT_TOTALS = "747 -111 -189 -11 -17 81 -97 117 -7 71 153 -21 165 215 -115 -21"
+REPORT_DIFFERENCES = ("93.375 -13.875 -23.625 -1.375 -2.125 10.125 -12.125 14.625 -0.875 8.875 19.125 -2.625 20.625 26.875 "
+                      "-14.375 -2.625")
+
+
+def report_estimates():
+    """The report's column of differences; the mean is half of its first figure."""
+    found = []
+    for effect, (total, printed) in enumerate(zip(REPORT_TOTALS.split(), REPORT_DIFFERENCES.split())):
+        outcome = "difference " + printed if effect else "mean 46.6875"
+        found.append(Estimate(Plan(2, 4), effect, int(total), outcome))
+    return found
+
+
+AD_ABC = Plan(2, 4, (), (row_number("AD"), ABC))
+ESTIMATES = report_estimates() + [
+    Estimate(TWO, 0, 20, "mean 5"),
+    Estimate(TWO, 1, -6, "difference -3"),
+    Estimate(TWO, 2, -4, "difference -2"),
+    Estimate(TWO, 3, 2, "difference 1"),
+    Estimate(Plan(2, 1), 0, 0, "mean 0"),
+    Estimate(Plan(2, 1), 1, -200000, "difference -200000"),
+    Estimate(Plan(2, 1), 1, 200000, "difference 200000"),
+    Estimate(Plan(2, 1), 0, -200000, "mean -100000"),
+    Estimate(Plan(2, 1), 1, 0, "difference 0"),
+    Estimate(Plan(2, 3, (), (ABC,)), 7, 0, "lost"),
+    Estimate(Plan(2, 3, (), (ABC,)), 7, -800000, "lost"),
+    Estimate(Plan(2, 3, (), (ABC,)), 0, 36, "mean 4.5"),
+    Estimate(Plan(2, 3, (), (ABC,)), 4, -16, "difference -4"),
+    Estimate(Plan(2, 3, (), (ABC,)), 3, 0, "difference 0"),
+    Estimate(AD_ABC, row_number("AD"), 71, "lost"),
+    Estimate(AD_ABC, row_number("ABC"), 117, "lost"),
+    Estimate(AD_ABC, row_number("BCD"), -115, "lost"),
+    Estimate(AD_ABC, row_number("A"), -111, "difference -13.875"),
+    Estimate(AD_ABC, row_number("ABCD"), -21, "difference -2.625"),
+    Estimate(TEN_BLOCKED, 1023, 1, "lost"),
+    Estimate(TEN_BLOCKED, 511, 1, "difference 1/512"),
+    Estimate(Plan(2, 10, SIX_ADDED, FOUR_BLOCKS), row_number("AB"), 3, "difference 3/512"),
+    Estimate(TEN, 0, 1, "mean 1/1024"),
+    Estimate(TEN, 0, -1, "mean -1/1024"),
+    Estimate(TEN, 0, 102400000, "mean 100000"),
+    Estimate(TEN, 0, -102400000, "mean -100000"),
+    Estimate(TEN, 1023, 102399999, "difference 102399999/512"),
+    Estimate(TEN, 512, -102400000, "difference -200000"),
+    Estimate(Plan(4, 2), 0, 0, "refused 2"),
+    Estimate(Plan(2, 11), 0, 0, "refused 3"),
+    Estimate(Plan(3, 1, (), (1,)), 0, 0, "refused 4"),
+    Estimate(Plan(2, 2, (), (row_number("C"),)), 0, 0, "refused 5"),
+    Estimate(Plan(2, 2, ((AB, 0), (AB, 0)), ()), 0, 0, "refused 6"),
+    Estimate(Plan(2, 3, (), (AB, AB)), 0, 0, "refused 7"),
+    Estimate(Plan(2, 3, (), (AB, ABC)), 0, 0, "refused 8"),
+    Estimate(Plan(2, 3, (), (AB, ABC)), 8, 800001, "refused 8"),
+    Estimate(Plan(3, 1), 0, 10, "refused 9"),
+    Estimate(Plan(3, 1), 2, 10 ** 9, "refused 9"),
+    Estimate(TWO, 4, 0, "refused 10"),
+    Estimate(TWO, 32768, 0, "refused 10"),
+    Estimate(TWO, 5, 400001, "refused 10"),
+    Estimate(TWO, 3, 400001, "refused 12"),
+    Estimate(TWO, 0, -400001, "refused 12"),
+    Estimate(Plan(2, 3, (), (ABC,)), 7, 800001, "refused 12"),
+    Estimate(TEN, 0, 102400001, "refused 12"),
+    Estimate(TEN, 1, -2 ** 63, "refused 12"),
+    Estimate(TEN, 1, 2 ** 63 - 1, "refused 12"),
+]
+
+
+# ---- checks ----
+
+def check_refusals():
+    """The number of every refusal is the one that the rules give."""
+    found = [(own, anova.table_answer(own.plan, own.readings, own.marks, own.totals_length, own.rows_length))
+             for own in REFUSALS]
+    return ["refusal, %s: %d, listed %d" % (own.why, number, own.number) for own, number in found if number != own.number]
+
+
+def outcome_of(own):
+    """The outcome of an estimate in words: its name and exact quotient, or the number that refuses it."""
+    refused = anova.estimate_answer(own.plan, own.effect, own.total)
+    if refused:
+        return "refused %d" % refused
+    name, quotient = anova.estimate(own.plan, own.effect, own.total)
+    return name if quotient is None else "%s %s" % (name, quotient)
+
+
+def check_estimates():
+    """The outcome of every estimate is the one that the rules give."""
+    complaints = []
+    for own in ESTIMATES:
+        name, _, value = own.outcome.partition(" ")
+        listed = own.outcome if name == "refused" or not value else "%s %s" % (name, Fraction(value))
+        found = outcome_of(own)
+        if found != listed:
+            complaints.append("estimate of %d, total %d: %s, listed %s" % (own.effect, own.total, found, own.outcome))
+    return complaints
+
+
+def check_report():
+    """The report's totals and differences against published.py; its first difference is twice the mean."""
+    example = published.REPORT_TWO_LEVELS
+    printed = next(printed for printed in example.printed if printed.label == "differences")
+    mends = published.mends_of(example, printed)
+    figures = [mends[place].meant if place in mends else figure for place, figure in enumerate(printed.text.split())]
+    complaints = []
+    if [Fraction(figure) for figure in figures] != [Fraction(figure) for figure in REPORT_DIFFERENCES.split()]:
+        complaints.append("report, 2^4: differences")
+    if 2 * Fraction(ESTIMATES[0].outcome.split()[1]) != Fraction(REPORT_DIFFERENCES.split()[0]):
+        complaints.append("report, 2^4: the first difference is not twice the mean")
+    if [int(total) for total in REPORT_TOTALS.split()] != factab.totals(2, 4, published.whole_readings(example)):
+        complaints.append("report, 2^4: totals")
+    return complaints
+
+
+def check():
+    """List of all complaints about refusals and estimates."""
+    return check_refusals() + check_estimates() + check_report()
+
+
+# ---- expected text ----
+
+def estimate_line(number, own):
+    """The line of an estimate, its double as the number that its 64 bits are."""
+    outcome = outcome_of(own)
+    if outcome == anova.LOST or outcome.startswith("refused"):
+        return "estimate %d: %s" % (number, outcome)
+    name, quotient = outcome.split()
+    return "estimate %d: %s %d" % (number, name, anova.double_pattern(anova.exact_double(Fraction(quotient))))
+
+
+def expected_lines():
+    """The lines of all refusals and estimates. The program that writes them sees that what it lent is unchanged."""
+    return (["refusal %d: %d unchanged" % (number, own.number) for number, own in enumerate(REFUSALS, 1)]
+            + [estimate_line(number, own) for number, own in enumerate(ESTIMATES, 1)])
+
+
+def plan_text(plan):
+    """A plan in words."""
+    added = "".join(" %d/%d" % pair for pair in plan.added)
+    return "levels %d, k %d, added%s, blocks%s" % (plan.levels, plan.k, added, published.values_text(plan.blocks))
+
+
+def input_lines():
+    """The inputs of all refusals and estimates, a line for each."""
+    lines = []
+    for number, own in enumerate(REFUSALS, 1):
+        lines.append("refusal %d (%s): %s, readings%s, marks%s, totals %d long, rows %d long"
+                     % (number, own.why, plan_text(own.plan), published.values_text(own.readings),
+                        published.values_text(own.marks), own.totals_length, own.rows_length))
+    for number, own in enumerate(ESTIMATES, 1):
+        lines.append("estimate %d: %s, effect %d, total %d" % (number, plan_text(own.plan), own.effect, own.total))
+    return lines

@@ -1,0 +1,931 @@
+# Worked tables: readings, block words and marks with the published figures of their analysis of variance; extreme readings
+# at the largest plans; and the expected text of the program that works them, with the refusals and estimates of answers.py.
+#
+# Sources are named as in published.py, whose readings are used where it has them. Readings of six more tables are here:
+# Yates's squares that interlace and his hay; Daniel's mangolds in pounds, half of the beans, lettuce and air pollution.
+#
+# Signs, units, question marks and points in printed figures are as in published.py. In a printed text "94.22+216.84" is the
+# sum of two printed figures, and "9>-9" a damaged figure with its mend.
+#
+# Closeness: a printed figure is the computed one within half a unit of its last decimal, a sum of figures within half a unit
+# for each. Figures that are further off are listed (OFF), with by how many units and what we take for the cause: the figure
+# is cut off after its last decimal and not rounded, or it is made from other printed figures, which are rounded. Either is
+# tested, and a figure that is not further off may not stand in that list. Degrees, totals and numerators, and the figures of
+# the report's two-level example, are compared exactly. Damaged figures have mends as in published.py (MENDS).
+#
+# Marks: a row has mark 1 if the source pools it as error, or leaves it out of the effects that it adds up.
+#
+# Defined here:
+#   TABLES                 the worked tables, numbered from 1 in this order
+#   MENDS, OFF             damaged figures; figures further off than half a unit
+#   POOLED                 the report's columns in which rows of three levels are pooled, as far as they can be read
+#   table_of               the table of a worked table
+#   check                  list of complaints, empty if all is well
+#   expected_text          the expected text
+#   inputs_text            the inputs of all tables, refusals and estimates, a line for each (tables.py inputs)
+
+import re
+import sys
+from collections import namedtuple
+from fractions import Fraction
+from itertools import product
+
+import anova
+import answers
+import factab
+import published
+from anova import BLOCKS, ERROR, row_number
+from answers import FOUR_BLOCKS, SIX_ADDED, TEN, TEN_BLOCKED
+from factab import Plan
+
+# places: decimals of the readings in print. plots: how many plots one reading adds up. marked: the rows with mark 1.
+WorkedTable = namedtuple("WorkedTable", "title plan readings marked places plots printed")
+
+# parts: what the figures of the text belong to, see part_of. units: how many units of its last decimal a figure may be off.
+Printed = namedtuple("Printed", "where measure parts text units", defaults=(Fraction(1, 2),))
+
+# title, where, measure and place say which figure; place counts from 0.
+Mend = namedtuple("Mend", "title where measure place printed meant reason")
+Off = namedtuple("Off", "title where measure place units cause")
+
+EXACT = 0
+LACKING, NOT_PRINTED = published.LACKING, published.NOT_PRINTED
+
+MOST_NUMERATOR = 340_122_240_000_000_000
+MOST_ROWS_SHOWN = 64
+MODULUS = 2 ** 61 - 1
+
+
+def mended(figure):
+    """A figure as printed and as meant; the same where it has no mend."""
+    shown, _, meant = figure.partition(">")
+    return shown, meant or shown
+
+
+def rows_of(labels):
+    """The rows of labels parted by spaces, rising."""
+    return sorted(row_number(label) for label in labels.split())
+
+
+def of_letters(plan, least):
+    """The rows of so many letters or more that are not confounded."""
+    lost = factab.confounded(plan.blocks)
+    return [row for row in range(anova.row_count(plan.k)) if factab.letter_count(row) >= least and row not in lost]
+
+
+def worked(example, marked, printed):
+    """The table of an example of published.py. marked: labels, or the least number of letters of rows that are pooled."""
+    plan = published.plan(example)
+    rows = of_letters(plan, marked) if isinstance(marked, int) else rows_of(marked)
+    return WorkedTable(example.title, plan, published.whole_readings(example), rows, example.places, example.plots, printed)
+
+
+def new_example(title, source, where, levels, k, readings, **values):
+    """An example that published.py does not have."""
+    return published.worked(title, source, where, levels, k, readings, [], **values)
+
+
+# ---- the report and AMCP ----
+
+# The totals squared are the numerators, since every divisor of two levels is the denominator.
+REPORT_TWO_LEVELS = worked(published.REPORT_TWO_LEVELS, "", [
+    Printed("analysis of variance", "sum of squares", "rows",
+            "34875.5625 770.0625 2232.5625 7.5625 18.0625 410.0625 588.0625 855.5625 3.0625 315.0625 1463.0625 27.5625 "
+            "1701.5625 2889.0625 826.5625 27.5625", EXACT),
+    Printed("analysis of variance", "sum of squares", "total", "47011.000", EXACT),
+    Printed("squares", "numerator", "rows",
+            "558009 12321 3572? 121 289 6561 9409 13689 49 5041 23409 441 27225 46225 13225 441", EXACT),
+    Printed("sum of squares", "numerator", "total", "752176", EXACT),
+    Printed("check 1", "sum of totals", "total", "960", EXACT),
+    Printed("check 2", "numerator", "total", "752176", EXACT),
+    Printed("check 2", "sum of squares", "total", "47001", EXACT),
+])
+
+AMCP_WHOLE = worked(published.AMCP_WHOLE, 3, [
+    Printed("12-2.2.2, step 2", "numerator", "error", "5.17", EXACT),
+    Printed("12-2.2.2, step 3", "degrees", "error", "5", EXACT),
+    Printed("12-2.2.2, step 3", "mean square", "error", ".0646"),
+    Printed("12-2.2.2, step 3", "standard deviation", "error", ".25"),
+    Printed("12-2.2.2, step 5", "standard deviation", "error", "0.254"),
+    Printed("Table 12-2", "numerator", "total", "3506.40", EXACT),
+    Printed("Table 12-2", "sum of squares", "total", "219.15", EXACT),
+])
+
+# The same readings in the blocks of Table 12-3, four factors (ii), pooled as paragraph 12-3.2.2 says: interactions of three
+# or more factors but those that are confounded. AMCP works no example of blocks.
+AMCP_BLOCKED = worked(published.AMCP_WHOLE._replace(
+    title="AMCP, Data Sample 12-2 in four blocks", blocks=(row_number("AD"), row_number("ABC"))), 3, [
+    Printed("Table 12-3, number of confounded effects", "degrees", "blocks", "3", EXACT),
+    Printed("Table 12-2", "numerator", "total", "3506.40", EXACT),
+])
+
+# AMCP pools nothing here; its estimate of error comes from elsewhere.
+AMCP_HALF = worked(published.AMCP_HALF, "", [
+    Printed("Table 12-6", "numerator", "total", "882.72", EXACT),
+    Printed("Table 12-6", "sum of squares", "total", "110.34", EXACT),
+])
+
+
+# ---- Yates, two levels ----
+
+YATES_POTATOES = worked(published.YATES_POTATOES, "", [
+    Printed("Table 8", "sum of squares", "mean, kept", "2720861.3 458718.0"),
+    Printed("Table 8", "degrees", "kept", "7", EXACT),
+    Printed("Table 8", "mean square", "kept", "65531.1"),
+    Printed("Table 9", "sum of squares", "A, B, AB, C, AC, BC, ABC, kept",
+            "3465.3 161170.0 344.5 278817.8 810.0 13986.3 124.0 458717.9"),
+    Printed("Table 9", "degrees", "A, B, AB, C, AC, BC, ABC, kept", "1 1 1 1 1 1 1 7", EXACT),
+])
+
+# Factors s, d, n, p, k; block words s d p and s n k; d n p k is confounded with them.
+YATES_BEANS = worked(published.YATES_BEANS, 3, [
+    Printed("Table 21", "block total", "0, 1, 2, 3", "555.2 436.7 481.0 412.3", EXACT),
+    Printed("Table 23", "sum of squares", "blocks, kept, error, corrected", "1476.43 4921.20 1066.64 7464.27"),
+    Printed("Table 23", "degrees", "blocks, kept, error, corrected", "3 15 13 31", EXACT),
+    Printed("Table 23", "mean square", "blocks, kept, error", "492.14 328.08 82.05"),
+    Printed("Daniel, Section 7.2.2", "standard deviation", "error", "9.06"),
+    Printed("Daniel, Section 7.2.2", "degrees", "error", "13", EXACT),
+])
+
+# P K and N P K are lost to rows and columns. As block words they would be refused, since N is their combination.
+YATES_SUGAR_BEET = worked(published.YATES_SUGAR_BEET, "BC ABC", [
+    Printed("Table 29", "sum of squares", "kept", "1145.7"),
+    Printed("Table 29", "degrees", "kept", "5", EXACT),
+    Printed("Table 29", "mean square", "kept", "229.1"),
+])
+
+# The same yields, with the treatments at the places of Table 27. The scan lacks one treatment of the second row and one of
+# the third; check_arrangement() tests that one place alone fits each. N P K is the difference of the two squares.
+SQUARES_PRINTED = ["(1) k pk p npk np nk n", "npk np n k pk (1) p", "pk n (1) k p np npk", "np p nk npk n (1) pk k"]
+SQUARES = ["(1) k pk p npk np nk n", "nk npk np n k pk (1) p", "pk n (1) k p nk np npk", "np p nk npk n (1) pk k"]
+SQUARES_YIELDS = ["542 587 583 576 549 562 576 569", "629 615 634 594 637 623 643 629",
+                  "562 596 624 627 639 628 645 651", "604 638 609 634 615 586 605 618"]
+TREATMENTS = "(1) n p np k nk pk npk".split()
+
+
+def treatment_sums(arrangement):
+    """The sums of the yields of each treatment, in standard order."""
+    plots = [(treatment, int(plot)) for row, yields in zip(arrangement, SQUARES_YIELDS)
+             for treatment, plot in zip(row.split(), yields.split())]
+    return [sum(plot for own, plot in plots if own == treatment) for treatment in TREATMENTS]
+
+
+INTERLACED = worked(new_example(
+    "Yates, sugar beet in squares that interlace", "Yates", "Section 8b, Tables 27, 28 and 30; factors n, p, k", 2, 3,
+    " ".join(str(plots) for plots in treatment_sums(SQUARES)), plots=4, blocks=(row_number("ABC"),)), "", [
+    Printed("Table 30", "sum of squares", "blocks, kept", "442.5 2694.9"),
+    Printed("Table 30", "degrees", "blocks, kept", "1 6", EXACT),
+    Printed("Table 30", "mean square", "blocks, kept", "442.5 449.2"),
+])
+
+YATES_TABLE_38 = worked(published.YATES_TABLE_38[3], "", [
+    Printed("Table 39", "sum of squares", "mean, A, B, AB", "1191372.2 3117.4 17292.2 103.4"),
+    Printed("Table 39", "degrees", "A, B, AB", "1 1 1", EXACT),
+])
+
+
+# ---- Daniel, two levels ----
+
+DANIEL_CEMENT_FOUR = worked(published.DANIEL_CEMENT._replace(
+    title="Daniel, 2^3 on cement, four rows pooled"), "A AB AC ABC", [
+    Printed("Section 5.11", "mean square", "error", "216"),
+    Printed("Section 5.11", "degrees", "error", "4", EXACT),
+])
+
+DANIEL_CEMENT_TWO = worked(published.DANIEL_CEMENT._replace(
+    title="Daniel, 2^3 on cement, two rows pooled"), "AC ABC", [
+    Printed("Section 5.11", "mean square", "error", "8.5", EXACT),
+    Printed("Section 5.11", "degrees", "error", "2", EXACT),
+])
+
+DANIEL_DRILL = worked(published.DANIEL_DRILL, "A AB AC ABC AD BD ABD ACD BCD ABCD", [
+    Printed("Section 6.2", "sum of squares", "corrected, kept, error, error", "262.68 249.15 13.52 13.53"),
+    Printed("Section 6.2", "degrees", "kept, error", "5 10", EXACT),
+    Printed("Section 6.2", "mean square", "kept, error", "49.83 1.35"),
+    Printed("Section 6.2", "share of corrected", "kept", "0.948"),
+])
+
+# The yields of Table 7.8, in pounds; Table 7.9 has them in tens of pounds, rounded, and the block of each run. Kempthorne's
+# mean square, which Daniel cites, is in tens of pounds, so that a pound is a tenth.
+DANIEL_POUNDS = new_example(
+    "Daniel, 2^5 on mangolds, in pounds", "Daniel", "Tables 7.8 and 7.9; factors S, P, K, N, D", 2, 5,
+    "74.0 110.8 88.8 100.8 78.4 115.6 69.2 98.4 78.0 118.4 96.4 131.2 100.0 137.6 86.0 129.2 "
+    "124.8 117.6 100.8 128.4 89.6 132.8 84.4 135.6 110.4 137.6 99.6 132.4 100.8 146.8 110.0 150.6",
+    places=1, blocks=published.DANIEL_MANGOLDS.blocks)
+MANGOLD_BLOCKS = "3 4 1 2 2 1 4 3 4 3 2 1 1 2 3 4 2 1 4 3 3 4 1 2 1 2 3 4 4 3 2 1"
+
+DANIEL_MANGOLDS = worked(DANIEL_POUNDS, 3, [
+    Printed("Section 7.4.3, Kempthorne", "mean square", "error", "67.91"),
+    Printed("Section 7.4.3, Kempthorne", "degrees", "error", "13", EXACT),
+])
+
+# The sixteen runs in two of the four blocks of the beans: k is high when an odd number of d, n, p are, and s d p is the
+# difference of the two blocks. The readings are the yields less 59, rounded; two have lost a minus, as the yields show.
+HALF_READINGS = "7 -23 8>-8 14 12 1 8 11 9>-9 15 18 -9 -23 -13 18 2"
+
+DANIEL_HALF = worked(new_example(
+    "Daniel, half of 2^5 on beans", "Daniel", "Table 7.4; factors S, D, N, P, and K = D N P", 2, 4,
+    " ".join(mended(figure)[1] for figure in HALF_READINGS.split()),
+    turned=True, added=((row_number("BCD"), 0),), blocks=(row_number("ABD"),)), "A AB C AC BC ABC D AD BD ACD", [
+    Printed("Table 7.4", "turned total", "rows", "21 -25 87 -11 11 -3 37 -13 -23 7 31 -143 -73 -3 69 63", EXACT),
+    Printed("Section 7.2.3", "mean square", "error", "24.7"),
+    Printed("Section 7.2.3", "degrees", "error", "10", EXACT),
+])
+
+
+# ---- three levels ----
+
+REPORT_THREE_LEVELS = worked(published.REPORT_THREE_LEVELS, "", [
+    Printed("Section 2, powers of the couple (1, 2)", "degrees", "rows", "1 2 2 4 2 4 4 8 2 4 4 8 4 8 8 16", EXACT),
+    Printed("worksheet", "mean square", "CD, ACD, BCD", "10.3457 4.8556 6.5031"),
+    Printed("worksheet, check", "sum of squares", "total", "254?", EXACT),
+])
+
+YATES_TWO_OF_THREE = worked(published.YATES_TWO_OF_THREE, "", [
+    Printed("Table 47", "sum of squares", "mean, A+B+AB, A, B", "86584.10 341.52 94.47 107.80"),
+    Printed("Table 48", "sum of squares", "A, B, AB", "94.47 107.80 139.25"),
+    Printed("Table 48", "degrees", "A, B, AB", "2 2 4", EXACT),
+    Printed("Table 48", "mean square", "A, B, AB", "47.24 53.90 34.81"),
+    Printed("Table 53", "sum of squares", "AB", "139.23"),
+    Printed("report, Section 2, powers of the couple (1, 2)", "degrees", "rows", "1 2 2 4", EXACT),
+])
+
+# The arrangement in blocks confounds a part of D S N, which Yates therefore gives in two figures; its row is marked.
+YATES_FIRST_REPLICATION = worked(published.YATES_FIRST_REPLICATION, "ABC", [
+    Printed("Table 56", "sum of squares", "A+B+AB, A+C+AC, B+C+BC", "262.05 333.49 250.82"),
+    Printed("Table 58", "sum of squares", "A+B+C, corrected", "301.12+51.42 999.23"),
+    Printed("Table 58", "degrees", "A+B+C, corrected", "3+3 26", EXACT),
+    Printed("Table 59", "sum of squares", "error, kept", "415.03+90.36 301.12+51.42+57.87+68.19+15.22"),
+    Printed("Table 59", "degrees", "error, kept", "2+6 3+3+3+6+3", EXACT),
+    Printed("report, Section 2, powers of the couple (1, 2)", "degrees", "rows", "1 2 2 4 2 4 4 8", EXACT),
+])
+
+YATES_BOTH_REPLICATIONS = worked(published.YATES_BOTH_REPLICATIONS, "ABC", [
+    Printed("Table 47", "sum of squares", "mean, A+B+AB, A+C+AC, B+C+BC, A, B, C, error, corrected",
+            "86584.10 341.52 275.13 329.77 94.47 107.80 150.14 94.22+216.84 905.06"),
+    Printed("Table 48", "sum of squares", "A, B, C, AB, AC, BC", "94.47 107.80 150.14 139.25 30.52 71.83"),
+    Printed("Table 48", "degrees", "A, B, C, AB, AC, BC, error", "2 2 2 4 4 4 4+4", EXACT),
+    Printed("Table 48", "mean square", "A, B, C, AB, AC, BC", "47.24 53.90 75.07 34.81 7.63 17.96"),
+])
+
+# Three treatments in each of two pairs of years. They have no order, but a row holds all effects of its letters, and its sum
+# of squares does not depend on the order. Factor A is 1933 and 1935, written down; B is 1932 and 1934, written across.
+YATES_HAY = worked(new_example(
+    "Yates, hay", "Yates", "Section 9f, Tables 41 and 42", 3, 2,
+    "65.2 104.2 94.5 71.0 101.0 84.8 85.2 112.2 108.2", places=1, plots=4), "", [
+    Printed("Table 42", "sum of squares", "A, B, AB, corrected", "402.20 115.85 22.83 540.89"),
+    Printed("Table 42", "degrees", "A, B, AB, corrected", "2 2 4 8", EXACT),
+    Printed("Table 42", "mean square", "A, B, AB", "201.10 57.92 5.71"),
+])
+
+# Factor A is phosphate, written down; B is nitrogen.
+DANIEL_LETTUCE = worked(new_example(
+    "Daniel, 3^2 on lettuce", "Daniel", "Tables 4.2 and 4.3", 3, 2, "449 409 341 413 358 278 326 291 312"), "AB", [
+    Printed("Table 4.3", "sum of squares", "A, A1, A2, B, B1, B2, A1B1, error, corrected",
+            "11008.67 11008.17 0.50 12200.00 12150.00 50.00 2209.00 4791.33 28000.00"),
+    Printed("Table 4.3", "degrees", "A, A1, A2, B, B1, B2, A1B1, error, corrected", "2 1 1 2 1 1 1 3 8", EXACT),
+    Printed("Table 4.2", "mean square", "error", "1198"),
+    Printed("Table 4.3", "mean square", "error", "1198.00"),
+])
+
+# Factor A is the size of the community, written down; B is the year.
+DANIEL_AIR = worked(new_example(
+    "Daniel, 3^2 on air pollution", "Daniel", "Table 4.6", 3, 2, "1035 661 1156 768 410 799 641 334 666"), "AB", [
+    Printed("Table 4.6", "sum of squares", "A, B, error", "287723 260560 7306"),
+    Printed("Table 4.6", "degrees", "A, B, error", "2 2 4", EXACT),
+    Printed("Table 4.6", "mean square", "A, B, error", "143861 130280 1827"),
+])
+
+
+# ---- the rules' own runs ----
+
+RULES_TWO_FACTORS = worked(published.RULES_TWO_FACTORS, "AB", [
+    Printed("Reference runs", "effect total", "rows", "20 -6 -4 2", EXACT),
+    Printed("Reference runs", "numerator", "rows", "400 36 16 4", EXACT),
+    Printed("Reference runs", "numerator", "total", "456", EXACT),
+    Printed("Reference runs", "sum of totals", "total", "12", EXACT),
+])
+
+RULES_TEXT = """\
+over 4
+mean 1 400
+A 1 36
+B 1 16
+AB 1 4 error
+blocks 0 0
+error 1 4
+total 4 456
+check 12 12
+"""
+
+RULES_THREE_LEVELS = worked(published.RULES_THREE_LEVELS, "", [
+    Printed("Reference runs", "effect total", "mean, A1, A2", "10 -1 -5", EXACT),
+    Printed("Reference runs", "numerator", "mean, A1, A2, A", "200 3 25 28", EXACT),
+    Printed("Reference runs", "degrees", "A", "2", EXACT),
+    Printed("Reference runs", "sum of totals", "total", "4", EXACT),
+])
+
+RULES_BLOCKS = worked(published.RULES_BLOCKS, "", [
+    Printed("Reference runs", "effect total", "rows", "36 -4 -8 0 -16 0 0 0", EXACT),
+    Printed("Reference runs, number of blocks rows", "degrees", "blocks", "1", EXACT),
+])
+
+RULES_LIMITS = worked(published.RULES_LIMITS, "A", [
+    Printed("Reference runs", "effect total", "rows", "0 -200000", EXACT),
+])
+
+
+# ---- extreme readings ----
+
+TOP = factab.MOST_READING
+
+
+def signs_of(levels, k, effect, top, at_zero):
+    """For each run top where the effect's coefficient is above 0, minus top where it is below, else the number at_zero."""
+    coefficients = [factab.coefficient(levels, k, effect, run) for run in range(factab.run_count(levels, k))]
+    return [top if own > 0 else -top if own < 0 else at_zero for own in coefficients]
+
+
+def spread_out(levels, k):
+    """For each run its number times 71993, modulo 200001, less 100000."""
+    return [run * 71993 % 200001 - 100000 for run in range(factab.run_count(levels, k))]
+
+
+def extreme(title, plan, readings, marked):
+    """A table of made-up readings."""
+    return WorkedTable(title, plan, readings, rows_of(marked), 0, 1, [])
+
+
+SIX = Plan(3, 6)
+ALL_TEN = "ABCDEFGHIJ"
+EXTREMES = [
+    extreme("ten factors, all 100000", TEN, signs_of(2, 10, 0, TOP, 0), "A AB " + ALL_TEN),
+    extreme("ten factors in 16 blocks, all -100000", TEN_BLOCKED, signs_of(2, 10, 0, -TOP, 0), "A B ABD"),
+    extreme("ten factors, signs of effect 1023", TEN, signs_of(2, 10, 1023, TOP, 0), "J " + ALL_TEN),
+    extreme("ten factors in 16 blocks, signs of effect 1023", TEN_BLOCKED, signs_of(2, 10, 1023, TOP, 0), "A J"),
+    extreme("ten factors, signs of effect 1", TEN, signs_of(2, 10, 1, TOP, 0), "B BCDEFGHIJ"),
+    extreme("ten factors in 16 blocks, six added, spread out", Plan(2, 10, SIX_ADDED, FOUR_BLOCKS), spread_out(2, 10),
+            "A BD ABCDEFGHI BCDEFGHIJ"),
+    extreme("six factors at three levels, all 100000", SIX, signs_of(3, 6, 0, TOP, 0), "A ABCDEF"),
+    extreme("six factors at three levels, all -100000", SIX, signs_of(3, 6, 0, -TOP, 0), "F"),
+    extreme("six factors at three levels, signs of effect 728", SIX, signs_of(3, 6, 728, TOP, 0), "ABCDE ABCDEF"),
+    extreme("six factors at three levels, signs of effect 364, 0 at 0", SIX, signs_of(3, 6, 364, TOP, 0), "A ABCDEF"),
+    extreme("six factors at three levels, signs of effect 1, 100000 at 0", SIX, signs_of(3, 6, 1, TOP, TOP), "A F"),
+    extreme("six factors at three levels, spread out", SIX, spread_out(3, 6), "AF BCDE ABCDEF"),
+]
+
+# Numerators of the extreme tables that are known without adding up: every row but these is 0. With the signs of effect 728
+# each factor gives 1 and 4 as its sum and third combination, so 1 * 1 * 2 without its letter and 4 * 4 with it.
+KNOWN = {
+    "ten factors, all 100000": {"mean": 10_485_760_000_000_000},
+    "ten factors in 16 blocks, all -100000": {"mean": 10_485_760_000_000_000},
+    "ten factors, signs of effect 1023": {ALL_TEN: 10_485_760_000_000_000},
+    "ten factors in 16 blocks, signs of effect 1023": {ALL_TEN: 10_485_760_000_000_000},
+    "ten factors, signs of effect 1": {"A": 10_485_760_000_000_000},
+    "six factors at three levels, all 100000": {"mean": MOST_NUMERATOR},
+    "six factors at three levels, all -100000": {"mean": MOST_NUMERATOR},
+    "six factors at three levels, signs of effect 728":
+        {anova.row_label(row): 16 ** letters * 2 ** (6 - letters) * 10 ** 10
+         for row in range(64) for letters in [factab.letter_count(row)]},
+    "six factors at three levels, signs of effect 364, 0 at 0": {"ABCDEF": 29_859_840_000_000_000},
+    "six factors at three levels, signs of effect 1, 100000 at 0":
+        {"mean": 37_791_360_000_000_000, "A": 302_330_880_000_000_000},
+}
+
+
+TABLES = (
+    [REPORT_TWO_LEVELS, AMCP_WHOLE, AMCP_BLOCKED, AMCP_HALF]
+    + [YATES_POTATOES, YATES_BEANS, YATES_SUGAR_BEET, INTERLACED, YATES_TABLE_38]
+    + [DANIEL_CEMENT_FOUR, DANIEL_CEMENT_TWO, DANIEL_DRILL, DANIEL_MANGOLDS, DANIEL_HALF]
+    + [REPORT_THREE_LEVELS, YATES_TWO_OF_THREE, YATES_FIRST_REPLICATION, YATES_BOTH_REPLICATIONS, YATES_HAY]
+    + [DANIEL_LETTUCE, DANIEL_AIR]
+    + [RULES_TWO_FACTORS, RULES_THREE_LEVELS, RULES_BLOCKS, RULES_LIMITS]
+    + EXTREMES
+)
+
+
+# ---- damaged figures, and figures that are off ----
+
+MENDS = [
+    Mend("report, 2^4", "squares", "numerator", 2, "3572?", "35721",
+         "the other fifteen squares and 752176; 2232.5625 is 35721 over 16"),
+    Mend("report, 2^4", "check 2", "sum of squares", 0, "47001", "47011", "752176 is 16 times 47011"),
+    Mend("report, 3^4", "worksheet", "mean square", 1, "4.8556", "3.8549",
+         "the readings; since the worksheet adds rounded parts, 3.8550 may be printed, and which is not settled"),
+    Mend("report, 3^4", "worksheet, check", "sum of squares", 0, "254?", "2541", "the readings"),
+    Mend("Daniel, 3^2 on lettuce", "Table 4.3", "degrees", 7, "3", "4",
+         "sum of squares and mean square beside it are those of all four degrees, that of A1B1 among them"),
+    Mend("Daniel, 3^2 on lettuce", "Table 4.3", "mean square", 0, "1198.00", "1198",
+         "1198 in Table 4.2; the decimals do not belong to the quotient"),
+]
+
+CUT = "cut off"
+OFF = [
+    Off("Yates, potatoes", "Table 9", "sum of squares", 7, "0.69",
+        "3465.3 + 161170.0 + 344.5 + 278817.8 + 810.0 + 13986.3 + 124.0"),
+    Off("Daniel, 2^4 on drilling", "Section 6.2", "sum of squares", 1, "0.53", CUT),
+    Off("Daniel, 2^4 on drilling", "Section 6.2", "sum of squares", 2, "0.92", CUT),
+    Off("Daniel, half of 2^5 on beans", "Section 7.2.3", "mean square", 0, "0.63", CUT),
+    Off("Yates, sugar beet, d and s", "Table 47", "sum of squares", 2, "0.82", CUT),
+    Off("Yates, sugar beet, d and s", "Table 48", "sum of squares", 0, "0.82", CUT),
+    Off("Yates, sugar beet, d and s", "Table 48", "sum of squares", 2, "1.15", "341.52 - 94.47 - 107.80"),
+    Off("Yates, sugar beet, d and s", "Table 53", "sum of squares", 0, "0.86", "27.09 + 46.56 + 28.00 + 37.58"),
+    Off("Yates, sugar beet, first replication", "Table 56", "sum of squares", 2, "0.52", CUT),
+    Off("Yates, sugar beet, both replications", "Table 47", "sum of squares", 4, "0.82", CUT),
+    Off("Yates, sugar beet, both replications", "Table 47", "sum of squares", 7, "1.15", CUT),
+    Off("Yates, sugar beet, both replications", "Table 47", "sum of squares", 8, "0.71", CUT),
+    Off("Yates, sugar beet, both replications", "Table 48", "sum of squares", 0, "0.82", CUT),
+    Off("Yates, sugar beet, both replications", "Table 48", "sum of squares", 3, "1.15", "341.52 - 94.47 - 107.80"),
+    Off("Yates, sugar beet, both replications", "Table 48", "sum of squares", 4, "1.15", "275.13 - 94.47 - 150.14"),
+    Off("Yates, hay", "Table 42", "sum of squares", 2, "0.78", CUT),
+    Off("Yates, hay", "Table 42", "mean square", 1, "0.70", "115.85 / 2"),
+    Off("Daniel, 3^2 on air pollution", "Table 4.6", "mean square", 2, "0.56", "7306 / 4"),
+]
+
+
+# ---- the report's pooling of three levels ----
+
+# From the column of the 81 squares over their divisors the worksheet makes a column of 54, of 36, of 24 and of 16: the first
+# elements of all successive sets of three, then the sums of the last two of each. The squares over divisors are rounded to
+# four decimals and then added. Here is what can be read, by column and first place, of the lines that show as many figures
+# as they hold; a point that is lost in a whole figure is set. Column 4 is the rows. Of the column of 81 squares over
+# divisors too little can be told apart.
+POOLED = [
+    (1, 10, "3.56>3.3611 4.35>4.0833"),
+    (1, 12, "26.?>26.6944 ?0?17>2.0417 17?>17.0139"),
+    (1, 18, "2?>2.4691 1.541>1.5648 .8916>.8920"),
+    (1, 21, "1?204>1.1204 .0139 ?.33?0>1.3380"),
+    (1, 24, "6.8179 19?5?02>19.5602 9.6>4.6682"),
+    (1, 27, "2.1692>2.4692 21.9299>21.9259 6.5692>6.8642"),
+    (1, 30, "11.2593 .7?>.7223 7.5741"),
+    (1, 33, "51.4569>31.4568 5.5741 72.5988"),
+    (1, 36, "10.1111 3.57>3.3889 4.0556"),
+    (1, 39, "18.7223 7.5233>7.5833 -19944>.6944"),
+    (1, 42, "?.7223>2.7223 6.0278 2.6949>2.6944"),
+    (1, 45, "2.0864 .2407 18.1?>18.1914"),
+    (1, 48, "5?85>5.0185 22.21>22.8611 30.18>30.5648"),
+    (1, 51, "4.?5>4.3765 18.?26>18.3426 5.?>5.2068"),
+    (2, 18, ".76?4>.7654 4.69>4.5926 43>.9382"),
+    (2, 27, "28.7?01>28.7901 8.2964 .173>78.1729"),
+    (2, 30, "14945>7.4445 8.?777>8.2777 8.7222"),
+    (2, 33, "124321>18.4321 ?3?59>53.4259 23.5494"),
+    (3, 15, "4?>42.7161 21.4446 9.3?>9.3950"),
+    (3, 21, "4>86.4693 16?>16.9999 76.97?>76.9753"),
+    (4, 15, "449195>93.9752"),
+]
+
+
+# ---- readings that published.py does not have: sums that are printed beside them ----
+
+DOWN, ACROSS = [(0, 3, 6), (1, 4, 7), (2, 5, 8)], [(0, 1, 2), (3, 4, 5), (6, 7, 8)]
+DIAGONALS = [(0, 4, 8), (1, 5, 6), (2, 3, 7), (0, 5, 7), (1, 3, 8), (2, 4, 6)]
+
+# Table, runs, a number taken off each reading, and the printed sums; the sums of the air's readings are not printed, but
+# how far the means of three lie from the mean of all, in whole numbers.
+SUMS = [
+    (YATES_HAY, DOWN, 0, "221.4 317.4 287.5"),
+    (YATES_HAY, ACROSS, 0, "263.9 256.8 305.6"),
+    (YATES_HAY, DIAGONALS, 0, "274.4 274.2 277.7 262.2 283.4 280.7"),
+    (YATES_HAY, [range(9)], 0, "826.3"),
+    (DANIEL_LETTUCE, DOWN, 353, "129 -1 -128"),
+    (DANIEL_LETTUCE, ACROSS, 353, "140 10>-10 -130"),
+]
+DEVIATIONS = [(DANIEL_AIR, DOWN, "96 -251 155"), (DANIEL_AIR, ACROSS, "232 -60 -172")]
+
+
+# ---- the tables ----
+
+def quick_totals(levels, k, readings):
+    """The totals, found for each level of the highest factor by themselves and then combined by its coefficient rows."""
+    if k == 0:
+        return list(readings)
+    size = factab.run_count(levels, k - 1)
+    parts = [quick_totals(levels, k - 1, readings[start:start + size]) for start in range(0, len(readings), size)]
+    return [sum(factor * part[effect] for factor, part in zip(row, parts))
+            for row in factab.COEFFICIENTS[levels] for effect in range(size)]
+
+
+def marks_of(own):
+    """The marks of all rows."""
+    return [1 if row in own.marked else 0 for row in range(anova.row_count(own.plan.k))]
+
+
+def table_of(own):
+    """The table, with totals by the quicker way; check_table() compares them with the definition."""
+    totals = quick_totals(own.plan.levels, own.plan.k, own.readings)
+    return anova.table_of_totals(own.plan, own.readings, marks_of(own), totals)
+
+
+# ---- what the printed figures must be ----
+
+def effect_number(levels, label):
+    """The effect of a label: mean, or letters; at three levels with a digit after each letter, such as A1B2."""
+    if label == anova.MEAN or levels == 2:
+        return row_number(label)
+    return sum(int(digit) * levels ** (ord(letter) - ord("A")) for letter, digit in zip(label[::2], label[1::2]))
+
+
+def part_of(own, table, name):
+    """The part of a table that a printed figure belongs to: mean, kept, blocks, error or total; corrected, which is the
+    total but the mean; a row by its label; an effect by letters and digits; or parts added up, with plus signs."""
+    if "+" in name:
+        return anova.added_up([part_of(own, table, piece) for piece in name.split("+")])
+    if name in anova.KINDS or name == "total":
+        return getattr(table, name)
+    if name == "corrected":
+        return anova.Part(table.total.degrees - 1, table.total.numerator - table.mean.numerator)
+    if name.isalpha():
+        return table.rows[row_number(name)]
+    effect = effect_number(own.plan.levels, name)
+    return anova.Part(1, factab.numerator(own.plan.levels, own.plan.k, effect, table.totals[effect]))
+
+
+def block_total(own, number):
+    """The sum of the readings of a block, by its number."""
+    return sum(reading for run, reading in enumerate(own.readings) if block_of(own.plan, run) == number)
+
+
+def block_of(plan, run):
+    """The block number of a run: bit j is set when an odd number of the letters of block word j are high."""
+    return sum(factab.letter_count(word & run) % 2 << place for place, word in enumerate(plan.blocks))
+
+
+def effect_total(own, table, name):
+    """The total of an effect, in the unit of the print."""
+    return Fraction(table.totals[effect_number(own.plan.levels, name)], unit(own))
+
+
+def turned_total(own, table, name):
+    """The total of a two-level effect with differences last minus first."""
+    return effect_total(own, table, name) * (-1) ** factab.letter_count(row_number(name))
+
+
+def unit(own):
+    """How many units of the readings one unit of the print is."""
+    return 10 ** own.places
+
+
+def sum_of_squares(own, table, name):
+    """A part's numerator over the denominator, in the unit of the print and by plots."""
+    return Fraction(part_of(own, table, name).numerator, table.denominator * unit(own) ** 2 * own.plots)
+
+
+def mean_square(own, table, name):
+    """A part's sum of squares over its degrees; 0 for a part without degrees."""
+    degrees = part_of(own, table, name).degrees
+    return sum_of_squares(own, table, name) / degrees if degrees else Fraction(0)
+
+
+# What a figure of each measure must be. A standard deviation is printed as the root of this number.
+MEASURES = {
+    "numerator": lambda own, table, name: Fraction(part_of(own, table, name).numerator, unit(own) ** 2),
+    "degrees": lambda own, table, name: Fraction(part_of(own, table, name).degrees),
+    "sum of squares": sum_of_squares,
+    "mean square": mean_square,
+    "standard deviation": mean_square,
+    "share of corrected": lambda own, table, name:
+        sum_of_squares(own, table, name) / sum_of_squares(own, table, "corrected"),
+    "sum of totals": lambda own, table, name: Fraction(table.sum_of_totals, unit(own)),
+    "effect total": effect_total,
+    "turned total": turned_total,
+    "block total": lambda own, table, name: Fraction(block_total(own, int(name)), unit(own)),
+}
+
+
+def names_of(own, printed):
+    """What each figure of a printed text belongs to."""
+    if printed.parts == "rows":
+        return [anova.row_label(row) for row in range(anova.row_count(own.plan.k))]
+    return printed.parts.split(", ")
+
+
+def units_below(figure, meant):
+    """By how many units of its last decimal a figure is below the number meant; and how many figures are added up in it."""
+    summands = figure.split("+")
+    decimals = max(len(summand.partition(".")[2]) for summand in summands)
+    return (meant - sum(Fraction(summand) for summand in summands)) * 10 ** decimals, len(summands)
+
+
+def worked_out(expression):
+    """The value of printed figures that are added, taken off or divided, from left to right."""
+    first, *rest = expression.split()
+    value = Fraction(first)
+    for sign, figure in zip(rest[::2], rest[1::2]):
+        value = {"+": value + Fraction(figure), "-": value - Fraction(figure), "/": value / Fraction(figure)}[sign]
+    return value
+
+
+def explained(off, figure, below, summands):
+    """Whether a figure is as far off as listed, for the cause listed."""
+    if abs(below) > Fraction(off.units):
+        return False
+    if off.cause == CUT:
+        return 0 <= below < summands
+    return abs(units_below(figure, worked_out(off.cause))[0]) <= Fraction(1, 2)
+
+
+def root_agrees(figure, meant, units):
+    """The root of a number, as printed."""
+    room = units / 10 ** len(figure.partition(".")[2])
+    return (Fraction(figure) - room) ** 2 <= meant <= (Fraction(figure) + room) ** 2
+
+
+def found_in(listed, own, printed, place):
+    """The mend or the entry of OFF for one printed figure, or None."""
+    key = (own.title, printed.where, printed.measure, place)
+    return next((entry for entry in listed if entry[:4] == key), None)
+
+
+# ---- checks ----
+
+def wrong_mend(shown, meant):
+    """Whether a mend changes nothing, is not whole itself, or does not fit the digits of a figure that is shown in part."""
+    fits = re.fullmatch(re.escape(shown).replace(re.escape(LACKING), ".+"), meant)
+    return shown == meant or LACKING in meant or LACKING in shown and not fits
+
+
+def check_figure(own, table, printed, place, name, figure):
+    """Complaints about one printed figure, mended if it has a mend."""
+    mend, off = found_in(MENDS, own, printed, place), found_in(OFF, own, printed, place)
+    if mend:
+        if mend.printed != figure or wrong_mend(figure, mend.meant):
+            return ["mend does not fit %s" % figure]
+        figure = mend.meant
+    if LACKING in figure:
+        return ["%s is not whole" % figure]
+    meant = MEASURES[printed.measure](own, table, name)
+    if printed.measure == "standard deviation":
+        return [] if root_agrees(figure, meant, printed.units) else ["%s is not the root of %s" % (figure, meant)]
+    below, summands = units_below(figure, meant)
+    if abs(below) <= printed.units * summands:
+        return ["%s is listed as off and is not" % figure] if off else []
+    if off and explained(off, figure, below, summands):
+        return []
+    return ["%s is not %s, but %.2f units off" % (figure, float(meant), abs(below))]
+
+
+def check_printed(own, table, printed):
+    """Complaints about one printed text."""
+    names, figures = names_of(own, printed), printed.text.split()
+    if len(names) != len(figures):
+        return ["%s: %d figures" % (printed.where, len(figures))]
+    return ["%s, %s of %s: %s" % (printed.where, printed.measure, name, complaint)
+            for place, (name, figure) in enumerate(zip(names, figures)) if figure != NOT_PRINTED
+            for complaint in check_figure(own, table, printed, place, name, figure)]
+
+
+def degrees_of_report(k):
+    """The degrees of three levels as the report has them: the couple (1, 2) to the power k."""
+    found = [1]
+    for _ in range(k):
+        found = found + [2 * degrees for degrees in found]
+    return found
+
+
+def pooled_once(column):
+    """The report's pooling: the first elements of all successive sets of three, then the sums of the last two of each."""
+    sets = [column[start:start + 3] for start in range(0, len(column), 3)]
+    return [first for first, _, _ in sets] + [second + third for _, second, third in sets]
+
+
+def check_rows(own, table):
+    """Rows and their degrees in another way: at two levels the effects themselves, at three the report's pooling."""
+    levels, k = own.plan.levels, own.plan.k
+    column = [factab.numerator(levels, k, effect, total) for effect, total in enumerate(table.totals)]
+    if levels == 3:
+        for _ in range(k):
+            column = pooled_once(column)
+    degrees = [1] * len(column) if levels == 2 else degrees_of_report(k)
+    return [] if table.rows == [anova.Part(*pair) for pair in zip(degrees, column)] else ["rows"]
+
+
+def check_blocks(own, table):
+    """Mean and blocks together in another way: the squared sums of the blocks, over their runs."""
+    numbers = range(2 ** len(own.plan.blocks))
+    runs = Fraction(len(own.readings), len(numbers))
+    squares = sum(block_total(own, number) ** 2 for number in numbers)
+    meant = anova.Part(len(numbers), squares / runs * table.denominator)
+    return [] if anova.added_up([table.mean, table.blocks]) == meant else ["blocks"]
+
+
+def spot_effects(own):
+    """Effects whose totals are compared with the definition: all of them, of large plans a few."""
+    count = factab.run_count(own.plan.levels, own.plan.k)
+    return range(count) if count <= 81 else (0, 1, 2, 364, 511, count - 1)
+
+
+def check_table(own, table):
+    """Complaints of the rules about one table."""
+    levels, k = own.plan.levels, own.plan.k
+    complaints = []
+    if anova.table_answer(own.plan, own.readings, marks_of(own), len(table.totals), len(table.rows)) != factab.DONE:
+        complaints.append("not accepted")
+    if any(table.totals[effect] != factab.total(levels, k, own.readings, effect) for effect in spot_effects(own)):
+        complaints.append("totals")
+    parts = [getattr(table, kind) for kind in anova.KINDS]
+    if anova.added_up(parts) != table.total or anova.added_up(table.rows) != table.total:
+        complaints.append("mean, kept, blocks and error do not add up to the total")
+    if table.sum_of_totals != table.check_number:
+        complaints.append("check numbers")
+    if table.total.numerator > MOST_NUMERATOR or any(abs(total) > factab.MOST_VALUE for total in table.totals):
+        complaints.append("beyond the limits")
+    if table.error.degrees != sum(anova.row_degrees(levels, row) for row in own.marked):
+        complaints.append("degrees of error")
+    if sum((row + 1) * part.numerator for row, part in enumerate(table.rows)) >= 2 ** 64 and k > 6:
+        complaints.append("the weighted sum of rows is beyond 64 bits")
+    if abs(weighted_totals(table)) >= 2 ** 63:
+        complaints.append("the weighted sum of totals is beyond 64 bits")
+    return complaints + check_rows(own, table) + check_blocks(own, table)
+
+
+def check_known(own, table):
+    """The extreme tables whose numerators are known."""
+    known = KNOWN.get(own.title)
+    if known is None:
+        return []
+    meant = [known.get(anova.row_label(row), 0) for row in range(len(table.rows))]
+    return [] if [part.numerator for part in table.rows] == meant else ["known rows"]
+
+
+def check_worked(own):
+    """Complaints about one table."""
+    table = table_of(own)
+    complaints = check_table(own, table) + check_known(own, table)
+    for printed in own.printed:
+        complaints += check_printed(own, table, printed)
+    return [own.title + ": " + complaint for complaint in complaints]
+
+
+def check_lists():
+    """Complaints about mends and figures that are off: given twice, or of no printed figure; and about titles."""
+    complaints = []
+    titles = [own.title for own in TABLES]
+    figures = [(own.title, printed.where, printed.measure, place) for own in TABLES for printed in own.printed
+               for place in range(len(printed.text.split()))]
+    for entry in MENDS + OFF:
+        if figures.count(entry[:4]) != 1:
+            complaints.append("of no figure, or of two: %r" % (entry,))
+    if any(len({entry[:4] for entry in listed}) != len(listed) for listed in (MENDS, OFF)):
+        complaints.append("two entries for one figure")
+    if len(set(titles)) != len(titles) or not set(KNOWN) <= set(titles):
+        complaints.append("titles")
+    return complaints
+
+
+def check_pooled():
+    """The report's pooled columns, from parts rounded to four decimals."""
+    own = REPORT_THREE_LEVELS
+    levels, k = own.plan.levels, own.plan.k
+    column = [round(Fraction(total ** 2 * 10 ** 4, factab.divisor(levels, k, effect)))
+              for effect, total in enumerate(table_of(own).totals)]
+    columns = [column]
+    for _ in range(k):
+        columns.append(pooled_once(columns[-1]))
+    complaints = []
+    for number, first, text in POOLED:
+        for place, figure in enumerate(text.split(), first):
+            shown, meant = mended(figure)
+            if ">" in figure and wrong_mend(shown, meant) or Fraction(meant) != Fraction(columns[number][place], 10 ** 4):
+                complaints.append("report, 3^4: pooled column %d, place %d: %s" % (number, place, figure))
+    return complaints
+
+
+def check_sums():
+    """The sums printed beside readings that published.py does not have."""
+    complaints = []
+    for own, groups, less, text in SUMS:
+        sums = [Fraction(sum(own.readings[run] - less for run in runs), unit(own)) for runs in groups]
+        if sums != [Fraction(mended(figure)[1]) for figure in text.split()]:
+            complaints.append("%s: sums %s" % (own.title, text))
+    for own, groups, text in DEVIATIONS:
+        mean = Fraction(sum(own.readings), len(own.readings))
+        found = [round(Fraction(sum(own.readings[run] for run in runs), len(runs)) - mean) for runs in groups]
+        if found != [int(figure) for figure in text.split()]:
+            complaints.append("%s: deviations %s" % (own.title, text))
+    return complaints
+
+
+def check_pounds():
+    """The mangolds in pounds round to those in tens of pounds, and their blocks are those of the block words."""
+    pounds = published.whole_readings(DANIEL_POUNDS)
+    tens = [reading + 110 for reading in published.whole_readings(published.DANIEL_MANGOLDS)]
+    complaints = []
+    if any(abs(pound - 10 * ten) > 5 for pound, ten in zip(pounds, tens)):
+        complaints.append("Daniel, mangolds: pounds and tens of pounds")
+    pairs = {(name, block_of(DANIEL_MANGOLDS.plan, run)) for run, name in enumerate(MANGOLD_BLOCKS.split())}
+    if len(pairs) != 4 or len({name for name, _ in pairs}) != 4 or len({number for _, number in pairs}) != 4:
+        complaints.append("Daniel, mangolds: blocks")
+    return complaints
+
+
+def check_half():
+    """The readings of half of the beans are the yields less 59, rounded."""
+    complaints = []
+    yields = published.whole_readings(published.YATES_BEANS)
+    for run, reading in enumerate(DANIEL_HALF.readings):
+        whole_run = run | factab.letter_count(run & row_number("BCD")) % 2 << 4
+        if abs(10 * (reading + 59) - yields[whole_run]) > 5:
+            complaints.append("Daniel, half of the beans: reading of run %d" % run)
+    return complaints
+
+
+def interlaces(arrangement):
+    """Whether the rows hold each treatment once, and the columns are those of two squares with each treatment once."""
+    rows = [row.split() for row in arrangement]
+    columns = [set(column) for column in zip(*rows)]
+    even = {"(1)", "np", "nk", "pk"}
+    return (all(sorted(row) == sorted(TREATMENTS) for row in rows)
+            and all(column in (even, set(TREATMENTS) - even) for column in columns))
+
+
+def check_arrangement():
+    """One arrangement alone interlaces, of all that put the lacking treatments into the second and third row."""
+    ways = []
+    for second, third in product(range(8), repeat=2):
+        rows = [row.split() for row in SQUARES_PRINTED]
+        rows[1].insert(second, "nk")
+        rows[2].insert(third, "nk")
+        ways.append([" ".join(row) for row in rows])
+    return [] if [way for way in ways if interlaces(way)] == [SQUARES] else ["Yates, squares that interlace: arrangement"]
+
+
+def check_rules_text():
+    """The text that the rules print for 3, 5, 4, 8."""
+    lines = table_lines(table_of(RULES_TWO_FACTORS))
+    return [] if "".join(line + "\n" for line in lines) == RULES_TEXT else ["rules: text of 3, 5, 4, 8"]
+
+
+def check():
+    """List of all complaints about tables, refusals and estimates."""
+    complaints = check_lists() + check_rules_text() + check_pooled() + check_sums() + check_pounds()
+    complaints += check_half() + check_arrangement()
+    for own in TABLES:
+        complaints += check_worked(own)
+    return complaints + answers.check()
+
+
+# ---- expected text ----
+
+def weighted_totals(table):
+    """The sum over effects of (effect + 1) times total."""
+    return sum((effect + 1) * total for effect, total in enumerate(table.totals))
+
+
+def weighted_rows(table):
+    """The sum over rows of (row + 1) times numerator, modulo 2 to the power 61, less 1."""
+    return sum((row + 1) * part.numerator for row, part in enumerate(table.rows)) % MODULUS
+
+
+def row_line(table, row):
+    """The line of a row: label, degrees, numerator and, if so, `error` or `blocks`."""
+    part, kind = table.rows[row], table.kinds[row]
+    return "%s %d %d" % (anova.row_label(row), *part) + (" " + kind if kind in (ERROR, BLOCKS) else "")
+
+
+def rows_lines(table):
+    """The lines of all rows. Of more than 64 rows only the mean, blocks and error, and then a line that every row is in."""
+    rows = range(len(table.rows))
+    if len(rows) <= MOST_ROWS_SHOWN:
+        return [row_line(table, row) for row in rows]
+    return [row_line(table, row) for row in rows if table.kinds[row] != anova.KEPT] + ["rows %d" % weighted_rows(table)]
+
+
+def table_lines(table):
+    """The lines that the rules give for a table."""
+    return (["over %d" % table.denominator] + rows_lines(table)
+            + ["blocks %d %d" % table.blocks, "error %d %d" % table.error, "total %d %d" % table.total,
+               "check %d %d" % (table.sum_of_totals, table.check_number)])
+
+
+def worked_lines(number, own):
+    """The lines of one worked table."""
+    table = table_of(own)
+    return (["example %d: %d levels, %d factors" % (number, own.plan.levels, own.plan.k)] + table_lines(table)
+            + ["totals %d" % weighted_totals(table)])
+
+
+def expected_text():
+    """What the program that works the tables must write."""
+    lines = []
+    for number, own in enumerate(TABLES, 1):
+        lines += worked_lines(number, own)
+    return "".join(line + "\n" for line in lines + answers.expected_lines())
+
+
+def inputs_text():
+    """The inputs of all tables, refusals and estimates, a line for each. Words and rows are numbers; an added factor is its
+    word and sign. The readings of the extreme tables are left out."""
+    lines = []
+    for number, own in enumerate(TABLES, 1):
+        readings = "" if own in EXTREMES else ", readings" + published.values_text(own.readings)
+        lines.append("example %d (%s): %s, marked%s%s"
+                     % (number, own.title, answers.plan_text(own.plan), published.values_text(own.marked), readings))
+    lines += answers.input_lines()
+    return "".join(line + "\n" for line in lines)
+
+
+if __name__ == "__main__":
+    found = check()
+    if found:
+        sys.exit("\n".join(found))
+    sys.stdout.write(inputs_text() if "inputs" in sys.argv[1:] else expected_text())
