@@ -347,8 +347,13 @@ def signs_of(levels, k, effect, top, at_zero):
 
 
 def spread_out(levels, k):
-    """For each run its number times 71993, modulo 200001, less 100000."""
-    return [run * 71993 % 200001 - 100000 for run in range(factab.run_count(levels, k))]
+    """Numbers less 100000: the first is 0, and each next is the one before times 9973 plus 12345, modulo 200001. No total
+    is 0."""
+    readings, number = [], 0
+    for _ in range(factab.run_count(levels, k)):
+        readings.append(number - TOP)
+        number = (number * 9973 + 12345) % 200001
+    return readings
 
 
 def extreme(title, plan, readings, marked):
