@@ -16,6 +16,7 @@
 --   Σℕ-one          a sum with one term only
 --   Σℕ-by           a sum sorted by a key: the parts of all keys add up to the whole
 --   Σℕ-le           smaller terms give a smaller sum
+--   Σℕ-shorter      a sum broken off anywhere is at most the whole sum
 --   Σℕ-each         terms of at most m add up to at most n * m
 --   Σℕ-some         a selection of terms, broken off anywhere, is at most the whole sum
 --   Σℕ-term         and so is one term
@@ -131,10 +132,10 @@ unfolding Σℕ
 Σℕ-each zero m f h = omega arith
 Σℕ-each (suc n) m f h = rw (suc-mul n m) (omega (arith, h n (omega arith), Σℕ-each n m f (λ i k. h i (omega arith))))
 
-shorter : (k n : ℕ) (f : ℕ → ℕ) → k ≤ n → Σℕ k f ≤ Σℕ n f
+pub Σℕ-shorter : (k n : ℕ) (f : ℕ → ℕ) → k ≤ n → Σℕ k f ≤ Σℕ n f
 unfolding Σℕ
-shorter k zero f h = rw (le-zero h) (le-refl 0)
-shorter k (suc n) f h = go (ℕ-discrete k (suc n)) (shorter k n f)
+Σℕ-shorter k zero f h = rw (le-zero h) (le-refl 0)
+Σℕ-shorter k (suc n) f h = go (ℕ-discrete k (suc n)) (Σℕ-shorter k n f)
   where
     go : Dec (k ≡ suc n) → (k ≤ n → Σℕ k f ≤ Σℕ n f) → Σℕ k f ≤ Σℕ n f + f n
     go (yes e) r = rw e (le-refl (Σℕ n f + f n))
@@ -145,11 +146,11 @@ chosen true n = le-refl n
 chosen false n = omega arith
 
 pub Σℕ-some : (k n : ℕ) (p : ℕ → Bool) (f : ℕ → ℕ) → k ≤ n → Σℕ k (λ i. cond (p i) (f i) 0) ≤ Σℕ n f
-Σℕ-some k n p f h = le-trans (Σℕ-le k (λ i. cond (p i) (f i) 0) f (λ i _. chosen (p i) (f i))) (shorter k n f h)
+Σℕ-some k n p f h = le-trans (Σℕ-le k (λ i. cond (p i) (f i) 0) f (λ i _. chosen (p i) (f i))) (Σℕ-shorter k n f h)
 
 pub Σℕ-term : (n : ℕ) (f : ℕ → ℕ) (i : ℕ) → i < n → f i ≤ Σℕ n f
 unfolding Σℕ
-Σℕ-term n f i h = le-trans (omega arith) (shorter (suc i) n f h)
+Σℕ-term n f i h = le-trans (omega arith) (Σℕ-shorter (suc i) n f h)
 
 unfoldable pub most : ℕ → (ℕ → ℕ) → ℕ
 most zero f = 0

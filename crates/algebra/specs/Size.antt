@@ -8,18 +8,20 @@
 --   fits                     a size below 2 ^ 63 fits an i64
 --   wrap, back               an i64 as code holds it, as bits and read again, is the number
 --   kept                     so of one that is read from a slice
+--   size-below               a size is at most its square
+--   square-fits, square-held, square-is    the square of an i64, as code forms it: it fits, it is not negative, it is the square of the size
 --   widened, widened-fits    an i32 that is read from a slice, as an i64
 use mathlib.Core.Path.{_≡_, refl, _∙_}
 use mathlib.Core.Bool.{Bool, true, false, cond}
 use Prim.Native.Nat.{ℕ, zero, suc, _+_, _*_, _-_, _^_, _<_, _≤_}
-use native.Mathlib.Nat.{le-refl}
+use native.Mathlib.Nat.{le-refl, suc-mul}
 use native.Mathlib.Omega.{arith}
-use lib.Dec.{ltb}
+use lib.Dec.{T, ltb}
 use lib.IntN.{ℤ, pos, negsuc, negℤ, _+ℤ_, _-ℤ_, _*ℤ_, natAbs}
-use lib.Signed.{mag}
+use lib.Signed.{mag, nonNeg}
 use mir.Facts.{toZ-ofZ}
 use mir.Syntax.{w32, w64}
-use mir.Val.{SFits, toZ, ofZ}
+use mir.Val.{Fits, SFits, toZ, ofZ}
 use Rattle.algebra.specs.Sum.{Σ}
 use Rattle.algebra.specs.Naturals.{Σℕ}
 
@@ -83,3 +85,25 @@ widened-fits z h = rw (narrow z h) (record { sfits = omega (arith, h) })
 
 pub widened : (z : ℤ) → mag z < 2 ^ 31 → wrap (toZ w32 (ofZ w32 z)) ≡ z
 widened z h = toZ-ofZ (widened-fits z h) ∙ narrow z h
+
+-- ---- the square
+
+pub size-below : (n : ℕ) → n ≤ n * n
+size-below zero = omega arith
+size-below (suc n) = rw (suc-mul n (suc n)) (omega arith)
+
+module _ (x : ℤ) (h : natAbs x * natAbs x < 2 ^ 63) where
+  squared : wrap x *ℤ wrap x ≡ pos (natAbs x * natAbs x)
+  squared = rw (back x (omega (arith, h, size-below (natAbs x)))) (square x)
+
+  pub square-fits : SFits w64 (wrap x *ℤ wrap x)
+  square-fits = rw squared (fits (pos (natAbs x * natAbs x)) h)
+
+  all-squared : wrap (wrap x *ℤ wrap x) ≡ pos (natAbs x * natAbs x)
+  all-squared = rw squared (back (pos (natAbs x * natAbs x)) h)
+
+  pub square-held : T (nonNeg (wrap (wrap x *ℤ wrap x))) × Fits w64 (natAbs (wrap (wrap x *ℤ wrap x)))
+  square-held = rw all-squared (tt, record { fits = omega (arith, h) })
+
+  pub square-is : natAbs (wrap (wrap x *ℤ wrap x)) ≡ natAbs x * natAbs x
+  square-is = rw all-squared refl

@@ -3,10 +3,13 @@
 --   checkWeight* Fs r    the check weight of run r: the product of its levels' weights
 --   check-sum            the sum of the totals is that of the readings, each by its check weight
 --   check-rounds         which is what a round for each factor leaves
-use mathlib.Core.Path.{_≡_, sym, _∙_}
+--   rounds-cong          these rounds see the runs alone
+use mathlib.Core.Path.{_≡_, sym, _∙_, ap}
 use mathlib.Core.List.{List, [], _∷_}
-use Prim.Native.Nat.{ℕ, _+_, _*_, _/_, _%_}
-use lib.Arith.{digits-div, digits-mod}
+use Prim.Native.Nat.{ℕ, _+_, _*_, _/_, _%_, _<_}
+use native.Mathlib.Nat.{mul-comm}
+use lib.Arith.{digits-div, digits-mod, digits-lt}
+use lib.Dec.{lit<}
 use lib.IntN.{ℤ, pos, _*ℤ_}
 use Rattle.algebra.specs.Ring.{ℤ-*one, *ℤ-middle}
 use Rattle.algebra.specs.Sum.{Σ, Σ-unit, Σ-cong, Σ-ext, Σ-mul-r, Σ-swap, Σ-digits, Σ-split}
@@ -36,6 +39,13 @@ check-rounds (F ∷ Fs) x =
 
     t : ℕ → ℕ → ℤ
     t j q = total Fs (level F j x) q
+
+pub rounds-cong : (Fs : List Factor) (x y : Column) → ((r : ℕ) → r < size Fs → x r ≡ y r) → rounds Fs x ≡ rounds Fs y
+unfolding size rounds round
+rounds-cong [] x y h = h 0 (lit< tt)
+rounds-cong (F ∷ Fs) x y h =
+    rounds-cong Fs (round F x) (round F y)
+    (λ q k. Σ-cong (F .levels) (λ j l. ap (λ z. checkWeight F j *ℤ z) (h (q * F .levels + j) (rw (mul-comm (F .levels) (size Fs)) (digits-lt k l)))))
 
 rounds-weights : (Fs : List Factor) (x : Column) → rounds Fs x ≡ Σ (size Fs) (λ r. x r *ℤ checkWeight* Fs r)
 unfolding size rounds round checkWeight*

@@ -6,6 +6,7 @@
 --   values-fit           so does the column after each of any calls that repeat no factor
 --   steps-fit            and after each of k steps
 --   totals-fit           and so do the totals
+--   total-fits           the denominator times the sum of squared readings does not exceed the limit of numerators
 --   numerators-fit       "No numerator, and no sum of them in one table, exceeds 340,122,240,000,000,000."
 use mathlib.Core.Bool.{Bool, cond, _&&_}
 use mathlib.Core.List.{List}
@@ -69,14 +70,16 @@ module _ (F : Factor) (k : ℕ) (ok : T (withinLimits F k)) (x : Column) (h : Wi
   pub totals-fit : Within (size (replicate k F)) valueLimit (total (replicate k F) x)
   totals-fit i p = le-trans (bound-total (replicate k F) x readingLimit h i p) grown
 
+  pub total-fits : denominator (replicate k F) * squared (replicate k F) x ≤ numeratorLimit
+  unfolding withinLimits numeratorsWithin
+  total-fits =
+      le-trans (mul-le-mul-left (denominator (replicate k F)) (squared-bound (replicate k F) x readingLimit h))
+      (leb→le (denominator (replicate k F) * (size (replicate k F) * (readingLimit * readingLimit))) numeratorLimit
+      (and-right (valuesWithin F k) (numeratorsWithin F k) ok))
+
   pub numerators-fit : (n : ℕ) (p : ℕ → Bool) → n ≤ size (replicate k F)
       → Σℕ n (λ e. cond (p e) (numerator (replicate k F) x e) 0) ≤ numeratorLimit
-  unfolding withinLimits numeratorsWithin
-  numerators-fit n p le =
-      le-trans (within (replicate k F) x n p le)
-      (le-trans (mul-le-mul-left (denominator (replicate k F)) (squared-bound (replicate k F) x readingLimit h))
-      (leb→le (denominator (replicate k F) * (size (replicate k F) * (readingLimit * readingLimit))) numeratorLimit
-      (and-right (valuesWithin F k) (numeratorsWithin F k) ok)))
+  numerators-fit n p le = le-trans (within (replicate k F) x n p le) total-fits
 
 -- a step has less reach than all passes
 reach-le : (F : Factor) (t k : ℕ) → t ≤ k → reach F ^ t ≤ growth (replicate k F)

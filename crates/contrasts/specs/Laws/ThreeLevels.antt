@@ -8,6 +8,7 @@
 --   denominator-three         the common denominator
 --   weight-three              denominator over divisor, from the divisors of six factors
 --   round-three               a round of the check
+--   round-bound               the growth of values in it
 --   bound-three               the growth of values
 use mathlib.Core.Path.{_≡_, refl, sym, _∙_, ap}
 use mathlib.Core.List.{List, [], _∷_}
@@ -15,9 +16,10 @@ use Prim.Native.Nat.{ℕ, _+_, _*_, _-_, _^_, _/_, _<_, _≤_}
 use native.Mathlib.Nat.{mul-div-left, one-le-pow, add-zero, le-trans, mul-le-mul-right, pow-le-pow-left}
 use native.Mathlib.Omega.{arith}
 use lib.Dec.{lit<}
-use lib.IntN.{ℤ, pos, _+ℤ_, _*ℤ_, _-ℤ_}
+use lib.IntN.{ℤ, pos, natAbs, _+ℤ_, _*ℤ_, _-ℤ_}
 use lib.ListN.{length, replicate}
 use Rattle.algebra.specs.Solve.{solve, var, lit, _⊕_, _⊖_, _⊗_}
+use Rattle.algebra.specs.Size.{natAbs-+ℤ, natAbs-sub, natAbs-*ℤ}
 use Rattle.algebra.specs.Sum.{Σ}
 use Rattle.algebra.specs.Naturals.{Σℕ, most}
 use Rattle.contrasts.specs.Tables.{three, neg}
@@ -127,6 +129,20 @@ round-three x q =
     rw (add-zero (q * 3))
     (solve (x (q * 3) ∷ x (q * 3 + 1) ∷ x (q * 3 + 2) ∷ [])
     (lit (pos 0) ⊕ lit (pos 3) ⊗ var 0 ⊕ lit (neg 1) ⊗ var 1 ⊕ lit (pos 1) ⊗ var 2) (lit (pos 3) ⊗ var 0 ⊖ var 1 ⊕ var 2) refl)
+
+-- times 5 at most
+pub round-bound : (x : Column) (q M : ℕ) → ((i : ℕ) → natAbs (x i) ≤ M) → natAbs (round three x q) ≤ 5 * M
+round-bound x q M h =
+    rw (round-three x q)
+    (omega (
+      arith,
+      h (q * 3),
+      h (q * 3 + 1),
+      h (q * 3 + 2),
+      natAbs-*ℤ (pos 3) (x (q * 3)),
+      natAbs-sub (pos 3 *ℤ x (q * 3)) (x (q * 3 + 1)),
+      natAbs-+ℤ (pos 3 *ℤ x (q * 3) -ℤ x (q * 3 + 1)) (x (q * 3 + 2)),
+    ))
 
 -- ---- growth: times 4 a pass
 

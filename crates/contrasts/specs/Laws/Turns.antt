@@ -7,6 +7,8 @@
 --   all-fits, scaled-fits, without-fits, third-fits
 --                            at three levels: the sum; the middle so many times, first minus that, and with the third
 --   turn-three               the turn
+--   triple-fits, drop-fits, round-fits, round-is
+--                            a round of the check: three times first, minus middle, plus third; and what that is
 --
 -- An i64 that the code holds is `wrap z`, the number as bits and read again; the laws speak of the sums as the code forms them.
 use mathlib.Core.Path.{_≡_, sym, _∙_}
@@ -30,8 +32,8 @@ use Rattle.contrasts.specs.Laws.ThreeLevels as thrice
 pub record Small (z : ℤ) : Type 0 where
   pub small : natAbs z ≤ valueLimit
 
--- the one fact on the limit: four such values fit
-room : valueLimit * 4 < 2 ^ 63
+-- the one fact on the limit: five such values fit
+room : valueLimit * 5 < 2 ^ 63
 unfolding valueLimit
 room = lit< tt
 
@@ -152,3 +154,35 @@ module _ {h i : ℕ} {f g : ℕ → ℤ} {ys : List ℤ} (w : Turned 3 h f g i y
 
       quadratic : wrap (wrap (wrap a -ℤ wrap (pos 2 *ℤ wrap b)) +ℤ wrap c) ≡ f (i + 2 * h)
       quadratic = third-is 2 (lit≤ tt) sa sb sc ∙ sym (row 2 (lit< tt) ∙ thrice.quadratic y first middle third)
+
+-- ---- a round of the check
+
+triple-size : {a : ℤ} → Small a → natAbs (pos 3 *ℤ a) ≤ 3 * valueLimit
+triple-size {a} sa = rw (natAbs-*ℤ (pos 3) a) (mul-le-mul (lit≤ tt) (sa .small))
+
+pub triple-fits : {a : ℤ} → Small a → SFits w64 (pos 3 *ℤ wrap a)
+triple-fits {a} sa = rw (held sa) (fits (pos 3 *ℤ a) (omega (arith, room, triple-size sa)))
+
+triple-is : {a : ℤ} → Small a → wrap (pos 3 *ℤ wrap a) ≡ pos 3 *ℤ a
+triple-is {a} sa = rw (held sa) (back (pos 3 *ℤ a) (omega (arith, room, triple-size sa)))
+
+module _ {a b : ℤ} (sa : Small a) (sb : Small b) where
+  drop-size : natAbs (pos 3 *ℤ a -ℤ b) < 2 ^ 63
+  drop-size = omega (arith, room, triple-size sa, sb .small, natAbs-sub (pos 3 *ℤ a) b)
+
+  pub drop-fits : SFits w64 (wrap (pos 3 *ℤ wrap a) -ℤ wrap b)
+  drop-fits = rw (triple-is sa, held sb) (fits (pos 3 *ℤ a -ℤ b) drop-size)
+
+  drop-is : wrap (wrap (pos 3 *ℤ wrap a) -ℤ wrap b) ≡ pos 3 *ℤ a -ℤ b
+  drop-is = rw (triple-is sa, held sb) (back (pos 3 *ℤ a -ℤ b) drop-size)
+
+module _ {a b c : ℤ} (sa : Small a) (sb : Small b) (sc : Small c) where
+  round-size : natAbs (pos 3 *ℤ a -ℤ b +ℤ c) < 2 ^ 63
+  round-size =
+      omega (arith, room, triple-size sa, sb .small, sc .small, natAbs-sub (pos 3 *ℤ a) b, natAbs-+ℤ (pos 3 *ℤ a -ℤ b) c)
+
+  pub round-fits : SFits w64 (wrap (wrap (pos 3 *ℤ wrap a) -ℤ wrap b) +ℤ wrap c)
+  round-fits = rw (drop-is sa sb, held sc) (fits (pos 3 *ℤ a -ℤ b +ℤ c) round-size)
+
+  pub round-is : wrap (wrap (wrap (pos 3 *ℤ wrap a) -ℤ wrap b) +ℤ wrap c) ≡ pos 3 *ℤ a -ℤ b +ℤ c
+  round-is = rw (drop-is sa sb, held sc) (back (pos 3 *ℤ a -ℤ b +ℤ c) round-size)

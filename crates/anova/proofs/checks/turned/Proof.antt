@@ -1,0 +1,12 @@
+use Rattle.contrasts.specs.Laws.Turns.{triple-fits, drop-fits, round-fits, round-is}
+use Rattle.anova.proofs.checks.turned.Statement.{statement}
+use Rattle.anova.proofs.checks.turned.Tie as tie
+
+pub turned-spec : {M : Type 1} → statement M
+turned-spec =
+    tie.close
+    (tie.spec
+    (λ c. triple-fits (c .pre .0))
+    (λ c. drop-fits (c .pre .0) (c .pre .1))
+    (λ c. round-fits (c .pre .0) (c .pre .1) (c .pre .2))
+    (λ c. round-is (c .pre .0) (c .pre .1) (c .pre .2)))

@@ -1,0 +1,32 @@
+use mathlib.Core.Path.{refl, _∙_}
+use Rattle.contrasts.specs.Columns.{read}
+use Prim.Native.Nat.{_-_}
+use native.Mathlib.Omega.{arith}
+use lib.ListN.{length}
+use Rattle.algebra.specs.Size.{widened, widened-fits}
+use Rattle.anova.proofs.Squared.{Summing, summing-none, summing-more, summing-all, squarable, summing-fits}
+use Rattle.anova.proofs.squares.sum_of_squares.Statement.{statement}
+use Rattle.anova.proofs.squares.sum_of_squares.Tie as tie
+
+abbrev Inv-loop : tie.InvT-loop
+Inv-loop readings sum₀ i₀ sum i = Summing readings i sum
+
+abbrev μ-loop : tie.MeasureT-loop
+μ-loop readings sum₀ i₀ sum i = length readings - i
+
+pub sum-of-squares-spec : {M : Type 1} → statement M
+sum-of-squares-spec =
+    tie.close
+    (tie.spec
+    Inv-loop
+    μ-loop
+    (λ c. summing-none _)
+    (λ c. omega arith)
+    (λ c. omega arith)
+    (λ c. widened-fits (read (c .before .before .before .args .readings .now) (c .before .before .loop .i)) (c .square-arg .given))
+    (λ c κs. rw (widened _ (c .square-arg .given)) (squarable (c .before .before .before .pre) (c .before .before .loop .inv) (c .before .loop-test .taken)))
+    (λ c. omega (arith, summing-fits (c .before .before .before .before .pre) (c .before .before .before .loop .inv) (c .before .before .loop-test .taken) (c .square .ensures ∙ rw (widened _ (c .before .square-arg .given)) refl)))
+    (λ c. omega arith)
+    (λ c. omega arith)
+    (λ c. summing-more (c .before .before .before .before .pre) (c .before .before .before .loop .inv) (c .before .before .loop-test .taken) (c .square .ensures ∙ rw (widened _ (c .before .square-arg .given)) refl))
+    (λ c. summing-all (c .before .before .pre) (c .before .loop .inv) (c .loop-test .left)))

@@ -1,0 +1,118 @@
+-- The table call: its number, its figures, and the columns that it leaves.
+--
+--   wrongRows, wrongLengths    line 11, of rows or marks and of all four slices
+--   tableNumber                the lowest number that applies, 0 where the table is made
+--   sourceOf p xs marks c      degrees and numerator of the rows of one kind
+--   totalSource p xs           those of the total
+--   checksOf p xs              both check numbers
+--   sumsOf p xs marks          all sums of the walk
+--   tableFigures p xs marks    the figures
+--   rowsOf p xs                the row numerators
+--   tableTotals, tableRows     the lent slices at exit
+--   tableOutcome               the cases of the call's answer
+use mathlib.Core.Bool.{Bool, not, cond, _||_}
+use mathlib.Core.List.{List, [], _∷_}
+use Prim.Native.Nat.{ℕ, _*_}
+use lib.Dec.{eqb}
+use lib.IntN.{ℤ}
+use lib.ListN.{length}
+use Rattle.algebra.specs.Naturals.{Σℕ}
+use Rattle.algebra.specs.Sum.{Σ}
+use Rattle.algebra.specs.Tab.{tab}
+use Rattle.contrasts.specs.Columns.{read, totalsOf}
+use Rattle.contrasts.specs.Limits.{readingLimit}
+use Rattle.contrasts.specs.Rows.{degreesOf, rowNumerator}
+use Rattle.contrasts.specs.Totals.{total, denominator, squared, rounds}
+use Rattle.plan.specs.declared.types.Plan.{Plan}
+use Rattle.plan.specs.Check.{withPlan}
+use Rattle.plan.specs.Outcome.{line, Outcome, given, refused, written}
+use Rattle.plan.specs.Plan.{factorsOf, runsOf}
+use Rattle.columns.specs.Lines.{wrongLength, anyBeyond}
+use Rattle.rows.specs.Kinds.{rowsIn, keptKind, errorKind, meanKind, blocksKind, kindOf, badMarks}
+use Rattle.anova.specs.declared.types.Source.{Source}
+use Rattle.anova.specs.declared.types.Checks.{Checks}
+use Rattle.anova.specs.declared.types.Figures.{Figures}
+use Rattle.anova.specs.declared.walks.Sums.{Sums}
+use Rattle.anova.specs.declared.types.Table.{Table}
+use Rattle.anova.specs.declared.types.Table.the-variants.{Made, Refused}
+
+-- ---- what is refused
+
+unfoldable pub wrongRows : Plan → ℕ → Bool
+wrongRows p n = not (eqb n (rowsIn p))
+
+-- 11: "readings, totals, rows or marks not N, N, R, R long"
+unfoldable pub wrongLengths : Plan → ℕ → ℕ → ℕ → ℕ → Bool
+wrongLengths p readings marks totals rows = wrongLength p readings || (wrongLength p totals || (wrongRows p rows || wrongRows p marks))
+
+-- "the table 11, 12, 13", after the plan's own numbers
+unfoldable pub tableNumber : Plan → List ℤ → List ℕ → List ℤ → List ℕ → ℕ
+tableNumber p readings marks totals rows =
+    withPlan p
+    (line 11 (wrongLengths p (length readings) (length marks) (length totals) (length rows))
+    ∷ line 12 (anyBeyond readingLimit readings)
+    ∷ line 13 (badMarks p marks)
+    ∷ [])
+
+-- ---- the figures
+
+-- "Each of these four adds up the degrees and numerators of its rows."
+unfoldable pub sourceOf : Plan → List ℤ → List ℕ → ℕ → Source
+sourceOf p readings marks c = record {
+  degrees = Σℕ (rowsIn p) (λ w. cond (eqb (kindOf p marks w) c) (degreesOf (factorsOf p) w) 0);
+  numerator = Σℕ (rowsIn p) (λ w. cond (eqb (kindOf p marks w) c) (rowNumerator (factorsOf p) (read readings) w) 0);
+}
+
+-- "the total (denominator times the sum of squared readings)"; its degrees are the number of runs
+unfoldable pub totalSource : Plan → List ℤ → Source
+totalSource p readings = record {
+  degrees = runsOf p;
+  numerator = denominator (factorsOf p) * squared (factorsOf p) (read readings);
+}
+
+-- "The check sum of the totals is N times the first reading at two levels. At three levels it is what k rounds leave": what a round for each
+-- factor leaves, which at two levels is N times the first reading (`rounds-two`)
+unfoldable pub checksOf : Plan → List ℤ → Checks
+checksOf p readings = record {
+  totals = Σ (runsOf p) (total (factorsOf p) (read readings));
+  readings = rounds (factorsOf p) (read readings);
+}
+
+-- the four kinds by their numbers, and the sum of the totals, as the walk leaves them
+unfoldable pub sumsOf : Plan → List ℤ → List ℕ → Sums
+sumsOf p readings marks = record {
+  numerators = tab 4 (λ c. sourceOf p readings marks c .numerator);
+  degrees = tab 4 (λ c. sourceOf p readings marks c .degrees);
+  totals = Σ (runsOf p) (total (factorsOf p) (read readings));
+}
+
+-- "denominator, degrees and numerators of mean, kept effects, blocks and error, the total [..] and both check numbers"
+unfoldable pub tableFigures : Plan → List ℤ → List ℕ → Figures
+tableFigures p readings marks = record {
+  denominator = denominator (factorsOf p);
+  mean = sourceOf p readings marks meanKind;
+  kept = sourceOf p readings marks keptKind;
+  blocks = sourceOf p readings marks blocksKind;
+  error = sourceOf p readings marks errorKind;
+  total = totalSource p readings;
+  checks = checksOf p readings;
+}
+
+-- ---- what is written
+
+-- "R row numerators"
+unfoldable pub rowsOf : Plan → List ℤ → List ℕ
+rowsOf p readings = tab (rowsIn p) (rowNumerator (factorsOf p) (read readings))
+
+-- "writes N totals"
+unfoldable pub tableTotals : Plan → List ℤ → List ℕ → List ℤ → List ℕ → List ℤ
+tableTotals p readings marks totals rows = written (tableNumber p readings marks totals rows) (totalsOf (factorsOf p) readings) totals
+
+unfoldable pub tableRows : Plan → List ℤ → List ℕ → List ℤ → List ℕ → List ℕ
+tableRows p readings marks totals rows = written (tableNumber p readings marks totals rows) (rowsOf p readings) rows
+
+-- ---- the answer
+
+abbrev pub tableOutcome : Table → Outcome Figures
+tableOutcome (Made figures) = given figures
+tableOutcome (Refused n) = refused n

@@ -1,0 +1,60 @@
+// The check number from the readings.
+ghost use mathlib.Core.Path.{_≡_};
+ghost use lib.IntN.{pos, _+ℤ_, _-ℤ_, _*ℤ_};
+ghost use lib.ListN.{length, replicate};
+use columns::copy;
+ghost use Rattle.contrasts.specs.Columns.{read};
+ghost use Rattle.contrasts.specs.Tables.{three, ofLevels};
+ghost use Rattle.contrasts.specs.Totals.{rounds};
+ghost use Rattle.contrasts.specs.Laws.Turns.{Small};
+ghost use Rattle.anova.specs.Ready.{Sets, Rounds, Checkable};
+ghost use Rattle.anova.specs.Walk.{afterRound};
+
+// 3 times first minus middle plus third.
+fn turned(first: i64, middle: i64, third: i64) -> i64
+    requires { ⌜ Small first × Small middle × Small third ⌝ }
+    ensures { λ r. ⌜ r ≡ pos 3 *ℤ first -ℤ middle +ℤ third ⌝ }
+{
+    3 * first - middle + third
+}
+
+// A round turns every successive set of three into one number, so many sets, in order.
+fn round(column: &mut [i64], sets: usize)
+    requires { ⌜ Sets sets (now column) ⌝ }
+    ensures { λ _. ⌜ now (column .exit) ≡ afterRound sets (now (column .entry)) ⌝ }
+{
+    let mut i = 0;
+    while i < sets {
+        column[i] = turned(column[3 * i], column[3 * i + 1], column[3 * i + 2]);
+        i += 1;
+    }
+}
+
+// What the rounds leave: one number. The column is used up.
+fn all_rounds(k: usize, column: &mut [i64]) -> i64
+    requires { ⌜ Rounds k (now column) ⌝ }
+    ensures { λ r. ⌜ r ≡ rounds (replicate k three) (read (now (column .entry))) ⌝ }
+    ensures { λ _. ⌜ length (now (column .exit)) ≡ length (now (column .entry)) ⌝ }
+{
+    let mut sets = column.len();
+    let mut i = 0;
+    while i < k {
+        sets /= 3;
+        round(column, sets);
+        i += 1;
+    }
+    column[0]
+}
+
+// What the totals must add up to. At three levels the column is used for the rounds.
+pub fn check_number(levels: u8, k: u8, readings: &[i32], column: &mut [i64]) -> i64
+    requires { ⌜ Checkable levels k (now readings) (now column) ⌝ }
+    ensures { λ r. ⌜ r ≡ rounds (replicate k (ofLevels levels)) (read (now (readings .entry))) ⌝ }
+    ensures { λ _. ⌜ length (now (column .exit)) ≡ length (now (column .entry)) ⌝ }
+{
+    if levels == 2 {
+        return (readings.len() as i64) * (readings[0] as i64);
+    }
+    copy(readings, column);
+    all_rounds(k as usize, column)
+}

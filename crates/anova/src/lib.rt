@@ -1,0 +1,19 @@
+// The analysis of variance: the table of a plan's effects, and the estimates of two-level effects.
+//
+//   table(p, readings, marks, totals, rows)   totals, row numerators and the figures of the table
+//   Table, Figures, Source, Checks            what it answers
+//   estimate(p, effect, total), Estimate      of the crate `estimates`
+mod checks;
+mod numbers;
+mod squares;
+mod tables;
+mod types;
+mod walks;
+
+pub use estimates::Estimate;
+pub use estimates::estimate;
+pub use tables::table;
+pub use types::Checks;
+pub use types::Figures;
+pub use types::Source;
+pub use types::Table;

@@ -1,0 +1,57 @@
+// What the table call refuses.
+ghost use mathlib.Core.Path.{_≡_};
+ghost use Prim.Native.Nat.{_^_, _≤_};
+use columns::any_reading_beyond;
+use plan::Plan;
+use plan::lowest;
+use rows::bad_marks;
+use sizes::runs;
+ghost use Rattle.plan.specs.Check.{planNumber};
+ghost use Rattle.anova.specs.Table.{wrongLengths, tableNumber};
+
+// How many rows there are for so many factors.
+fn row_count(k: u8) -> usize
+    requires { ⌜ k ≤ 10 ⌝ }
+    ensures { λ r. ⌜ r ≡ 2 ^ k ⌝ }
+{
+    1usize << k
+}
+
+// Line 11, of an accepted plan.
+fn wrong_lengths(p: Plan, readings: usize, marks: usize, totals: usize, rows: usize) -> bool
+    requires { ⌜ planNumber p ≡ 0 ⌝ }
+    ensures { λ r. ⌜ r ≡ wrongLengths p readings marks totals rows ⌝ }
+{
+    let runs = runs(p);
+    if readings != runs {
+        return true;
+    }
+    if totals != runs {
+        return true;
+    }
+    let row_count = row_count(p.k);
+    if rows != row_count {
+        return true;
+    }
+    marks != row_count
+}
+
+// The lowest number that applies, and 0 where none does.
+pub fn table_number(p: Plan, readings: &[i32], marks: &[u8], totals: &[i64], rows: &[u64]) -> u8
+    ensures { λ r. ⌜ r ≡ tableNumber p (now (readings .entry)) (now (marks .entry)) (now (totals .entry)) (now (rows .entry)) ⌝ }
+{
+    let n = lowest(p);
+    if n != 0 {
+        return n;
+    }
+    if wrong_lengths(p, readings.len(), marks.len(), totals.len(), rows.len()) {
+        return 11;
+    }
+    if any_reading_beyond(readings) {
+        return 12;
+    }
+    if bad_marks(p, marks) {
+        return 13;
+    }
+    0
+}

@@ -1,0 +1,120 @@
+// The table call.
+ghost use mathlib.Core.Path.{_≡_};
+ghost use mathlib.Core.Bool.{cond};
+ghost use Prim.Native.Nat.{_*_, _<_, _≤_};
+ghost use lib.Dec.{eqb};
+ghost use lib.ListN.{getD};
+use super::checks::check_number;
+use super::numbers::table_number;
+use super::squares::sum_of_squares;
+use super::types::Checks;
+use super::types::Figures;
+use super::types::Source;
+use super::types::Table;
+use super::walks::Sums;
+use super::walks::clear;
+use super::walks::walk;
+use effects::weights;
+use plan::Plan;
+use rows::kinds;
+use yates::totals;
+ghost use Rattle.contrasts.specs.Columns.{totalsOf};
+ghost use Rattle.plan.specs.Outcome.{outcome};
+ghost use Rattle.plan.specs.Plan.{factorsOf};
+ghost use Rattle.anova.specs.Ready.{TableReady};
+ghost use Rattle.anova.specs.Table.{tableNumber, tableFigures, tableTotals, tableRows, tableOutcome, rowsOf, sumsOf};
+
+const KEPT: usize = 0;
+
+const ERROR: usize = 1;
+
+const MEAN: usize = 2;
+
+const BLOCKS: usize = 3;
+
+// 2 to the power k at two levels. At three 6 to the power k, which is the number of runs times that of rows.
+fn denominator(levels: u8, runs: usize, rows: usize) -> u64
+    requires { ⌜ (runs ≤ 1024) × (rows ≤ 1024) ⌝ }
+    ensures { λ r. ⌜ r ≡ cond (eqb levels 2) runs (runs * rows) ⌝ }
+{
+    if levels == 2 {
+        runs as u64
+    } else {
+        (runs * rows) as u64
+    }
+}
+
+// Totals, rows and the sums of the four kinds.
+fn form(p: Plan, readings: &[i32], marks: &[u8], column: &mut [i64], rows: &mut [u64]) -> Sums
+    requires { ⌜ TableReady p (now readings) (now marks) (now column) (now rows) ⌝ }
+    ensures { λ r. ⌜ r ≡ sumsOf p (now (readings .entry)) (now (marks .entry)) ⌝ }
+    ensures { λ _. ⌜ now (column .exit) ≡ totalsOf (factorsOf p) (now (readings .entry)) ⌝ }
+    ensures { λ _. ⌜ now (rows .exit) ≡ rowsOf p (now (readings .entry)) ⌝ }
+{
+    totals(p, readings, column);
+    clear(rows);
+    let row_of_effects = effects::rows(p);
+    let weight_of_effects = weights(p);
+    let kind_of_rows = kinds(p, marks);
+    walk(
+        column,
+        &row_of_effects,
+        &weight_of_effects,
+        &kind_of_rows,
+        rows,
+    )
+}
+
+// The line of a kind.
+fn source(numerators: [u64; 4], degrees: [u64; 4], kind: usize) -> Source
+    requires { ⌜ kind < 4 ⌝ }
+    ensures { λ r. ⌜ (r .degrees ≡ getD degrees kind 0) × (r .numerator ≡ getD numerators kind 0) ⌝ }
+{
+    Source {
+        degrees: degrees[kind],
+        numerator: numerators[kind],
+    }
+}
+
+// A table that is not refused.
+fn make(p: Plan, readings: &[i32], marks: &[u8], column: &mut [i64], rows: &mut [u64]) -> Figures
+    requires { ⌜ TableReady p (now readings) (now marks) (now column) (now rows) ⌝ }
+    ensures { λ r. ⌜ r ≡ tableFigures p (now (readings .entry)) (now (marks .entry)) ⌝ }
+    ensures { λ _. ⌜ now (column .exit) ≡ totalsOf (factorsOf p) (now (readings .entry)) ⌝ }
+    ensures { λ _. ⌜ now (rows .exit) ≡ rowsOf p (now (readings .entry)) ⌝ }
+{
+    let from_readings = check_number(p.levels, p.k, readings, column);
+    let sums = form(p, readings, marks, column, rows);
+    let denominator = denominator(p.levels, column.len(), rows.len());
+    let total = denominator * sum_of_squares(readings);
+    let numerators = sums.numerators;
+    let degrees = sums.degrees;
+    Figures {
+        denominator,
+        mean: source(numerators, degrees, MEAN),
+        kept: source(numerators, degrees, KEPT),
+        blocks: source(numerators, degrees, BLOCKS),
+        error: source(numerators, degrees, ERROR),
+        total: Source {
+            degrees: readings.len() as u64,
+            numerator: total,
+        },
+        checks: Checks {
+            totals: sums.totals,
+            readings: from_readings,
+        },
+    }
+}
+
+// The table of a plan's readings, with the rows that are marked pooled as error.
+pub fn table(p: Plan, readings: &[i32], marks: &[u8], totals: &mut [i64], rows: &mut [u64]) -> Table
+    ensures { λ r. ⌜ tableOutcome r ≡ outcome (tableNumber p (now (readings .entry)) (now (marks .entry)) (now (totals .entry)) (now (rows .entry))) (tableFigures p (now (readings .entry)) (now (marks .entry))) ⌝ }
+    ensures { λ _. ⌜ now (totals .exit) ≡ tableTotals p (now (readings .entry)) (now (marks .entry)) (now (totals .entry)) (now (rows .entry)) ⌝ }
+    ensures { λ _. ⌜ now (rows .exit) ≡ tableRows p (now (readings .entry)) (now (marks .entry)) (now (totals .entry)) (now (rows .entry)) ⌝ }
+{
+    let n = table_number(p, readings, marks, totals, rows);
+    if n != 0 {
+        return Table::Refused(n);
+    }
+    Table::Made(make(p, readings, marks, totals, rows))
+}

@@ -1,0 +1,71 @@
+// The walk over the totals that forms rows and sums, and reads each total once.
+ghost use mathlib.Core.Path.{_≡_};
+ghost use Prim.Native.Nat.{_*_};
+ghost use lib.IntN.{natAbs};
+ghost use lib.ListN.{length};
+use super::squares::square;
+ghost use Rattle.algebra.specs.Sum.{Σ};
+ghost use Rattle.contrasts.specs.Columns.{read};
+ghost use Rattle.anova.specs.Ready.{Weighable, Walkable};
+ghost use Rattle.anova.specs.Walk.{zeros, rowsAfter, numeratorsAfter, degreesAfter};
+
+// Numerators and degrees of the four kinds of rows, by the kind's number, and the sum of the totals.
+pub struct Sums {
+    pub numerators: [u64; 4],
+    pub degrees: [u64; 4],
+    pub totals: i64,
+}
+
+// A total squared times its weight.
+fn numerator(total: i64, weight: u32) -> u64
+    requires { ⌜ Weighable total weight ⌝ }
+    ensures { λ r. ⌜ r ≡ natAbs total * natAbs total * weight ⌝ }
+{
+    square(total) * (weight as u64)
+}
+
+pub fn clear(rows: &mut [u64])
+    ensures { λ _. ⌜ now (rows .exit) ≡ zeros (length (now (rows .entry))) ⌝ }
+{
+    let mut row = 0;
+    while row < rows.len() {
+        rows[row] = 0;
+        row += 1;
+    }
+}
+
+// Each total, effect by effect: its numerator is added to its row and to the sum of its row's kind, and a degree with it.
+pub fn walk(
+    totals: &[i64],
+    effects: &[u16],
+    weights: &[u32],
+    kinds: &[u8],
+    rows: &mut [u64],
+) -> Sums
+    requires { ⌜ Walkable (now totals) (now effects) (now weights) (now kinds) (now rows) ⌝ }
+    ensures { λ r. ⌜ r .numerators ≡ numeratorsAfter (now (totals .entry)) (now (effects .entry)) (now (weights .entry)) (now (kinds .entry)) (length (now (totals .entry))) ⌝ }
+    ensures { λ r. ⌜ r .degrees ≡ degreesAfter (now (effects .entry)) (now (kinds .entry)) (length (now (totals .entry))) ⌝ }
+    ensures { λ r. ⌜ r .totals ≡ Σ (length (now (totals .entry))) (read (now (totals .entry))) ⌝ }
+    ensures { λ _. ⌜ now (rows .exit) ≡ rowsAfter (now (totals .entry)) (now (effects .entry)) (now (weights .entry)) (length (now (rows .entry))) (length (now (totals .entry))) ⌝ }
+{
+    let mut numerators = [0u64; 4];
+    let mut degrees = [0u64; 4];
+    let mut sum = 0;
+    let mut e = 0;
+    while e < totals.len() {
+        let total = totals[e];
+        let row = effects[e] as usize;
+        let kind = kinds[row] as usize;
+        let n = numerator(total, weights[e]);
+        rows[row] += n;
+        numerators[kind] += n;
+        degrees[kind] += 1;
+        sum += total;
+        e += 1;
+    }
+    Sums {
+        numerators,
+        degrees,
+        totals: sum,
+    }
+}
