@@ -3,6 +3,7 @@
 --
 --   sumAt key f n w        the sum of those of the first n terms f whose key is w
 --   sorted r key f n       these sums, for the keys below r
+--   sum-cong, sorted-cong  keys and terms that agree
 --   sorted-none            no term is added yet
 --   sorted-more            the next term is added to its place
 --   sorted-at              what a place holds
@@ -21,13 +22,21 @@ use borrow.Author.Tests.{eq-eqb, ne-eqb}
 use lib.Dec.{eqb}
 use lib.ListN.{length, getD, set}
 use Rattle.algebra.specs.Naturals.{Σℕ, Σℕ-cong, Σℕ-none, Σℕ-swap, Σℕ-some, Σℕ-one}
-use Rattle.algebra.specs.Tab.{tab, getD-tab, is-tab, tab-set}
+use Rattle.algebra.specs.Tab.{tab, getD-tab, is-tab, tab-cong, tab-set}
 
 unfoldable pub sumAt : (ℕ → ℕ) → (ℕ → ℕ) → ℕ → ℕ → ℕ
 sumAt key f n w = Σℕ n (λ i. cond (eqb (key i) w) (f i) 0)
 
 abbrev pub sorted : ℕ → (ℕ → ℕ) → (ℕ → ℕ) → ℕ → List ℕ
 sorted r key f n = tab r (sumAt key f n)
+
+module _ {n : ℕ} {key key′ f f′ : ℕ → ℕ} (keys : (i : ℕ) → i < n → key i ≡ key′ i) (terms : (i : ℕ) → i < n → f i ≡ f′ i) where
+  pub sum-cong : (w : ℕ) → sumAt key f n w ≡ sumAt key′ f′ n w
+  unfolding sumAt
+  sum-cong w = Σℕ-cong n (λ i h. rw (keys i h, terms i h) refl)
+
+  pub sorted-cong : (r : ℕ) → sorted r key f n ≡ sorted r key′ f′ n
+  sorted-cong r = tab-cong 0 r (sumAt key f n) (sumAt key′ f′ n) (λ w _. sum-cong w)
 
 module _ (r : ℕ) (key f : ℕ → ℕ) where
   pub sorted-none : (xs : List ℕ) → length xs ≡ r → ((w : ℕ) → w < r → getD xs w 0 ≡ 0) → xs ≡ sorted r key f 0

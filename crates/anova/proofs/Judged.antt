@@ -2,8 +2,9 @@
 --
 --   readings-wrong, totals-wrong, rows-wrong, by-marks    line 11, length by length, of an accepted plan
 --   table-admitted                                        what is known where no number applies
-use mathlib.Core.Path.{_≡_, refl, sym, _∙_}
-use mathlib.Core.Bool.{Bool, true, false, not, cond, _||_}
+--   table-stopped, table-completed                        a call that is refused, and one that is not
+use mathlib.Core.Path.{_≡_, refl, _∙_, ap}
+use mathlib.Core.Bool.{true, false, not, _||_}
 use mathlib.Core.List.{List}
 use Prim.Native.Nat.{ℕ, _^_}
 use native.Mathlib.Omega.{arith}
@@ -12,16 +13,20 @@ use lib.Dec.{eqb}
 use lib.IntN.{ℤ}
 use lib.ListN.{length}
 use Rattle.algebra.specs.Tests.{neither}
+use Rattle.contrasts.specs.Columns.{totalsOf}
 use Rattle.contrasts.specs.Limits.{readingLimit}
 use Rattle.plan.specs.declared.types.Plan.{Plan}
 use Rattle.plan.specs.Check.{planNumber, runCount}
-use Rattle.plan.specs.Laws.Answers.{passed, plan-passed}
+use Rattle.plan.specs.Laws.Answers.{passed, plan-passed, stopped, completed}
+use Rattle.plan.specs.Outcome.{Outcome, given, refused, outcome}
+use Rattle.plan.specs.Plan.{factorsOf}
 use Rattle.columns.specs.Lines.{wrongLength, anyBeyond}
 use Rattle.columns.specs.Laws.Admitted.{all-within, as-long}
 use Rattle.columns.specs.Laws.Lengths.{wrong, right}
-use Rattle.rows.specs.Kinds.{rowsIn, badMarks}
+use Rattle.rows.specs.Kinds.{rowsIn}
+use Rattle.anova.specs.declared.types.Figures.{Figures}
 use Rattle.anova.specs.Ready.{TableReady}
-use Rattle.anova.specs.Table.{wrongRows, wrongLengths, tableNumber}
+use Rattle.anova.specs.Table.{wrongRows, wrongLengths, tableNumber, tableFigures, tableTotals, tableRows, rowsOf}
 
 -- ---- line 11
 
@@ -67,3 +72,25 @@ table-admitted p readings marks totals rows e =
       rows-long = rows-as-long p (length rows) (c .0);
       within = all-within readingLimit readings (l12 .0);
     }
+
+-- ---- the whole call
+
+module _ (p : Plan) (readings : List ℤ) (marks : List ℕ) (totals : List ℤ) (rows : List ℕ) where
+  -- what the call promises of its answer and of the two slices
+  abbrev Told : Outcome Figures → List ℤ → List ℕ → Type 0
+  Told answer ts rs =
+      (answer ≡ outcome (tableNumber p readings marks totals rows) (tableFigures p readings marks))
+      × ((ts ≡ tableTotals p readings marks totals rows) × (rs ≡ tableRows p readings marks totals rows))
+
+  pub table-stopped : {n : ℕ} → n ≡ tableNumber p readings marks totals rows → (n ≡ 0 → ⊥) → Told (refused n) totals rows
+  unfolding tableTotals tableRows
+  table-stopped e h =
+      let s = stopped (tableFigures p readings marks) (totalsOf (factorsOf p) readings) totals e h in
+      (s .0, (s .1, stopped (tableFigures p readings marks) (rowsOf p readings) rows e h .1))
+
+  pub table-completed : tableNumber p readings marks totals rows ≡ 0 → {figures : Figures} {ts : List ℤ} {rs : List ℕ} → figures ≡ tableFigures p readings marks
+      → ts ≡ totalsOf (factorsOf p) readings → rs ≡ rowsOf p readings → Told (given figures) ts rs
+  unfolding tableTotals tableRows
+  table-completed z f t r =
+      let s = completed (tableFigures p readings marks) (totalsOf (factorsOf p) readings) totals z t in
+      (ap given f ∙ s .0, (s .1, completed (tableFigures p readings marks) (rowsOf p readings) rows z r .1))

@@ -9,8 +9,8 @@
 use mathlib.Core.Path.{_≡_, refl, sym, _∙_, ap}
 use mathlib.Core.List.{List}
 use mathlib.Core.Bool.{cond}
-use Prim.Native.Nat.{ℕ, zero, suc, _+_, _-_, _*_, _/_, _^_, _<_, _≤_}
-use native.Mathlib.Nat.{add-zero, le-trans, mul-le-mul-right, pow-le-pow-right, pow-suc, pow-succ', mul-div-left, mul-div-right, mul-comm, mul-assoc, one-mul, one-le-pow}
+use Prim.Native.Nat.{ℕ, suc, _+_, _-_, _*_, _/_, _^_, _<_, _≤_}
+use native.Mathlib.Nat.{add-zero, le-trans, mul-le-mul-right, pow-le-pow-right, pow-suc, pow-succ', mul-div-left, mul-assoc, one-mul, one-le-pow}
 use native.Mathlib.Numerals.{add-one}
 use native.Mathlib.Decide.{decLt}
 use native.Mathlib.Omega.{arith}
@@ -19,11 +19,11 @@ use lib.Dec.{ltb, lit<, lit≤}
 use lib.IntN.{ℤ, pos, natAbs, _+ℤ_, _-ℤ_, _*ℤ_}
 use lib.ListN.{length, set, replicate}
 use Rattle.algebra.specs.Fill.{Filled, filled-none, filled-long, filled-old, filled-more}
-use Rattle.algebra.specs.Tab.{tab, length-tab, getD-tab}
+use Rattle.algebra.specs.Tab.{length-tab, getD-tab}
 use Rattle.contrasts.specs.Columns.{read}
 use Rattle.contrasts.specs.Limits.{readingLimit, valueLimit}
 use Rattle.contrasts.specs.Tables.{three}
-use Rattle.contrasts.specs.Totals.{Column, round, rounds, size}
+use Rattle.contrasts.specs.Totals.{round, rounds}
 use Rattle.contrasts.specs.Laws.CheckSum.{rounds-cong}
 use Rattle.contrasts.specs.Laws.Lists.{AllWithin, within-tab}
 use Rattle.contrasts.specs.Laws.ThreeLevels.{round-three, round-bound, size-three}

@@ -3,10 +3,9 @@
 --   Summing xs i s                            s is the sum of the first i squares
 --   summing-none, summing-more, summing-all   before the first reading, after one more, after the last
 --   squarable, summing-fits                   the next square fits, and the sum with it
-use mathlib.Core.Path.{_≡_, refl, sym, _∙_, ap}
+use mathlib.Core.Path.{_≡_, refl, _∙_}
 use mathlib.Core.List.{List}
 use Prim.Native.Nat.{ℕ, suc, _+_, _*_, _^_, _<_, _≤_}
-use native.Mathlib.Nat.{le-refl}
 use native.Mathlib.Numerals.{add-one}
 use native.Mathlib.Omega.{arith}
 use lib.IntN.{ℤ, natAbs}

@@ -9,23 +9,22 @@
 --
 -- No sum wraps: each numerator, and each sum of some of them, is at most the sum of all; and a total is at most its numerator in size, so
 -- the sum of the totals is within the same bound.
-use mathlib.Core.Path.{_≡_, refl, sym, _∙_, ap}
-use mathlib.Core.Bool.{cond}
+use mathlib.Core.Path.{_≡_, refl, _∙_, ap}
 use mathlib.Core.List.{List}
-use Prim.Native.Nat.{ℕ, zero, suc, _+_, _*_, _^_, _<_, _≤_}
-use native.Mathlib.Nat.{le-trans, mul-le-mul-left, mul-one}
+use Prim.Native.Nat.{ℕ, suc, _+_, _*_, _^_, _<_, _≤_}
+use native.Mathlib.Nat.{mul-le-mul-left, mul-one}
 use native.Mathlib.Numerals.{add-one}
 use native.Mathlib.Omega.{arith}
-use lib.IntN.{ℤ, pos, natAbs, _+ℤ_}
+use lib.IntN.{ℤ, natAbs, _+ℤ_}
 use lib.ListN.{length, getD, set, replicate, getD-replicate}
 use mir.Syntax.{w64}
 use mir.Val.{SFits, toZ, ofZ}
 use Rattle.algebra.specs.Fill.{Filled, filled-none, filled-long, filled-more, filled-all}
-use Rattle.algebra.specs.Naturals.{Σℕ, Σℕ-le, Σℕ-term, Σℕ-shorter, Σℕ-ones}
+use Rattle.algebra.specs.Naturals.{Σℕ-le, Σℕ-term, Σℕ-shorter, Σℕ-ones}
 use Rattle.algebra.specs.Size.{natAbs-Σ, size-below, fits, wrap, back}
-use Rattle.algebra.specs.Sorted.{sumAt, sorted, sorted-none, sorted-more, sorted-at, sum-next}
+use Rattle.algebra.specs.Sorted.{sorted-none, sorted-more, sorted-at, sum-next}
 use Rattle.algebra.specs.Sum.{Σ}
-use Rattle.algebra.specs.Tab.{tab, length-tab, getD-tab}
+use Rattle.algebra.specs.Tab.{length-tab, getD-tab}
 use Rattle.contrasts.specs.Columns.{read}
 use Rattle.anova.specs.Ready.{Weighable, Walkable}
 use Rattle.anova.specs.Walk.{walkNumerator, walkRow, walkKind, rowsAfter, numeratorsAfter, degreesAfter, zeros}
@@ -89,9 +88,13 @@ module _ {ts : List ℤ} {effects ws kinds rows₀ : List ℕ} (pre : Walkable t
   -- the sum of the first totals
   sum-small : (e : ℕ) → e ≤ length ts → natAbs (Σ e (read ts)) < 2 ^ 63
   sum-small e h =
-      omega (arith, pre .sum-fits, natAbs-Σ e (read ts),
-      Σℕ-le e (λ i. natAbs (read ts i)) (walkNumerator ts ws) (λ i k. below i (omega arith)),
-      Σℕ-shorter e (length ts) (walkNumerator ts ws) h)
+      omega (
+        arith,
+        pre .sum-fits,
+        natAbs-Σ e (read ts),
+        Σℕ-le e (λ i. natAbs (read ts i)) (walkNumerator ts ws) (λ i k. below i (omega arith)),
+        Σℕ-shorter e (length ts) (walkNumerator ts ws) h,
+      )
 
   module _ {e : ℕ} {rows ns ds : List ℕ} {s : ℕ} (w : Walking ts effects ws kinds (length rows₀) e rows ns ds s) where
     pub rows-long : length rows ≡ length rows₀
@@ -104,10 +107,13 @@ module _ {ts : List ℤ} {effects ws kinds rows₀ : List ℕ} (pre : Walkable t
         × ((toZ w64 s ≡ Σ (length ts) (read ts))
         × (rows ≡ rowsAfter ts effects ws (length rows₀) (length ts))))
     walking-all h =
-        let d : e ≡ length ts = omega (arith, w .upto) in
-        (w .numerators-so ∙ rw d refl,
-        (w .degrees-so ∙ rw d refl,
-        (rw (w .sum-so, d) (back (Σ (length ts) (read ts)) (sum-small (length ts) (omega arith))), w .rows-so ∙ rw d refl)))
+        let d : e ≡ length ts = omega (arith, w .upto) in (
+          w .numerators-so ∙ rw d refl,
+          (
+            w .degrees-so ∙ rw d refl,
+            (rw (w .sum-so, d) (back (Σ (length ts) (read ts)) (sum-small (length ts) (omega arith))), w .rows-so ∙ rw d refl),
+          ),
+        )
 
     module _ (low : e < length ts) where
       pub weighable : Weighable (read ts e) (getD ws e 0)

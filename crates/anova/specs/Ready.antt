@@ -14,7 +14,6 @@ use Prim.Native.Nat.{ℕ, _*_, _^_, _<_, _≤_}
 use lib.IntN.{ℤ, natAbs}
 use lib.ListN.{length, getD}
 use Rattle.algebra.specs.Naturals.{Σℕ}
-use Rattle.contrasts.specs.Columns.{read}
 use Rattle.contrasts.specs.Limits.{readingLimit, valueLimit}
 use Rattle.contrasts.specs.Tables.{ofLevels}
 use Rattle.contrasts.specs.Laws.Lists.{AllWithin}

@@ -2,12 +2,13 @@
 --
 --   divisor-pos, divisor*-pos    no divisor is 0
 --   shares                       divisor times weight is the denominator, for every effect
+--   denominator-pos, weight-pos  neither the denominator nor a weight is 0
 --   weight-nil, weight-cons      the weight, by the lowest digit
 --   divisor-more                 factors added behind: their first divisors are multiplied on
 use mathlib.Core.Path.{_≡_, refl, sym, _∙_, ap}
 use mathlib.Core.List.{List, [], _∷_, _++_}
 use Prim.Native.Nat.{ℕ, zero, suc, _*_, _/_, _%_, _<_}
-use native.Mathlib.Nat.{mod-lt, mul-mul-mul-comm, mul-pos, mul-assoc, one-mul, div-eq-of-eq-mul-right, zero-mul}
+use native.Mathlib.Nat.{mul-comm, mod-lt, mul-mul-mul-comm, mul-pos, mul-assoc, one-mul, div-eq-of-eq-mul-right, zero-mul}
 use native.Mathlib.Omega.{arith}
 use lib.Arith.{lt-one}
 use lib.Dec.{lit<}
@@ -47,6 +48,15 @@ unfolding divisor* denominator weight*
 shares [] e = refl
 shares (F ∷ Fs) e =
     ap (λ w. divisor* (F ∷ Fs) e * w) (quotient F Fs e (shares Fs (e / F .levels))) ∙ product F Fs e (shares Fs (e / F .levels))
+
+pub denominator-pos : (Fs : List Factor) → 0 < denominator Fs
+unfolding denominator
+denominator-pos [] = lit< tt
+denominator-pos (F ∷ Fs) = mul-pos (F .some-common) (denominator-pos Fs)
+
+pub weight-pos : (Fs : List Factor) (e : ℕ) → 0 < weight* Fs e
+weight-pos Fs e =
+    positive (weight* Fs e) (divisor* Fs e) (denominator Fs) (mul-comm (weight* Fs e) (divisor* Fs e) ∙ shares Fs e) (denominator-pos Fs)
 
 pub weight-nil : (e : ℕ) → weight* [] e ≡ 1
 unfolding divisor* denominator weight*

@@ -3,22 +3,25 @@
 --   squares              the products of matching totals, each by its weight, add up to the denominator times the sum of products of readings
 --   numerators           "the numerators of all N effects add up to the denominator times the sum of squared readings"
 --   within, within-one   so no sum of some of them, broken off anywhere, exceeds that, and no one of them
+--   total-within         nor does a total in size
+--   check-within         nor does the sum of the totals
 --   recover              readings back from totals: each reading, times the denominator, is the weighted sum of the totals by its coefficients
 use mathlib.Core.Path.{_≡_, sym, _∙_, ap}
 use mathlib.Core.Bool.{Bool, cond}
 use mathlib.Core.List.{List, [], _∷_}
 use Prim.Native.Nat.{ℕ, _+_, _*_, _<_, _≤_}
-use native.Mathlib.Nat.{mul-comm}
+use native.Mathlib.Nat.{mul-comm, mul-one, mul-le-mul-left, le-trans}
+use native.Mathlib.Omega.{arith}
 use lib.Dec.{eqb}
 use lib.IntN.{ℤ, pos, natAbs, _*ℤ_, *ℤ-comm}
 use Rattle.algebra.specs.Ring.{ac*, *ℤ-assoc, *ℤ-left-comm, *ℤ-middle}
-use Rattle.algebra.specs.Size.{square}
+use Rattle.algebra.specs.Size.{square, natAbs-Σ, size-below}
 use Rattle.algebra.specs.Sum.{Σ, Σ-unit, Σ-cong, Σ-ext, Σ-mul, Σ-mul-r, Σ-prod, Σ-swap, Σ-digits, Σ-split, Σ-one, Σ-at, cond-*ℤ, δ}
-use Rattle.algebra.specs.Naturals.{Σℕ, Σℕ-pos, Σℕ-some, Σℕ-term}
+use Rattle.algebra.specs.Naturals.{Σℕ, Σℕ-pos, Σℕ-le, Σℕ-some, Σℕ-term}
 use Rattle.contrasts.specs.Factor.{Factor, weight}
 use Rattle.contrasts.specs.Totals.{Column, size, coef*, total, denominator, weight*, numeratorOf, numerator, squared}
 use Rattle.contrasts.specs.Laws.Digits.{level, total-nil, total-cons}
-use Rattle.contrasts.specs.Laws.Divisors.{weight-nil, weight-cons}
+use Rattle.contrasts.specs.Laws.Divisors.{weight-pos, weight-nil, weight-cons}
 
 -- ---- the law of one factor
 
@@ -120,6 +123,21 @@ within Fs x k p h = rw (← (numerators Fs x)) (Σℕ-some k (size Fs) p (numera
 
 pub within-one : (Fs : List Factor) (x : Column) (e : ℕ) → e < size Fs → numerator Fs x e ≤ denominator Fs * squared Fs x
 within-one Fs x e h = rw (← (numerators Fs x)) (Σℕ-term (size Fs) (numerator Fs x) e h)
+
+-- a total is at most its numerator in size, since its weight is at least 1
+below : (Fs : List Factor) (x : Column) (e : ℕ) → natAbs (total Fs x e) ≤ numerator Fs x e
+unfolding numeratorOf
+below Fs x e =
+    let q = natAbs (total Fs x e) * natAbs (total Fs x e) in
+    omega (arith, size-below (natAbs (total Fs x e)), mul-le-mul-left q (weight-pos Fs e), mul-one q)
+
+pub total-within : (Fs : List Factor) (x : Column) (e : ℕ) → e < size Fs → natAbs (total Fs x e) ≤ denominator Fs * squared Fs x
+total-within Fs x e h = le-trans (below Fs x e) (within-one Fs x e h)
+
+pub check-within : (Fs : List Factor) (x : Column) → natAbs (Σ (size Fs) (total Fs x)) ≤ denominator Fs * squared Fs x
+check-within Fs x =
+    rw (← (numerators Fs x))
+    (le-trans (natAbs-Σ (size Fs) (total Fs x)) (Σℕ-le (size Fs) (λ e. natAbs (total Fs x e)) (numerator Fs x) (λ e _. below Fs x e)))
 
 -- ---- readings back from totals
 

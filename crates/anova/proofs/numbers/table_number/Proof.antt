@@ -1,5 +1,4 @@
 use mathlib.Core.Path.{refl, sym, _∙_}
-use borrow.Author.Needs.{needs}
 use Rattle.algebra.specs.Tests.{is}
 use Rattle.plan.specs.Laws.Answers.{plan-first, after-plan}
 use Rattle.anova.specs.Table.{tableNumber}

@@ -1,6 +1,3 @@
-use native.Mathlib.Omega.{arith}
-use mathlib.Core.Path.{sym, _∙_}
-use borrow.Author.Needs.{needs}
 use Rattle.plan.specs.Laws.Accepted.{sizes}
 use Rattle.anova.proofs.Judged.{readings-wrong, totals-wrong, rows-wrong, by-marks}
 use Rattle.anova.proofs.numbers.wrong_lengths.Statement.{statement}

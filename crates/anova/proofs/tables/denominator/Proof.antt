@@ -1,7 +1,5 @@
-use mathlib.Core.Path.{refl}
 use native.Mathlib.Omega.{arith}
 use native.Mathlib.Nat.{mul-le-mul}
-use borrow.Author.Needs.{needs}
 use Rattle.algebra.specs.Tests.{tests}
 use Rattle.anova.proofs.tables.denominator.Statement.{statement}
 use Rattle.anova.proofs.tables.denominator.Tie as tie

@@ -1,75 +1,25 @@
+use mathlib.Core.Path.{refl, _∙_}
+use native.Mathlib.Omega.{arith}
 use borrow.Author.Needs.{needs}
+use lib.Dec.{lit<}
+use Rattle.algebra.specs.Size.{kept}
+use Rattle.anova.proofs.Made.{check-ready, form-ready, lengths-few, denominator-is, squares-ready, total-small, sum-kept, figures-made}
 use Rattle.anova.proofs.tables.make.Statement.{statement}
 use Rattle.anova.proofs.tables.make.Tie as tie
-use Rattle.anova.proofs.tables.make.Reads as reads
-use Rattle.anova.proofs.tables.make.Lts as lts
-use Rattle.anova.proofs.checks.check_number.Reads as check-number-reads
-use Rattle.anova.proofs.squares.sum_of_squares.Reads as sum-of-squares-reads
-use Rattle.anova.proofs.tables.denominator.Reads as denominator-reads
-use Rattle.anova.proofs.tables.form.Reads as form-reads
-use Rattle.anova.proofs.tables.source.Reads as source-reads
-
--- src/tables.rt:86:9
-check-number-requires : tie.Need-check-number-requires
-check-number-requires c κs = ?
-
--- src/tables.rt:87:9
-form-requires : tie.Need-form-requires
-form-requires c κs = search needs
-
--- src/tables.rt:88:9
-denominator-requires : tie.Need-denominator-requires
-denominator-requires c κs = ?
-
--- src/tables.rt:89:31
-sum-of-squares-requires : tie.Need-sum-of-squares-requires
-sum-of-squares-requires c κs = ?
-
--- src/tables.rt:89:17
-mul-total : tie.Need-mul-total
-mul-total c = ?
-
--- src/tables.rt:94:15
-source-requires : tie.Need-source-requires
-source-requires c κs = search needs
-
--- src/tables.rt:95:15
-source-requires-2 : tie.Need-source-requires-2
-source-requires-2 c κs = search needs
-
--- src/tables.rt:96:17
-source-requires-3 : tie.Need-source-requires-3
-source-requires-3 c κs = search needs
-
--- src/tables.rt:97:16
-source-requires-4 : tie.Need-source-requires-4
-source-requires-4 c κs = search needs
-
--- src/tables.rt:80:1
-same-length : tie.Need-same-length
-same-length c = search needs
-
--- src/tables.rt:80:1
-same-length-2 : tie.Need-same-length-2
-same-length-2 c = search needs
-
--- src/tables.rt:80:1
-returns : tie.Need-returns
-returns c = ?
 
 pub make-spec : {M : Type 1} → statement M
 make-spec =
     tie.close
     (tie.spec
-    check-number-requires
-    form-requires
-    denominator-requires
-    sum-of-squares-requires
-    mul-total
-    source-requires
-    source-requires-2
-    source-requires-3
-    source-requires-4
-    same-length
-    same-length-2
-    returns)
+    (λ c κs. check-ready (c .before .before .before .pre))
+    (λ c κs. form-ready (c .before .before .before .before .before .before .before .pre) (c .before .before .before .check-number .ensures .1))
+    (λ c κs. lengths-few (c .before .before .before .before .before .before .before .before .before .before .before .pre) (c .before .before .before .form .ensures .1 .0) (c .before .before .before .form .ensures .1 .1))
+    (λ c κs. squares-ready (c .before .before .before .before .before .before .before .before .before .before .before .before .pre))
+    (λ c. omega (arith, total-small (c .before .before .before .before .before .before .before .before .before .before .before .before .before .pre) (denominator-is (c .before .before .before .before .before .before .before .before .before .before .before .before .before .pre) (c .before .before .before .before .before .form .ensures .1 .0) (c .before .before .before .before .before .form .ensures .1 .1) (c .before .denominator .ensures)) (c .sum-of-squares .ensures)))
+    (λ c κs. lit< tt)
+    (λ c κs. lit< tt)
+    (λ c κs. lit< tt)
+    (λ c κs. lit< tt)
+    (λ c. search needs)
+    (λ c. search needs)
+    (λ c. (figures-made (c .before .before .before .before .before .before .before .before .before .before .before .before .before .before .before .before .before .before .before .before .pre) (denominator-is (c .before .before .before .before .before .before .before .before .before .before .before .before .before .before .before .before .before .before .before .before .pre) (c .before .before .before .before .before .before .before .before .before .before .before .before .form .ensures .1 .0) (c .before .before .before .before .before .before .before .before .before .before .before .before .form .ensures .1 .1) (c .before .before .before .before .before .before .before .before .denominator .ensures)) (c .before .before .before .before .before .before .before .sum-of-squares .ensures) (c .before .before .before .before .before .before .before .before .before .before .before .before .form .ensures .0) _ _ _ _ _ _ _ (c .before .before .before .before .source .ensures) (c .before .before .before .source2 .ensures) (c .before .before .source3 .ensures) (c .before .source4 .ensures) refl (sum-kept (c .before .before .before .before .before .before .before .before .before .before .before .before .before .before .before .before .before .before .before .before .pre) (denominator-is (c .before .before .before .before .before .before .before .before .before .before .before .before .before .before .before .before .before .before .before .before .pre) (c .before .before .before .before .before .before .before .before .before .before .before .before .form .ensures .1 .0) (c .before .before .before .before .before .before .before .before .before .before .before .before .form .ensures .1 .1) (c .before .before .before .before .before .before .before .before .denominator .ensures)) (c .before .before .before .before .before .before .before .sum-of-squares .ensures) (c .before .before .before .before .before .before .before .before .before .before .before .before .form .ensures .0)) (kept _ (c .before .before .before .before .before .before .before .before .before .before .before .before .before .before .before .before .check-number .ok) ∙ c .before .before .before .before .before .before .before .before .before .before .before .before .before .before .before .before .check-number .ensures .0), (c .before .before .before .before .before .before .before .before .before .before .before .before .form .ensures .1 .0, c .before .before .before .before .before .before .before .before .before .before .before .before .form .ensures .1 .1))))

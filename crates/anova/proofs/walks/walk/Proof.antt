@@ -29,7 +29,7 @@ walk-spec =
     (λ c. omega (arith, c .before .before .before .before .before .before .before .before .before .pre .four-kinds _ (c .before .before .before .loop-test .taken)))
     (λ c. omega arith)
     (λ c. omega (arith, c .before .before .before .before .before .before .before .before .before .before .pre .weights-long))
-    (λ c κs. rw (kept _ (c .before .before .before .total .given)) (weighable (c .before .before .before .before .before .before .before .before .before .before .pre) (c .before .before .before .before .before .loop .inv) (c .before .before .before .before .loop-test .taken) ))
+    (λ c κs. rw (kept _ (c .before .before .before .total .given)) (weighable (c .before .before .before .before .before .before .before .before .before .before .pre) (c .before .before .before .before .before .loop .inv) (c .before .before .before .before .loop-test .taken)))
     (λ c. omega (arith, c .before .before .before .before .before .before .before .before .before .before .before .pre .row-there _ (c .before .before .before .before .before .loop-test .taken)))
     (λ c. omega (arith, c .before .before .before .before .before .before .before .before .before .before .before .before .pre .row-there _ (c .before .before .before .before .before .before .loop-test .taken), rows-long (c .before .before .before .before .before .before .before .before .before .before .before .before .pre) (c .before .before .before .before .before .before .before .loop .inv)))
     (λ c. omega (arith, row-fits (c .before .before .before .before .before .before .before .before .before .before .before .before .pre) (c .before .before .before .before .before .before .before .loop .inv) (c .before .before .before .before .before .before .loop-test .taken) (c .before .numerator .ensures ∙ rw (kept _ (c .before .before .before .before .before .total .given)) refl)))

@@ -1,0 +1,159 @@
+-- What the table call hands to the check and the sums, and the figures that it makes of what they give.
+--
+--   check-ready                   the check number
+--   form-ready                    totals, rows and sums, on a column that the check has used
+--   lengths-few, denominator-is   the denominator, from the lengths of totals and rows
+--   squares-ready, squares-are    the sum of squared readings
+--   total-small                   the total
+--   sum-kept                      the sum of the totals, as code holds it
+--   figures-made                  the figures
+use mathlib.Core.Path.{_≡_, refl, sym, _∙_}
+use mathlib.Core.Bool.{cond}
+use mathlib.Core.List.{List}
+use Prim.Native.Nat.{ℕ, _*_, _^_, _<_, _≤_}
+use native.Mathlib.Nat.{mul-le-mul-right, one-mul}
+use native.Mathlib.Decide.{ℕ-discrete}
+use native.Mathlib.Omega.{arith}
+use borrow.Author.Tests.{eq-eqb, ne-eqb}
+use lib.Dec.{eqb, lit<}
+use lib.IntN.{ℤ}
+use lib.ListN.{length, getD, replicate}
+use Rattle.algebra.specs.Naturals.{mul-pow}
+use Rattle.algebra.specs.Size.{wrap, back}
+use Rattle.algebra.specs.Tab.{length-tab, getD-tab}
+use Rattle.contrasts.specs.Columns.{read, totalsOf}
+use Rattle.contrasts.specs.Tables.{ofLevels}
+use Rattle.contrasts.specs.Totals.{total, denominator, squared, rounds}
+use Rattle.contrasts.specs.Laws.Divisors.{denominator-pos}
+use Rattle.contrasts.specs.Laws.Squares.{check-within}
+use Rattle.contrasts.specs.Laws.ThreeLevels.{denominator-three}
+use Rattle.contrasts.specs.Laws.TwoLevels.{denominator-two}
+use Rattle.plan.specs.declared.types.Plan.{Plan}
+use Rattle.plan.specs.Plan.{factorsOf, runsOf}
+use Rattle.plan.specs.Laws.Accepted.{accepted}
+use Rattle.plan.specs.Laws.Sizes.{as-power, plan-kind, factors-two, factors-three}
+use Rattle.contrasts.specs.Limits.{mostThree}
+use Rattle.contrasts.specs.Laws.Kinds.{the-three}
+use Rattle.rows.specs.Kinds.{rowsIn, keptKind, errorKind, meanKind, blocksKind}
+use Rattle.anova.specs.declared.types.Source.{Source}
+use Rattle.anova.specs.declared.types.Figures.{Figures}
+use Rattle.anova.specs.declared.walks.Sums.{Sums}
+use Rattle.anova.specs.Ready.{SquaresFit, Checkable, TableReady}
+use Rattle.anova.specs.Table.{sourceOf, totalSource, checksOf, sumsOf, tableFigures, rowsOf}
+use Rattle.anova.specs.Walk.{squaresOf}
+use Rattle.anova.proofs.Formed.{runs-few, rows-few, within-limit, limit-fits}
+
+at-most-six : (k : ℕ) → k ≤ mostThree → k ≤ 6
+unfolding mostThree
+at-most-six k h = h
+
+module _ {p : Plan} {readings : List ℤ} {marks : List ℕ} {totals : List ℤ} {rows : List ℕ} (a : TableReady p readings marks totals rows) where
+  pub check-ready : Checkable (p .levels) (p .k) readings totals
+  check-ready =
+      record {
+        kind = plan-kind p (a .plan);
+        most = λ h. at-most-six (p .k) (accepted p (a .plan) .factors .2 (the-three (p .levels) (plan-kind p (a .plan)) h));
+        few = rw (a .whole) (runs-few a);
+        whole = as-power p (a .plan) (a .whole);
+        same = a .same ∙ sym (a .whole);
+        within = a .within;
+      }
+
+  pub form-ready : {ts : List ℤ} → length ts ≡ length totals → TableReady p readings marks ts rows
+  form-ready e = record { plan = a .plan; whole = a .whole; same = e ∙ a .same; rows-long = a .rows-long; within = a .within }
+
+  -- ---- the denominator
+
+  module _ {ts : List ℤ} {rs : List ℕ} (t : ts ≡ totalsOf (factorsOf p) readings) (r : rs ≡ rowsOf p readings) where
+    ts-long : length ts ≡ runsOf p
+    unfolding totalsOf
+    ts-long = rw t (length-tab (runsOf p) (total (factorsOf p) (read readings)))
+
+    rs-long : length rs ≡ rowsIn p
+    unfolding rowsOf
+    rs-long = rw r (length-tab (rowsIn p) _)
+
+    pub lengths-few : (length ts ≤ 1024) × (length rs ≤ 1024)
+    lengths-few = (rw ts-long (runs-few a), rw rs-long (rows-few a))
+
+    pub denominator-is : {d : ℕ} → d ≡ cond (eqb (p .levels) 2) (length ts) (length ts * length rs) → d ≡ denominator (factorsOf p)
+    denominator-is e = e ∙ rw (ts-long, rs-long) (by (ℕ-discrete (p .levels) 2))
+      where
+        power : runsOf p ≡ p .levels ^ p .k
+        power = as-power p (a .plan) refl
+
+        by : Dec (p .levels ≡ 2) → cond (eqb (p .levels) 2) (runsOf p) (runsOf p * rowsIn p) ≡ denominator (factorsOf p)
+        by (yes h) = rw (eq-eqb (p .levels) 2 h, power, factors-two p h, h) (sym (denominator-two (p .k)))
+        by (no h) =
+            let l = the-three (p .levels) (plan-kind p (a .plan)) h in
+            rw (ne-eqb (p .levels) 2 h, power, factors-three p l, l) (sym (mul-pow 3 2 (p .k)) ∙ sym (denominator-three (p .k)))
+
+  -- ---- squares
+
+  pub squares-are : squaresOf readings ≡ squared (factorsOf p) (read readings)
+  unfolding squaresOf squared
+  squares-are = rw (a .whole) refl
+
+  least : squared (factorsOf p) (read readings) ≤ denominator (factorsOf p) * squared (factorsOf p) (read readings)
+  least =
+      let s = squared (factorsOf p) (read readings) in
+      omega (arith, one-mul s, mul-le-mul-right s (denominator-pos (factorsOf p)))
+
+  pub squares-ready : SquaresFit readings
+  squares-ready = record { sum-fits = rw squares-are (omega (arith, least, within-limit a, limit-fits)) }
+
+  module _ {d s : ℕ} (den : d ≡ denominator (factorsOf p)) (sq : s ≡ squaresOf readings) where
+    total-is : d * s ≡ denominator (factorsOf p) * squared (factorsOf p) (read readings)
+    total-is = rw (den, sq, squares-are) refl
+
+    pub total-small : d * s < 2 ^ 63
+    total-small = rw total-is (omega (arith, within-limit a, limit-fits))
+
+    -- ---- the figures
+
+    module _ {sums : Sums} (made : sums ≡ sumsOf p readings marks) where
+      source-made : (c : ℕ) → c < 4 → (r : Source) → (r .degrees ≡ getD (sums .degrees) c 0) × (r .numerator ≡ getD (sums .numerators) c 0)
+          → r ≡ sourceOf p readings marks c
+      unfolding sumsOf
+      source-made c h r e = λ i. record { degrees = degrees-are i; numerator = numerators-are i }
+        where
+          degrees-are : r .degrees ≡ sourceOf p readings marks c .degrees
+          degrees-are = e .0 ∙ rw made (getD-tab 0 4 (λ c. sourceOf p readings marks c .degrees) c h)
+
+          numerators-are : r .numerator ≡ sourceOf p readings marks c .numerator
+          numerators-are = e .1 ∙ rw made (getD-tab 0 4 (λ c. sourceOf p readings marks c .numerator) c h)
+
+      totals-are : sums .totals ≡ checksOf p readings .totals
+      unfolding sumsOf checksOf
+      totals-are = rw made refl
+
+      pub sum-kept : wrap (sums .totals) ≡ sums .totals
+      unfolding checksOf
+      sum-kept = back (sums .totals) (rw totals-are (omega (arith, check-within (factorsOf p) (read readings), within-limit a, limit-fits)))
+
+      pub figures-made : (mean kept blocks error : Source) (n : ℕ) (sum from : ℤ)
+          → (mean .degrees ≡ getD (sums .degrees) meanKind 0) × (mean .numerator ≡ getD (sums .numerators) meanKind 0)
+          → (kept .degrees ≡ getD (sums .degrees) keptKind 0) × (kept .numerator ≡ getD (sums .numerators) keptKind 0)
+          → (blocks .degrees ≡ getD (sums .degrees) blocksKind 0) × (blocks .numerator ≡ getD (sums .numerators) blocksKind 0)
+          → (error .degrees ≡ getD (sums .degrees) errorKind 0) × (error .numerator ≡ getD (sums .numerators) errorKind 0)
+          → n ≡ length readings → sum ≡ sums .totals → from ≡ rounds (replicate (p .k) (ofLevels (p .levels))) (read readings)
+          → _≡_ {A = Figures} (record {
+            denominator = d;
+            mean = mean;
+            kept = kept;
+            blocks = blocks;
+            error = error;
+            total = record { degrees = n; numerator = d * s };
+            checks = record { totals = sum; readings = from };
+          }) (tableFigures p readings marks)
+      unfolding tableFigures totalSource checksOf factorsOf
+      figures-made mean kept blocks error n sum from m k b e l t f =
+          λ i. record {
+            denominator = den i;
+            mean = source-made meanKind (lit< tt) mean m i;
+            kept = source-made keptKind (lit< tt) kept k i;
+            blocks = source-made blocksKind (lit< tt) blocks b i;
+            error = source-made errorKind (lit< tt) error e i;
+            total = record { degrees = (l ∙ a .whole) i; numerator = total-is i };
+            checks = record { totals = (t ∙ totals-are) i; readings = f i };
+          }
