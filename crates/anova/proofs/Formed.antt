@@ -6,56 +6,40 @@
 --   sums-made          what it leaves are the sums of the table
 --   rows-made          and its rows
 use mathlib.Core.Path.{_≡_, refl, sym, _∙_, ap}
-use mathlib.Core.Bool.{Bool, true, false, cond}
+use mathlib.Core.Bool.{true, cond}
 use mathlib.Core.List.{List}
-use mathlib.Core.Logic.{_⊎_, inl, inr}
-use Prim.Native.Nat.{ℕ, _*_, _^_, _<_, _≤_}
-use native.Mathlib.Nat.{pow-le-pow-right}
+use Prim.Native.Nat.{ℕ, _*_, _<_}
 use native.Mathlib.Omega.{arith}
 use borrow.Author.Tests.{lt-ltb}
-use lib.Dec.{eqb, ltb, lit<}
+use lib.Dec.{ltb}
 use lib.IntN.{ℤ, pos}
-use lib.ListN.{length, getD, length-replicate}
+use lib.ListN.{length, getD}
 use Rattle.algebra.specs.Naturals.{Σℕ, Σℕ-cong}
 use Rattle.algebra.specs.Sorted.{sum-cong, sorted-cong}
 use Rattle.algebra.specs.Sum.{Σ, Σ-cong}
 use Rattle.algebra.specs.Tab.{tab, length-tab, getD-tab, tab-cong}
 use Rattle.contrasts.specs.Columns.{read, totalsOf}
-use Rattle.contrasts.specs.Limits.{numeratorLimit}
 use Rattle.contrasts.specs.Rows.{rowOf}
-use Rattle.contrasts.specs.Tables.{ofLevels}
 use Rattle.contrasts.specs.Totals.{total, denominator, weight*, numeratorOf, numerator, squared}
 use Rattle.contrasts.specs.Laws.Degrees.{row-lt}
 use Rattle.contrasts.specs.Laws.Divisors.{weight-pos}
-use Rattle.contrasts.specs.Laws.Limits.{total-fits}
 use Rattle.contrasts.specs.Laws.Rows.{numerators-of-kind, degrees-of-kind}
 use Rattle.contrasts.specs.Laws.Squares.{numerators}
 use Rattle.plan.specs.declared.types.Plan.{Plan}
 use Rattle.plan.specs.Check.{runCount}
-use Rattle.plan.specs.Plan.{factorsOf, runsOf, confoundedIn}
-use Rattle.plan.specs.Laws.Accepted.{sizes}
+use Rattle.plan.specs.Plan.{factorsOf, runsOf}
 use Rattle.plan.specs.Laws.Answers.{written-new}
-use Rattle.plan.specs.Laws.Sizes.{RunsTwo, RunsThree, runs-known, run-count, plan-within}
+use Rattle.plan.specs.Laws.Sizes.{run-count}
 use Rattle.columns.specs.Laws.Admitted.{admits}
 use Rattle.yates.specs.Calls.{totalsNumber, totalsColumn}
 use Rattle.effects.specs.Effects.{effectRows, effectWeights}
-use Rattle.rows.specs.Kinds.{rowsIn, kindByMark, kindOf, kindsOf}
+use Rattle.rows.specs.Kinds.{rowsIn, kindOf, kindsOf}
+use Rattle.rows.specs.Laws.{four-kinds}
 use Rattle.anova.specs.declared.walks.Sums.{Sums}
+use Rattle.anova.specs.Laws.Admitted.{rows-power, runs-few, rows-few, limit-fits, within-limit}
 use Rattle.anova.specs.Ready.{Walkable, TableReady}
 use Rattle.anova.specs.Table.{sourceOf, sumsOf, rowsOf}
 use Rattle.anova.specs.Walk.{walkNumerator, walkRow, walkKind, rowsAfter, numeratorsAfter, degreesAfter, zeros}
-
--- ---- kinds
-
-pub four-kinds : (p : Plan) (marks : List ℕ) (w : ℕ) → kindOf p marks w < 4
-unfolding kindOf kindByMark
-four-kinds p marks w = by (eqb w 0) (confoundedIn p w) (eqb (getD marks w 0) 1)
-  where
-    by : (a b c : Bool) → cond a 2 (cond b 3 (cond c 1 0)) < 4
-    by true b c = lit< tt
-    by false true c = lit< tt
-    by false false true = lit< tt
-    by false false false = lit< tt
 
 -- ---- the lists that the walk is handed
 
@@ -66,11 +50,6 @@ pub record Lists (p : Plan) (readings : List ℤ) (marks : List ℕ) (r : ℕ) (
   pub kinds-are : kinds ≡ kindsOf p marks
   pub rows-are : rs ≡ zeros r
 
--- the total, by the sum of squares
-pub limit-fits : numeratorLimit < 2 ^ 63
-unfolding numeratorLimit
-limit-fits = lit< tt
-
 module _ {p : Plan} {readings : List ℤ} {marks : List ℕ} {totals : List ℤ} {rows : List ℕ} (a : TableReady p readings marks totals rows) where
   -- ---- the totals
 
@@ -80,35 +59,6 @@ module _ {p : Plan} {readings : List ℤ} {marks : List ℕ} {totals : List ℤ}
       e
       ∙ sym (written-new (totalsNumber p readings totals) (totalsOf (factorsOf p) readings) totals
       (admits (record { plan = a .plan; whole = a .whole; same = a .same; within = a .within })))
-
-  -- ---- sizes
-
-  factors-count : length (factorsOf p) ≡ p .k
-  unfolding factorsOf
-  factors-count = length-replicate (p .k) (ofLevels (p .levels))
-
-  rows-power : 2 ^ length (factorsOf p) ≡ rowsIn p
-  rows-power = ap (λ n. 2 ^ n) factors-count
-
-  pub runs-few : runsOf p ≤ 1024
-  runs-few = by (runs-known p)
-    where
-      c : runsOf p ≡ runCount p
-      c = sym (run-count p (a .plan))
-
-      by : (runCount p ≡ 0) ⊎ (RunsTwo p ⊎ RunsThree p) → runsOf p ≤ 1024
-      by (inl z) = omega (arith, c, z)
-      by (inr (inl t)) = rw (c ∙ t .count) (pow-le-pow-right {n = 2} (lit< tt) {i = p .k} {j = 10} (t .most))
-      by (inr (inr t)) =
-          let s : 3 ^ p .k ≤ 729 = pow-le-pow-right {n = 3} (lit< tt) {i = p .k} {j = 6} (t .most) in
-          rw (c ∙ t .count) (omega (arith, s))
-
-  pub rows-few : rowsIn p ≤ 1024
-  rows-few = pow-le-pow-right {n = 2} (lit< tt) {i = p .k} {j = 10} (sizes p (a .plan) .0)
-
-  pub within-limit : denominator (factorsOf p) * squared (factorsOf p) (read readings) ≤ numeratorLimit
-  unfolding factorsOf
-  within-limit = total-fits (ofLevels (p .levels)) (p .k) (plan-within p (a .plan)) (read readings) (λ r _. a .within r)
 
   -- ---- the walk
 
@@ -132,23 +82,23 @@ module _ {p : Plan} {readings : List ℤ} {marks : List ℕ} {totals : List ℤ}
 
       row-is : walkRow effects e ≡ rowOf (factorsOf p) e
       unfolding effectRows
-      row-is = rw (l .effects-are) (getD-tab 0 1024 _ e (omega (arith, runs-few)) ∙ rw in-plan refl)
+      row-is = rw (l .effects-are) (getD-tab 0 1024 _ e (omega (arith, (runs-few a))) ∙ rw in-plan refl)
 
       weight-is : getD ws e 0 ≡ weight* (factorsOf p) e
       unfolding effectWeights
-      weight-is = rw (l .weights-are) (getD-tab 0 1024 _ e (omega (arith, runs-few)) ∙ rw in-plan refl)
+      weight-is = rw (l .weights-are) (getD-tab 0 1024 _ e (omega (arith, (runs-few a))) ∙ rw in-plan refl)
 
       numerator-is : walkNumerator ts ws e ≡ numerator (factorsOf p) (read readings) e
       unfolding numeratorOf
       numerator-is = rw (total-is, weight-is) refl
 
       row-there : rowOf (factorsOf p) e < rowsIn p
-      row-there = rw rows-power at (row-lt (factorsOf p) e)
+      row-there = rw (rows-power a) at (row-lt (factorsOf p) e)
 
       kind-is : walkKind effects kinds e ≡ kindOf p marks (rowOf (factorsOf p) e)
       unfolding kindsOf
       kind-is =
-          rw (row-is, l .kinds-are) (getD-tab 0 1024 (kindOf p marks) (rowOf (factorsOf p) e) (omega (arith, row-there, rows-few)))
+          rw (row-is, l .kinds-are) (getD-tab 0 1024 (kindOf p marks) (rowOf (factorsOf p) e) (omega (arith, row-there, (rows-few a))))
 
     -- the sum of all numerators is the total, which is within the limit of numerators
     all-numerators : Σℕ (length ts) (walkNumerator ts ws) ≡ denominator (factorsOf p) * squared (factorsOf p) (read readings)
@@ -159,14 +109,14 @@ module _ {p : Plan} {readings : List ℤ} {marks : List ℕ} {totals : List ℤ}
     unfolding effectRows effectWeights kindsOf
     walk-ready =
         record {
-          effects-long = rw (long, l .effects-are, length-tab 1024 (λ e. cond (ltb e (runCount p)) (rowOf (factorsOf p) e) 0)) runs-few;
-          weights-long = rw (long, l .weights-are, length-tab 1024 (λ e. cond (ltb e (runCount p)) (weight* (factorsOf p) e) 1)) runs-few;
+          effects-long = rw (long, l .effects-are, length-tab 1024 (λ e. cond (ltb e (runCount p)) (rowOf (factorsOf p) e) 0)) (runs-few a);
+          weights-long = rw (long, l .weights-are, length-tab 1024 (λ e. cond (ltb e (runCount p)) (weight* (factorsOf p) e) 1)) (runs-few a);
           weights-some = λ e h. rw (weight-is (rw long at h)) (weight-pos (factorsOf p) e);
           row-there = λ e h. rw (row-is (rw long at h), rows-count) (row-there (rw long at h));
-          kinds-long = rw (rows-count, l .kinds-are, length-tab 1024 (kindOf p marks)) rows-few;
+          kinds-long = rw (rows-count, l .kinds-are, length-tab 1024 (kindOf p marks)) (rows-few a);
           four-kinds = λ e h. rw (kind-is (rw long at h)) (four-kinds p marks (rowOf (factorsOf p) e));
           cleared = l .rows-are ∙ ap zeros (a .rows-long ∙ sym rows-count);
-          sum-fits = rw all-numerators (omega (arith, within-limit, limit-fits));
+          sum-fits = rw all-numerators (omega (arith, (within-limit a), limit-fits));
         }
 
     -- ---- what it leaves
@@ -181,14 +131,14 @@ module _ {p : Plan} {readings : List ℤ} {marks : List ℕ} {totals : List ℤ}
     numerators-made e =
         e ∙ rw long (tab-cong 0 4 _ _ (λ c _.
         sum-cong (λ e h. kind-is h) (λ e h. numerator-is h) c
-        ∙ sym (rw rows-power at (numerators-of-kind (factorsOf p) (kindOf p marks) c (read readings)))))
+        ∙ sym (rw (rows-power a) at (numerators-of-kind (factorsOf p) (kindOf p marks) c (read readings)))))
 
     degrees-made : {ds : List ℕ} → ds ≡ degreesAfter effects kinds (length ts) → ds ≡ tab 4 (λ c. sourceOf p readings marks c .degrees)
     unfolding degreesAfter sourceOf
     degrees-made e =
         e ∙ rw long (tab-cong 0 4 _ _ (λ c _.
         sum-cong (λ e h. kind-is h) (λ e h. refl) c
-        ∙ sym (rw rows-power at (degrees-of-kind (factorsOf p) (kindOf p marks) c))))
+        ∙ sym (rw (rows-power a) at (degrees-of-kind (factorsOf p) (kindOf p marks) c))))
 
     sum-made : {s : ℤ} → s ≡ Σ (length ts) (read ts) → s ≡ Σ (runsOf p) (total (factorsOf p) (read readings))
     sum-made e = e ∙ rw long (Σ-cong (runsOf p) (λ e h. total-is h))

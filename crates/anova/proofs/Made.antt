@@ -38,10 +38,10 @@ use Rattle.rows.specs.Kinds.{rowsIn, keptKind, errorKind, meanKind, blocksKind}
 use Rattle.anova.specs.declared.types.Source.{Source}
 use Rattle.anova.specs.declared.types.Figures.{Figures}
 use Rattle.anova.specs.declared.walks.Sums.{Sums}
+use Rattle.anova.specs.Laws.Admitted.{runs-few, rows-few, within-limit, limit-fits}
 use Rattle.anova.specs.Ready.{SquaresFit, Checkable, TableReady}
 use Rattle.anova.specs.Table.{sourceOf, totalSource, checksOf, sumsOf, tableFigures, rowsOf}
 use Rattle.anova.specs.Walk.{squaresOf}
-use Rattle.anova.proofs.Formed.{runs-few, rows-few, within-limit, limit-fits}
 
 at-most-six : (k : ℕ) → k ≤ mostThree → k ≤ 6
 unfolding mostThree

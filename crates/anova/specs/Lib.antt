@@ -3,6 +3,8 @@
 --   Table      the call's number, figures and columns
 --   Walk       rows and sums after e totals
 --   Ready      what the inner functions ask
+--   Laws       laws on the call
 pub mod Table
 pub mod Walk
 pub mod Ready
+pub mod Laws

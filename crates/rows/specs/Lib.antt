@@ -2,5 +2,7 @@
 --
 --   Kinds      the kinds of rows, and the marks that are refused
 --   Written    what the inner functions leave in a list of kinds
+--   Laws       laws on rows
 pub mod Kinds
 pub mod Written
+pub mod Laws

@@ -1,6 +1,7 @@
 use mathlib.Core.Path.{sym, _∙_}
 use borrow.Author.Needs.{needs}
-use Rattle.anova.proofs.Judged.{table-admitted, table-stopped, table-completed}
+use Rattle.anova.specs.Laws.Admitted.{table-admitted}
+use Rattle.anova.proofs.Judged.{table-stopped, table-completed}
 use Rattle.anova.proofs.tables.table.Statement.{statement}
 use Rattle.anova.proofs.tables.table.Tie as tie
 

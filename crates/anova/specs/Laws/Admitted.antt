@@ -1,0 +1,91 @@
+-- What is known of a table that is not refused.
+--
+--   table-admitted             lengths and bounds, from the number
+--   rows-power                 R is 2 to the power of the number of factors
+--   runs-few, rows-few         neither runs nor rows are more than 1,024
+--   limit-fits                 the limit of numerators fits an i64
+--   within-limit               the total, by the sum of squares, is within that limit
+use mathlib.Core.Path.{_≡_, sym, _∙_, ap}
+use mathlib.Core.Bool.{false, _||_}
+use mathlib.Core.List.{List}
+use mathlib.Core.Logic.{_⊎_, inl, inr}
+use Prim.Native.Nat.{ℕ, _*_, _^_, _<_, _≤_}
+use native.Mathlib.Nat.{pow-le-pow-right}
+use native.Mathlib.Omega.{arith}
+use borrow.Author.Tests.{eqb-true, not-false}
+use lib.Dec.{eqb, lit<}
+use lib.IntN.{ℤ}
+use lib.ListN.{length, length-replicate}
+use Rattle.algebra.specs.Tests.{neither}
+use Rattle.contrasts.specs.Columns.{read}
+use Rattle.contrasts.specs.Limits.{readingLimit, numeratorLimit}
+use Rattle.contrasts.specs.Tables.{ofLevels}
+use Rattle.contrasts.specs.Totals.{denominator, squared}
+use Rattle.contrasts.specs.Laws.Limits.{total-fits}
+use Rattle.plan.specs.declared.types.Plan.{Plan}
+use Rattle.plan.specs.Check.{runCount}
+use Rattle.plan.specs.Plan.{factorsOf, runsOf}
+use Rattle.plan.specs.Laws.Accepted.{sizes}
+use Rattle.plan.specs.Laws.Answers.{passed, plan-passed}
+use Rattle.plan.specs.Laws.Sizes.{RunsTwo, RunsThree, runs-known, run-count, plan-within}
+use Rattle.columns.specs.Lines.{wrongLength, anyBeyond}
+use Rattle.columns.specs.Laws.Admitted.{all-within, as-long}
+use Rattle.rows.specs.Kinds.{rowsIn}
+use Rattle.anova.specs.Ready.{TableReady}
+use Rattle.anova.specs.Table.{wrongRows, wrongLengths, tableNumber}
+
+rows-as-long : (p : Plan) (n : ℕ) → wrongRows p n ≡ false → n ≡ rowsIn p
+unfolding wrongRows
+rows-as-long p n e = eqb-true n (rowsIn p) (not-false (eqb n (rowsIn p)) e)
+
+pub table-admitted : (p : Plan) (readings : List ℤ) (marks : List ℕ) (totals : List ℤ) (rows : List ℕ)
+    → tableNumber p readings marks totals rows ≡ 0 → TableReady p readings marks totals rows
+unfolding tableNumber wrongLengths
+table-admitted p readings marks totals rows e =
+    let q = plan-passed p _ e in
+    let l11 = passed (wrongLengths p (length readings) (length marks) (length totals) (length rows)) 11 _ (omega arith) (q .1) in
+    let l12 = passed (anyBeyond readingLimit readings) 12 _ (omega arith) (l11 .1) in
+    let a = neither (wrongLength p (length readings)) (wrongLength p (length totals) || (wrongRows p (length rows) || wrongRows p (length marks))) (l11 .0) in
+    let b = neither (wrongLength p (length totals)) (wrongRows p (length rows) || wrongRows p (length marks)) (a .1) in
+    let c = neither (wrongRows p (length rows)) (wrongRows p (length marks)) (b .1) in
+    record {
+      plan = q .0;
+      whole = as-long p (length readings) (a .0);
+      same = as-long p (length totals) (b .0);
+      rows-long = rows-as-long p (length rows) (c .0);
+      within = all-within readingLimit readings (l12 .0);
+    }
+
+-- ---- sizes
+
+pub limit-fits : numeratorLimit < 2 ^ 63
+unfolding numeratorLimit
+limit-fits = lit< tt
+
+module _ {p : Plan} {readings : List ℤ} {marks : List ℕ} {totals : List ℤ} {rows : List ℕ} (a : TableReady p readings marks totals rows) where
+  factors-count : length (factorsOf p) ≡ p .k
+  unfolding factorsOf
+  factors-count = length-replicate (p .k) (ofLevels (p .levels))
+
+  pub rows-power : 2 ^ length (factorsOf p) ≡ rowsIn p
+  rows-power = ap (λ n. 2 ^ n) factors-count
+
+  pub runs-few : runsOf p ≤ 1024
+  runs-few = by (runs-known p)
+    where
+      c : runsOf p ≡ runCount p
+      c = sym (run-count p (a .plan))
+
+      by : (runCount p ≡ 0) ⊎ (RunsTwo p ⊎ RunsThree p) → runsOf p ≤ 1024
+      by (inl z) = omega (arith, c, z)
+      by (inr (inl t)) = rw (c ∙ t .count) (pow-le-pow-right {n = 2} (lit< tt) {i = p .k} {j = 10} (t .most))
+      by (inr (inr t)) =
+          let s : 3 ^ p .k ≤ 729 = pow-le-pow-right {n = 3} (lit< tt) {i = p .k} {j = 6} (t .most) in
+          rw (c ∙ t .count) (omega (arith, s))
+
+  pub rows-few : rowsIn p ≤ 1024
+  rows-few = pow-le-pow-right {n = 2} (lit< tt) {i = p .k} {j = 10} (sizes p (a .plan) .0)
+
+  pub within-limit : denominator (factorsOf p) * squared (factorsOf p) (read readings) ≤ numeratorLimit
+  unfolding factorsOf
+  within-limit = total-fits (ofLevels (p .levels)) (p .k) (plan-within p (a .plan)) (read readings) (λ r _. a .within r)
