@@ -1,6 +1,10 @@
 -- The demands, as theorems about the calls' own definitions.
 --
---   AnyOrder   demand 3: passes in any order
---   Steps      k steps give the totals
+--   AnyOrder       demand 3: passes in any order
+--   Steps          k steps give the totals
+--   SumOfSquares   demand 3: the exact sum of squares
+--   TableAddsUp    demand 3: mean, kept, blocks and error
 pub mod AnyOrder
 pub mod Steps
+pub mod SumOfSquares
+pub mod TableAddsUp

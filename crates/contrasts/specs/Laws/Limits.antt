@@ -6,14 +6,15 @@
 --   values-fit           so does the column after each of any calls that repeat no factor
 --   steps-fit            and after each of k steps
 --   totals-fit           and so do the totals
+--   sizes-fit            the denominator and the number of runs do not exceed the limit of numerators
 --   total-fits           the denominator times the sum of squared readings does not exceed the limit of numerators
 --   numerators-fit       "No numerator, and no sum of them in one table, exceeds 340,122,240,000,000,000."
 use mathlib.Core.Bool.{Bool, cond, _&&_}
 use mathlib.Core.List.{List}
 use Prim.Native.Nat.{ℕ, suc, _*_, _^_, _<_, _≤_, max}
-use native.Mathlib.Nat.{le-trans, mul-le-mul, mul-le-mul-left, mul-le-mul-right, pow-le-pow-left, pow-le-pow-right}
+use native.Mathlib.Nat.{mul-one, mul-pos, mul-left-comm, le-trans, mul-le-mul, mul-le-mul-left, mul-le-mul-right, pow-le-pow-left, pow-le-pow-right}
 use native.Mathlib.Omega.{arith}
-use lib.Dec.{T, leb, leb→le}
+use lib.Dec.{T, leb, leb→le, lit<}
 use lib.IntN.{natAbs}
 use lib.ListN.{length, replicate, take}
 use Rattle.algebra.specs.Naturals.{Σℕ, most, Σℕ-each}
@@ -25,6 +26,7 @@ use Rattle.contrasts.specs.Totals.{Column, size, total, passes, count, s
 use Rattle.contrasts.specs.Laws.Alike.{growth-alike}
 use Rattle.contrasts.specs.Laws.Bounds.{Within, reach, growth, bound-each, bound-total, bound-steps}
 use Rattle.contrasts.specs.Laws.Digits.{size-pos}
+use Rattle.contrasts.specs.Laws.Divisors.{denominator-pos}
 use Rattle.contrasts.specs.Laws.Squares.{within}
 
 unfoldable pub valuesWithin : Factor → ℕ → Bool
@@ -57,6 +59,34 @@ three-within k h = every-at (suc mostThree) (withinLimits three) all-three k (om
 squared-bound : (Fs : List Factor) (x : Column) (M : ℕ) → Within (size Fs) M x → squared Fs x ≤ size Fs * (M * M)
 unfolding squared
 squared-bound Fs x M h = Σℕ-each (size Fs) (M * M) (λ r. natAbs (x r) * natAbs (x r)) (λ r k. mul-le-mul (h r k) (h r k))
+
+-- the numerators' test is a product of three numbers that are not 0
+factor-le : (a b c m : ℕ) → 0 < b → 0 < c → a * (b * c) ≤ m → a ≤ m
+factor-le a b c m p q h = le-trans (rw (mul-one a) at (mul-le-mul-left a (mul-pos p q))) h
+
+some-limit : 0 < readingLimit * readingLimit
+unfolding readingLimit
+some-limit = lit< tt
+
+pub sizes-fit : (F : Factor) (k : ℕ) → T (withinLimits F k)
+    → (denominator (replicate k F) ≤ numeratorLimit) × (size (replicate k F) ≤ numeratorLimit)
+unfolding withinLimits numeratorsWithin
+sizes-fit F k ok = (
+  factor-le d n l numeratorLimit (size-pos (replicate k F)) some-limit h,
+  factor-le n d l numeratorLimit (denominator-pos (replicate k F)) some-limit (rw (mul-left-comm d n l) at h),
+)
+  where
+    d : ℕ
+    d = denominator (replicate k F)
+
+    n : ℕ
+    n = size (replicate k F)
+
+    l : ℕ
+    l = readingLimit * readingLimit
+
+    h : d * (n * l) ≤ numeratorLimit
+    h = leb→le (d * (n * l)) numeratorLimit (and-right (valuesWithin F k) (numeratorsWithin F k) ok)
 
 module _ (F : Factor) (k : ℕ) (ok : T (withinLimits F k)) (x : Column) (h : Within (size (replicate k F)) readingLimit x) where
   grown : growth (replicate k F) * readingLimit ≤ valueLimit
