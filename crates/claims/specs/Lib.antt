@@ -4,7 +4,9 @@
 --   Steps          k steps give the totals
 --   SumOfSquares   demand 3: the exact sum of squares
 --   TableAddsUp    demand 3: mean, kept, blocks and error
+--   Starred        the starred runs, as one fact
 pub mod AnyOrder
 pub mod Steps
 pub mod SumOfSquares
 pub mod TableAddsUp
+pub mod Starred
