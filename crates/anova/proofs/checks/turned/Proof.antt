@@ -7,6 +7,6 @@ turned-spec =
     tie.close
     (tie.spec
     (λ c. triple-fits (c .pre .0))
-    (λ c. drop-fits (c .pre .0) (c .pre .1))
-    (λ c. round-fits (c .pre .0) (c .pre .1) (c .pre .2))
+    (λ c. search (drop-fits, c .pre .0, c .pre .1, c .pre .2))
+    (λ c. search (round-fits, c .pre .0, c .pre .1, c .pre .2))
     (λ c. round-is (c .pre .0) (c .pre .1) (c .pre .2)))

@@ -1,3 +1,4 @@
+use native.Mathlib.Omega.{arith}
 use mathlib.Core.Path.{sym, _∙_}
 use borrow.Author.Needs.{needs}
 use Rattle.anova.specs.Laws.Admitted.{table-admitted}
@@ -12,7 +13,7 @@ table-spec =
     (λ c κs. tt)
     (λ c. search needs)
     (λ c. search needs)
-    (λ c. table-stopped _ _ _ _ _ (c .before .table-number .ensures) (c .if1 .taken))
+    (λ c. table-stopped _ _ _ _ _ (c .before .table-number .ensures) (λ z. omega (arith, z, c .if1 .taken)))
     (λ c κs. table-admitted _ _ _ _ _ (sym (c .before .before .before .table-number .ensures) ∙ c .before .before .if1 .left))
     (λ c. search needs)
     (λ c. search needs)

@@ -1,0 +1,108 @@
+-- Small tables, computed over the definitions. The starred runs are in the crate `claims`.
+--
+--   four-figures     readings 3, 5, 4, 8 with marks 0, 0, 0, 1
+--   three-figures    two three-level factors, the interaction pooled
+--   block-figures    eight readings in two blocks, the block word being ABC
+--   lengths          line 11, slice by slice
+--   small-inputs     lines 12 and 13, and the lowest number where several apply
+--   unchanged        a table that is refused
+use mathlib.Core.Path.{_≡_, refl}
+use mathlib.Core.List.{List, [], _∷_}
+use Prim.Native.Nat.{ℕ}
+use lib.IntN.{ℤ, pos}
+use Rattle.algebra.specs.Naturals.{Σℕ}
+use Rattle.algebra.specs.Bits.{bits}
+use Rattle.algebra.specs.Search.{some}
+use Rattle.algebra.specs.Sorted.{sumAt}
+use Rattle.algebra.specs.Sum.{Σ}
+use Rattle.algebra.specs.Tab.{tabFrom}
+use Rattle.contrasts.specs.Limits.{readingLimit, mostTwo, mostThree}
+use Rattle.contrasts.specs.Rows.{rowOf, degreesOf}
+use Rattle.contrasts.specs.Tables.{two, three, neg}
+use Rattle.contrasts.specs.Totals.{size, coef*, total, divisor*, denominator, weight*, numeratorOf, squared, checkWeight, round, rounds}
+use Rattle.words.specs.Words.{letters, beyond, times, combined, any, among, repeated}
+use Rattle.plan.specs.declared.types.Plan.{Plan}
+use Rattle.plan.specs.Examples.{plan, ABC, AD}
+use Rattle.plan.specs.Plan.{factorsOf, someCombination, combinesTo}
+use Rattle.plan.specs.Check.{badLevels, badFactors, badCounts, badWord, badSign, badWords, dependent, factorWord, losesFactor, planNumber, withPlan}
+use Rattle.columns.specs.Lines.{wrongLength, isBeyond, anyBeyond}
+use Rattle.rows.specs.Kinds.{kindByMark, kindOf, badMark, badMarks}
+use Rattle.anova.specs.declared.types.Source.{Source}
+use Rattle.anova.specs.declared.types.Figures.{Figures}
+use Rattle.anova.specs.Table.{wrongRows, wrongLengths, tableNumber, sourceOf, totalSource, checksOf, tableFigures, tableTotals, tableRows}
+
+-- degrees and numerators of mean, kept, blocks, error and total, after the denominator; then both check numbers
+abbrev numbers : Figures → List ℤ
+numbers f =
+    pos (f .denominator)
+    ∷ pos (f .mean .degrees) ∷ pos (f .mean .numerator)
+    ∷ pos (f .kept .degrees) ∷ pos (f .kept .numerator)
+    ∷ pos (f .blocks .degrees) ∷ pos (f .blocks .numerator)
+    ∷ pos (f .error .degrees) ∷ pos (f .error .numerator)
+    ∷ pos (f .total .degrees) ∷ pos (f .total .numerator)
+    ∷ f .checks .totals ∷ f .checks .readings
+    ∷ []
+
+abbrev four : Plan
+four = plan 2 2 [] [] []
+
+abbrev readings : List ℤ
+readings = pos 3 ∷ pos 5 ∷ pos 4 ∷ pos 8 ∷ []
+
+-- "over 4", "mean 1 400", "A 1 36" and "B 1 16" kept, "blocks 0 0", "error 1 4", "total 4 456", "check 12 12"
+four-figures : numbers (tableFigures four readings (0 ∷ 0 ∷ 0 ∷ 1 ∷ []))
+    ≡ pos 4 ∷ pos 1 ∷ pos 400 ∷ pos 2 ∷ pos 52 ∷ pos 0 ∷ pos 0 ∷ pos 1 ∷ pos 4 ∷ pos 4 ∷ pos 456 ∷ pos 12 ∷ pos 12 ∷ []
+unfolding tableFigures sourceOf totalSource checksOf kindOf kindByMark combinesTo someCombination some combined times bits Σℕ Σ factorsOf size two total coef* divisor* denominator weight* numeratorOf squared checkWeight round rounds rowOf degreesOf sumAt
+four-figures = refl
+
+-- 1 to 9 over 36: the totals are 45, -6, 0, -18, and 0 from there on; a main effect has 2 degrees and the interaction 4
+three-figures : numbers (tableFigures (plan 3 2 [] [] []) (pos 1 ∷ pos 2 ∷ pos 3 ∷ pos 4 ∷ pos 5 ∷ pos 6 ∷ pos 7 ∷ pos 8 ∷ pos 9 ∷ []) (0 ∷ 0 ∷ 0 ∷ 1 ∷ []))
+    ≡ pos 36 ∷ pos 1 ∷ pos 8_100 ∷ pos 4 ∷ pos 2_160 ∷ pos 0 ∷ pos 0 ∷ pos 4 ∷ pos 0 ∷ pos 9 ∷ pos 10_260 ∷ pos 21 ∷ pos 21 ∷ []
+unfolding tableFigures sourceOf totalSource checksOf kindOf kindByMark combinesTo someCombination some combined times bits Σℕ Σ factorsOf size three total coef* divisor* denominator weight* numeratorOf squared checkWeight round rounds rowOf degreesOf sumAt
+three-figures = refl
+
+-- readings 1 to 7 and 9, over 8: row ABC is blocks, and AB, AC and BC are pooled
+block-figures : numbers (tableFigures (plan 2 3 [] [] (ABC ∷ [])) (pos 1 ∷ pos 2 ∷ pos 3 ∷ pos 4 ∷ pos 5 ∷ pos 6 ∷ pos 7 ∷ pos 9 ∷ []) (0 ∷ 0 ∷ 0 ∷ 1 ∷ 0 ∷ 1 ∷ 1 ∷ 0 ∷ []))
+    ≡ pos 8 ∷ pos 1 ∷ pos 1_369 ∷ pos 3 ∷ pos 395 ∷ pos 1 ∷ pos 1 ∷ pos 3 ∷ pos 3 ∷ pos 8 ∷ pos 1_768 ∷ pos 8 ∷ pos 8 ∷ []
+unfolding tableFigures sourceOf totalSource checksOf kindOf kindByMark combinesTo someCombination some combined times bits Σℕ Σ factorsOf size two total coef* divisor* denominator weight* numeratorOf squared checkWeight round rounds rowOf degreesOf sumAt
+block-figures = refl
+
+abbrev noMarks : List ℕ
+noMarks = 0 ∷ 0 ∷ 0 ∷ 0 ∷ []
+
+-- "k = 2, 3 readings", and so of marks, totals and rows
+lengths : tableNumber four (pos 3 ∷ pos 5 ∷ pos 4 ∷ []) noMarks readings noMarks
+    ∷ tableNumber four readings (0 ∷ 0 ∷ 0 ∷ []) readings noMarks
+    ∷ tableNumber four readings noMarks (pos 3 ∷ pos 5 ∷ pos 4 ∷ []) noMarks
+    ∷ tableNumber four readings noMarks readings (0 ∷ 0 ∷ 0 ∷ [])
+    ∷ tableNumber four readings noMarks readings noMarks
+    ∷ []
+    ≡ 11 ∷ 11 ∷ 11 ∷ 11 ∷ 0 ∷ []
+unfolding tableNumber wrongLengths wrongRows wrongLength anyBeyond isBeyond badMarks badMark withPlan planNumber badLevels badFactors mostTwo mostThree badCounts badWords badWord badSign repeated dependent losesFactor factorWord any among beyond letters combined times someCombination combinesTo some bits Σℕ readingLimit factorsOf size two
+lengths = refl
+
+-- "reading 100,001"; "mark 1 on row 0", a mark of 2, mark 1 on BCD, which AD and ABC combine to; then 11 and 12, 12 and 13, and 2 and all of these
+abbrev large : List ℤ
+large = pos 3 ∷ pos 5 ∷ neg 100_001 ∷ pos 8 ∷ []
+
+abbrev sixteen : List ℤ
+sixteen = pos 0 ∷ pos 0 ∷ pos 0 ∷ pos 0 ∷ pos 0 ∷ pos 0 ∷ pos 0 ∷ pos 0 ∷ pos 0 ∷ pos 0 ∷ pos 0 ∷ pos 0 ∷ pos 0 ∷ pos 0 ∷ pos 0 ∷ pos 0 ∷ []
+
+abbrev onBCD : List ℕ
+onBCD = 0 ∷ 0 ∷ 0 ∷ 0 ∷ 0 ∷ 0 ∷ 0 ∷ 0 ∷ 0 ∷ 0 ∷ 0 ∷ 0 ∷ 0 ∷ 0 ∷ 1 ∷ 0 ∷ []
+
+small-inputs : tableNumber four large noMarks readings noMarks
+    ∷ tableNumber four readings (1 ∷ 0 ∷ 0 ∷ 0 ∷ []) readings noMarks
+    ∷ tableNumber four readings (0 ∷ 0 ∷ 2 ∷ 0 ∷ []) readings noMarks
+    ∷ tableNumber (plan 2 4 [] [] (AD ∷ ABC ∷ [])) sixteen onBCD sixteen onBCD
+    ∷ tableNumber four large noMarks readings []
+    ∷ tableNumber four large (1 ∷ 0 ∷ 0 ∷ 0 ∷ []) readings noMarks
+    ∷ tableNumber (plan 4 2 [] [] []) large (1 ∷ []) readings []
+    ∷ []
+    ≡ 12 ∷ 13 ∷ 13 ∷ 13 ∷ 11 ∷ 12 ∷ 2 ∷ []
+unfolding tableNumber wrongLengths wrongRows wrongLength anyBeyond isBeyond badMarks badMark withPlan planNumber badLevels badFactors mostTwo mostThree badCounts badWords badWord badSign repeated dependent losesFactor factorWord any among beyond letters combined times someCombination combinesTo some bits Σℕ readingLimit factorsOf size two
+small-inputs = refl
+
+unchanged : (tableTotals four readings (1 ∷ 0 ∷ 0 ∷ 0 ∷ []) readings noMarks ≡ readings) × (tableRows four readings (1 ∷ 0 ∷ 0 ∷ 0 ∷ []) readings noMarks ≡ noMarks)
+unfolding tableTotals tableRows tableNumber wrongLengths wrongRows wrongLength anyBeyond isBeyond badMarks badMark withPlan planNumber badLevels badFactors mostTwo mostThree badCounts badWords badWord badSign repeated dependent losesFactor factorWord any among beyond letters combined times someCombination combinesTo some bits Σℕ readingLimit factorsOf size two
+unchanged = (refl, refl)
