@@ -8,7 +8,7 @@
 use mathlib.Core.Path.{_≡_, refl, sym, _∙_, ap}
 use mathlib.Core.Bool.{true, cond}
 use mathlib.Core.List.{List}
-use Prim.Native.Nat.{ℕ, _*_, _<_}
+use Prim.Native.Nat.{ℕ, _*_, _/_, _<_}
 use native.Mathlib.Omega.{arith}
 use borrow.Author.Tests.{lt-ltb}
 use lib.Dec.{ltb}
@@ -20,9 +20,9 @@ use Rattle.algebra.specs.Sum.{Σ, Σ-cong}
 use Rattle.algebra.specs.Tab.{tab, length-tab, getD-tab, tab-cong}
 use Rattle.contrasts.specs.Columns.{read, totalsOf}
 use Rattle.contrasts.specs.Rows.{rowOf}
-use Rattle.contrasts.specs.Totals.{total, denominator, weight*, numeratorOf, numerator, squared}
+use Rattle.contrasts.specs.Totals.{total, denominator, divisor*, weight*, numeratorOf, numerator, squared}
 use Rattle.contrasts.specs.Laws.Degrees.{row-lt}
-use Rattle.contrasts.specs.Laws.Divisors.{weight-pos}
+use Rattle.contrasts.specs.Laws.Divisors.{divisor*-pos, weight-pos}
 use Rattle.contrasts.specs.Laws.Rows.{numerators-of-kind, degrees-of-kind}
 use Rattle.contrasts.specs.Laws.Squares.{numerators}
 use Rattle.plan.specs.declared.types.Plan.{Plan}
@@ -32,7 +32,7 @@ use Rattle.plan.specs.Laws.Answers.{written-new}
 use Rattle.plan.specs.Laws.Sizes.{run-count}
 use Rattle.columns.specs.Laws.Admitted.{admits}
 use Rattle.yates.specs.Calls.{totalsNumber, totalsColumn}
-use Rattle.effects.specs.Effects.{effectRows, effectWeights}
+use Rattle.effects.specs.Effects.{effectRows, effectDivisors}
 use Rattle.rows.specs.Kinds.{rowsIn, kindOf, kindsOf}
 use Rattle.rows.specs.Laws.{four-kinds}
 use Rattle.anova.specs.declared.walks.Sums.{Sums}
@@ -43,10 +43,11 @@ use Rattle.anova.specs.Walk.{walkNumerator, walkRow, walkKind, rowsAfter
 
 -- ---- the lists that the walk is handed
 
-pub record Lists (p : Plan) (readings : List ℤ) (marks : List ℕ) (r : ℕ) (ts : List ℤ) (effects ws kinds rs : List ℕ) : Type 0 where
+pub record Lists (p : Plan) (readings : List ℤ) (marks : List ℕ) (r : ℕ) (ts : List ℤ) (effects : List ℕ) (d : ℕ) (ds kinds rs : List ℕ) : Type 0 where
   pub totals-are : ts ≡ totalsOf (factorsOf p) readings
   pub effects-are : effects ≡ effectRows p
-  pub weights-are : ws ≡ effectWeights p
+  pub denominator-is : d ≡ denominator (factorsOf p)
+  pub divisors-are : ds ≡ effectDivisors p
   pub kinds-are : kinds ≡ kindsOf p marks
   pub rows-are : rs ≡ zeros r
 
@@ -62,7 +63,7 @@ module _ {p : Plan} {readings : List ℤ} {marks : List ℕ} {totals : List ℤ}
 
   -- ---- the walk
 
-  module _ {ts : List ℤ} {effects ws kinds rs : List ℕ} (l : Lists p readings marks (length rows) ts effects ws kinds rs) where
+  module _ {ts : List ℤ} {effects : List ℕ} {d : ℕ} {ds kinds rs : List ℕ} (l : Lists p readings marks (length rows) ts effects d ds kinds rs) where
     long : length ts ≡ runsOf p
     unfolding totalsOf
     long = rw (l .totals-are) (length-tab (runsOf p) (total (factorsOf p) (read readings)))
@@ -84,11 +85,15 @@ module _ {p : Plan} {readings : List ℤ} {marks : List ℕ} {totals : List ℤ}
       unfolding effectRows
       row-is = rw (l .effects-are) (getD-tab 0 1024 _ e (omega (arith, (runs-few a))) ∙ rw in-plan refl)
 
-      weight-is : getD ws e 0 ≡ weight* (factorsOf p) e
-      unfolding effectWeights
-      weight-is = rw (l .weights-are) (getD-tab 0 1024 _ e (omega (arith, (runs-few a))) ∙ rw in-plan refl)
+      divisor-is : getD ds e 0 ≡ divisor* (factorsOf p) e
+      unfolding effectDivisors
+      divisor-is = rw (l .divisors-are) (getD-tab 0 1024 _ e (omega (arith, (runs-few a))) ∙ rw in-plan refl)
 
-      numerator-is : walkNumerator ts ws e ≡ numerator (factorsOf p) (read readings) e
+      weight-is : d / getD ds e 0 ≡ weight* (factorsOf p) e
+      unfolding weight*
+      weight-is = rw (divisor-is, l .denominator-is) refl
+
+      numerator-is : walkNumerator ts d ds e ≡ numerator (factorsOf p) (read readings) e
       unfolding numeratorOf
       numerator-is = rw (total-is, weight-is) refl
 
@@ -101,16 +106,17 @@ module _ {p : Plan} {readings : List ℤ} {marks : List ℕ} {totals : List ℤ}
           rw (row-is, l .kinds-are) (getD-tab 0 1024 (kindOf p marks) (rowOf (factorsOf p) e) (omega (arith, row-there, (rows-few a))))
 
     -- the sum of all numerators is the total, which is within the limit of numerators
-    all-numerators : Σℕ (length ts) (walkNumerator ts ws) ≡ denominator (factorsOf p) * squared (factorsOf p) (read readings)
+    all-numerators : Σℕ (length ts) (walkNumerator ts d ds) ≡ denominator (factorsOf p) * squared (factorsOf p) (read readings)
     all-numerators =
         rw long (Σℕ-cong (runsOf p) (λ e h. numerator-is h) ∙ numerators (factorsOf p) (read readings))
 
-    pub walk-ready : Walkable ts effects ws kinds rs
-    unfolding effectRows effectWeights kindsOf
+    pub walk-ready : Walkable ts effects d ds kinds rs
+    unfolding effectRows effectDivisors kindsOf
     walk-ready =
         record {
           effects-long = rw (long, l .effects-are, length-tab 1024 (λ e. cond (ltb e (runCount p)) (rowOf (factorsOf p) e) 0)) (runs-few a);
-          weights-long = rw (long, l .weights-are, length-tab 1024 (λ e. cond (ltb e (runCount p)) (weight* (factorsOf p) e) 1)) (runs-few a);
+          divisors-long = rw (long, l .divisors-are, length-tab 1024 (λ e. cond (ltb e (runCount p)) (divisor* (factorsOf p) e) 1)) (runs-few a);
+          divisors-some = λ e h. rw (divisor-is (rw long at h)) (divisor*-pos (factorsOf p) e);
           weights-some = λ e h. rw (weight-is (rw long at h)) (weight-pos (factorsOf p) e);
           row-there = λ e h. rw (row-is (rw long at h), rows-count) (row-there (rw long at h));
           kinds-long = rw (rows-count, l .kinds-are, length-tab 1024 (kindOf p marks)) (rows-few a);
@@ -121,12 +127,12 @@ module _ {p : Plan} {readings : List ℤ} {marks : List ℕ} {totals : List ℤ}
 
     -- ---- what it leaves
 
-    pub rows-made : {zs : List ℕ} → zs ≡ rowsAfter ts effects ws (length rs) (length ts) → zs ≡ rowsOf p readings
+    pub rows-made : {zs : List ℕ} → zs ≡ rowsAfter ts effects d ds (length rs) (length ts) → zs ≡ rowsOf p readings
     unfolding rowsAfter rowsOf
     rows-made e =
         e ∙ rw (long, rows-count) (sorted-cong (λ e h. row-is h) (λ e h. numerator-is h) (rowsIn p))
 
-    numerators-made : {ns : List ℕ} → ns ≡ numeratorsAfter ts effects ws kinds (length ts) → ns ≡ tab 4 (λ c. sourceOf p readings marks c .numerator)
+    numerators-made : {ns : List ℕ} → ns ≡ numeratorsAfter ts effects d ds kinds (length ts) → ns ≡ tab 4 (λ c. sourceOf p readings marks c .numerator)
     unfolding numeratorsAfter sourceOf
     numerators-made e =
         e ∙ rw long (tab-cong 0 4 _ _ (λ c _.
@@ -143,7 +149,7 @@ module _ {p : Plan} {readings : List ℤ} {marks : List ℕ} {totals : List ℤ}
     sum-made : {s : ℤ} → s ≡ Σ (length ts) (read ts) → s ≡ Σ (runsOf p) (total (factorsOf p) (read readings))
     sum-made e = e ∙ rw long (Σ-cong (runsOf p) (λ e h. total-is h))
 
-    pub sums-made : (s : Sums) → s .numerators ≡ numeratorsAfter ts effects ws kinds (length ts) → s .degrees ≡ degreesAfter effects kinds (length ts)
+    pub sums-made : (s : Sums) → s .numerators ≡ numeratorsAfter ts effects d ds kinds (length ts) → s .degrees ≡ degreesAfter effects kinds (length ts)
         → s .totals ≡ Σ (length ts) (read ts) → s ≡ sumsOf p readings marks
     unfolding sumsOf
     sums-made s n d t =

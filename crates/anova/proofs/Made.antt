@@ -20,8 +20,8 @@ use lib.IntN.{ℤ}
 use lib.ListN.{length, getD, replicate}
 use Rattle.algebra.specs.Naturals.{mul-pow}
 use Rattle.algebra.specs.Size.{wrap, back}
-use Rattle.algebra.specs.Tab.{length-tab, getD-tab}
-use Rattle.contrasts.specs.Columns.{read, totalsOf}
+use Rattle.algebra.specs.Tab.{getD-tab}
+use Rattle.contrasts.specs.Columns.{read}
 use Rattle.contrasts.specs.Tables.{ofLevels}
 use Rattle.contrasts.specs.Totals.{total, denominator, squared, rounds}
 use Rattle.contrasts.specs.Laws.Divisors.{denominator-pos}
@@ -40,7 +40,7 @@ use Rattle.anova.specs.declared.types.Figures.{Figures}
 use Rattle.anova.specs.declared.walks.Sums.{Sums}
 use Rattle.anova.specs.Laws.Admitted.{runs-few, rows-few, within-limit, limit-fits}
 use Rattle.anova.specs.Ready.{SquaresFit, Checkable, TableReady}
-use Rattle.anova.specs.Table.{sourceOf, totalSource, checksOf, sumsOf, tableFigures, rowsOf}
+use Rattle.anova.specs.Table.{sourceOf, totalSource, checksOf, sumsOf, tableFigures}
 use Rattle.anova.specs.Walk.{squaresOf}
 
 at-most-six : (k : ℕ) → k ≤ mostThree → k ≤ 6
@@ -62,22 +62,14 @@ module _ {p : Plan} {readings : List ℤ} {marks : List ℕ} {totals : List ℤ}
   pub form-ready : {ts : List ℤ} → length ts ≡ length totals → TableReady p readings marks ts rows
   form-ready e = record { plan = a .plan; whole = a .whole; same = e ∙ a .same; rows-long = a .rows-long; within = a .within }
 
-  -- ---- the denominator
+  -- ---- the denominator, by the length of a column that the check has used
 
-  module _ {ts : List ℤ} {rs : List ℕ} (t : ts ≡ totalsOf (factorsOf p) readings) (r : rs ≡ rowsOf p readings) where
-    ts-long : length ts ≡ runsOf p
-    unfolding totalsOf
-    ts-long = rw t (length-tab (runsOf p) (total (factorsOf p) (read readings)))
+  module _ {n : ℕ} (e : n ≡ length totals) where
+    pub lengths-few : (n ≤ 1024) × (length rows ≤ 1024)
+    lengths-few = (rw (e ∙ a .same) (runs-few a), rw (a .rows-long) (rows-few a))
 
-    rs-long : length rs ≡ rowsIn p
-    unfolding rowsOf
-    rs-long = rw r (length-tab (rowsIn p) _)
-
-    pub lengths-few : (length ts ≤ 1024) × (length rs ≤ 1024)
-    lengths-few = (rw ts-long (runs-few a), rw rs-long (rows-few a))
-
-    pub denominator-is : {d : ℕ} → d ≡ cond (eqb (p .levels) 2) (length ts) (length ts * length rs) → d ≡ denominator (factorsOf p)
-    denominator-is e = e ∙ rw (ts-long, rs-long) (by (ℕ-discrete (p .levels) 2))
+    pub denominator-is : {d : ℕ} → d ≡ cond (eqb (p .levels) 2) (n) (n * length rows) → d ≡ denominator (factorsOf p)
+    denominator-is h = h ∙ rw (e ∙ a .same, a .rows-long) (by (ℕ-discrete (p .levels) 2))
       where
         power : runsOf p ≡ p .levels ^ p .k
         power = as-power p (a .plan) refl

@@ -3,7 +3,7 @@
 --   Clearing xs i ys                               the first i rows are 0
 --   clearing-none, clearing-more, clearing-all     before the first row, after one more, after the last
 --   product-fits, product-is                       a numerator
---   Walking ts effects ws kinds r e rows ns ds s   rows and sums are those after e totals
+--   Walking ts effects d ds kinds r e rows ns gs s   rows and sums are those after e totals
 --   walking-none, walking-more, walking-all        before the first total, after one more, after the last
 --   weighable, row-fits, kind-fits, degree-fits, check-fits    what the next total brings fits
 --
@@ -11,7 +11,7 @@
 -- the sum of the totals is within the same bound.
 use mathlib.Core.Path.{_≡_, refl, _∙_, ap}
 use mathlib.Core.List.{List}
-use Prim.Native.Nat.{ℕ, suc, _+_, _*_, _^_, _<_, _≤_}
+use Prim.Native.Nat.{ℕ, suc, _+_, _*_, _/_, _^_, _<_, _≤_}
 use native.Mathlib.Nat.{mul-le-mul-left, mul-one}
 use native.Mathlib.Numerals.{add-one}
 use native.Mathlib.Omega.{arith}
@@ -59,28 +59,28 @@ module _ {t : ℤ} {weight : ℕ} (pre : Weighable t weight) {q : ℕ} (e : q �
 
 -- ---- the walk
 
-pub record Walking (ts : List ℤ) (effects ws kinds : List ℕ) (r e : ℕ) (rows ns ds : List ℕ) (s : ℕ) : Type 0 where
+pub record Walking (ts : List ℤ) (effects : List ℕ) (d : ℕ) (ds kinds : List ℕ) (r e : ℕ) (rows ns gs : List ℕ) (s : ℕ) : Type 0 where
   pub upto : e ≤ length ts
-  pub rows-so : rows ≡ rowsAfter ts effects ws r e
-  pub numerators-so : ns ≡ numeratorsAfter ts effects ws kinds e
-  pub degrees-so : ds ≡ degreesAfter effects kinds e
+  pub rows-so : rows ≡ rowsAfter ts effects d ds r e
+  pub numerators-so : ns ≡ numeratorsAfter ts effects d ds kinds e
+  pub degrees-so : gs ≡ degreesAfter effects kinds e
   -- an i64 that code holds is its bits
   pub sum-so : s ≡ ofZ w64 (Σ e (read ts))
 
-module _ {ts : List ℤ} {effects ws kinds rows₀ : List ℕ} (pre : Walkable ts effects ws kinds rows₀) where
-  pub walking-none : Walking ts effects ws kinds (length rows₀) 0 rows₀ (replicate 4 0) (replicate 4 0) 0
+module _ {ts : List ℤ} {effects : List ℕ} {d : ℕ} {ds kinds rows₀ : List ℕ} (pre : Walkable ts effects d ds kinds rows₀) where
+  pub walking-none : Walking ts effects d ds kinds (length rows₀) 0 rows₀ (replicate 4 0) (replicate 4 0) 0
   unfolding rowsAfter numeratorsAfter degreesAfter Σ zeros
   walking-none =
       record {
         upto = omega arith;
-        rows-so = sorted-none (length rows₀) (walkRow effects) (walkNumerator ts ws) rows₀ refl (λ w h. rw (pre .cleared) (getD-tab 0 (length rows₀) (λ w. 0) w h));
-        numerators-so = sorted-none 4 (walkKind effects kinds) (walkNumerator ts ws) (replicate 4 0) refl (λ w h. getD-replicate {A = ℕ} 4 w 0 0 h);
+        rows-so = sorted-none (length rows₀) (walkRow effects) (walkNumerator ts d ds) rows₀ refl (λ w h. rw (pre .cleared) (getD-tab 0 (length rows₀) (λ w. 0) w h));
+        numerators-so = sorted-none 4 (walkKind effects kinds) (walkNumerator ts d ds) (replicate 4 0) refl (λ w h. getD-replicate {A = ℕ} 4 w 0 0 h);
         degrees-so = sorted-none 4 (walkKind effects kinds) (λ i. 1) (replicate 4 0) refl (λ w h. getD-replicate {A = ℕ} 4 w 0 0 h);
         sum-so = refl;
       }
 
   -- a total is at most its numerator in size
-  below : (e : ℕ) → e < length ts → natAbs (read ts e) ≤ walkNumerator ts ws e
+  below : (e : ℕ) → e < length ts → natAbs (read ts e) ≤ walkNumerator ts d ds e
   below e h =
       let q = natAbs (read ts e) * natAbs (read ts e) in
       omega (arith, size-below (natAbs (read ts e)), mul-le-mul-left q (pre .weights-some e h), mul-one q)
@@ -92,51 +92,51 @@ module _ {ts : List ℤ} {effects ws kinds rows₀ : List ℕ} (pre : Walkable t
         arith,
         pre .sum-fits,
         natAbs-Σ e (read ts),
-        Σℕ-le e (λ i. natAbs (read ts i)) (walkNumerator ts ws) (λ i k. below i (omega arith)),
-        Σℕ-shorter e (length ts) (walkNumerator ts ws) h,
+        Σℕ-le e (λ i. natAbs (read ts i)) (walkNumerator ts d ds) (λ i k. below i (omega arith)),
+        Σℕ-shorter e (length ts) (walkNumerator ts d ds) h,
       )
 
-  module _ {e : ℕ} {rows ns ds : List ℕ} {s : ℕ} (w : Walking ts effects ws kinds (length rows₀) e rows ns ds s) where
+  module _ {e : ℕ} {rows ns gs : List ℕ} {s : ℕ} (w : Walking ts effects d ds kinds (length rows₀) e rows ns gs s) where
     pub rows-long : length rows ≡ length rows₀
     unfolding rowsAfter
     rows-long = rw (w .rows-so) (length-tab (length rows₀) _)
 
     pub walking-all : length ts ≤ e
-        → (ns ≡ numeratorsAfter ts effects ws kinds (length ts))
-        × ((ds ≡ degreesAfter effects kinds (length ts))
+        → (ns ≡ numeratorsAfter ts effects d ds kinds (length ts))
+        × ((gs ≡ degreesAfter effects kinds (length ts))
         × ((toZ w64 s ≡ Σ (length ts) (read ts))
-        × (rows ≡ rowsAfter ts effects ws (length rows₀) (length ts))))
+        × (rows ≡ rowsAfter ts effects d ds (length rows₀) (length ts))))
     walking-all h =
-        let d : e ≡ length ts = omega (arith, w .upto) in (
-          w .numerators-so ∙ rw d refl,
+        let z : e ≡ length ts = omega (arith, w .upto) in (
+          w .numerators-so ∙ rw z refl,
           (
-            w .degrees-so ∙ rw d refl,
-            (rw (w .sum-so, d) (back (Σ (length ts) (read ts)) (sum-small (length ts) (omega arith))), w .rows-so ∙ rw d refl),
+            w .degrees-so ∙ rw z refl,
+            (rw (w .sum-so, z) (back (Σ (length ts) (read ts)) (sum-small (length ts) (omega arith))), w .rows-so ∙ rw z refl),
           ),
         )
 
     module _ (low : e < length ts) where
-      pub weighable : Weighable (read ts e) (getD ws e 0)
+      pub weighable : Weighable (read ts e) (d / getD ds e 0)
       weighable =
-          let n = Σℕ-term (length ts) (walkNumerator ts ws) e low in
+          let n = Σℕ-term (length ts) (walkNumerator ts d ds) e low in
           let q = natAbs (read ts e) * natAbs (read ts e) in
           let p = mul-le-mul-left q (pre .weights-some e low) in
           record { square-fits = omega (arith, pre .sum-fits, n, p, mul-one q); product-fits = omega (arith, pre .sum-fits, n) }
 
-      module _ {n : ℕ} (own : n ≡ walkNumerator ts ws e) where
+      module _ {n : ℕ} (own : n ≡ walkNumerator ts d ds e) where
         pub row-fits : getD rows (walkRow effects e) 0 + n < 2 ^ 63
         unfolding rowsAfter
         row-fits =
-            rw (sorted-at (length rows₀) (walkRow effects) (walkNumerator ts ws) e (w .rows-so) (walkRow effects e) (pre .row-there e low), own)
-            (omega (arith, pre .sum-fits, sum-next (walkRow effects) (walkNumerator ts ws) e (length ts) low))
+            rw (sorted-at (length rows₀) (walkRow effects) (walkNumerator ts d ds) e (w .rows-so) (walkRow effects e) (pre .row-there e low), own)
+            (omega (arith, pre .sum-fits, sum-next (walkRow effects) (walkNumerator ts d ds) e (length ts) low))
 
         pub kind-fits : getD ns (walkKind effects kinds e) 0 + n < 2 ^ 63
         unfolding numeratorsAfter
         kind-fits =
-            rw (sorted-at 4 (walkKind effects kinds) (walkNumerator ts ws) e (w .numerators-so) (walkKind effects kinds e) (pre .four-kinds e low), own)
-            (omega (arith, pre .sum-fits, sum-next (walkKind effects kinds) (walkNumerator ts ws) e (length ts) low))
+            rw (sorted-at 4 (walkKind effects kinds) (walkNumerator ts d ds) e (w .numerators-so) (walkKind effects kinds e) (pre .four-kinds e low), own)
+            (omega (arith, pre .sum-fits, sum-next (walkKind effects kinds) (walkNumerator ts d ds) e (length ts) low))
 
-        pub degree-fits : getD ds (walkKind effects kinds e) 0 + 1 ≤ length ts
+        pub degree-fits : getD gs (walkKind effects kinds e) 0 + 1 ≤ length ts
         unfolding degreesAfter
         degree-fits =
             rw (sorted-at 4 (walkKind effects kinds) (λ i. 1) e (w .degrees-so) (walkKind effects kinds e) (pre .four-kinds e low))
@@ -148,23 +148,23 @@ module _ {ts : List ℤ} {effects ws kinds rows₀ : List ℕ} (pre : Walkable t
 
         summed : toZ w64 s +ℤ wrap (read ts e) ≡ Σ (suc e) (read ts)
         summed =
-            rw (w .sum-so, back (Σ e (read ts)) (sum-small e (omega arith)), back (read ts e) (omega (arith, pre .sum-fits, below e low, Σℕ-term (length ts) (walkNumerator ts ws) e low)))
+            rw (w .sum-so, back (Σ e (read ts)) (sum-small e (omega arith)), back (read ts e) (omega (arith, pre .sum-fits, below e low, Σℕ-term (length ts) (walkNumerator ts d ds) e low)))
             next-sum
 
         pub check-fits : SFits w64 (toZ w64 s +ℤ wrap (read ts e))
         check-fits = rw summed (fits (Σ (suc e) (read ts)) (sum-small (suc e) low))
 
-        pub walking-more : Walking ts effects ws kinds (length rows₀) (e + 1)
+        pub walking-more : Walking ts effects d ds kinds (length rows₀) (e + 1)
             (set rows (walkRow effects e) (getD rows (walkRow effects e) 0 + n))
             (set ns (walkKind effects kinds e) (getD ns (walkKind effects kinds e) 0 + n))
-            (set ds (walkKind effects kinds e) (getD ds (walkKind effects kinds e) 0 + 1))
+            (set gs (walkKind effects kinds e) (getD gs (walkKind effects kinds e) 0 + 1))
             (ofZ w64 (toZ w64 s +ℤ wrap (read ts e)))
         unfolding rowsAfter numeratorsAfter degreesAfter
         walking-more =
             record {
               upto = omega arith;
-              rows-so = rw own (sorted-more (length rows₀) (walkRow effects) (walkNumerator ts ws) e (w .rows-so) (pre .row-there e low));
-              numerators-so = rw own (sorted-more 4 (walkKind effects kinds) (walkNumerator ts ws) e (w .numerators-so) (pre .four-kinds e low));
+              rows-so = rw own (sorted-more (length rows₀) (walkRow effects) (walkNumerator ts d ds) e (w .rows-so) (pre .row-there e low));
+              numerators-so = rw own (sorted-more 4 (walkKind effects kinds) (walkNumerator ts d ds) e (w .numerators-so) (pre .four-kinds e low));
               degrees-so = sorted-more 4 (walkKind effects kinds) (λ i. 1) e (w .degrees-so) (pre .four-kinds e low);
               sum-so = rw (add-one e) (ap (ofZ w64) summed);
             }

@@ -15,7 +15,6 @@ use Rattle.algebra.specs.Bits.{bits}
 use Rattle.algebra.specs.Search.{some}
 use Rattle.algebra.specs.Sorted.{sumAt}
 use Rattle.algebra.specs.Sum.{Σ}
-use Rattle.algebra.specs.Tab.{tabFrom}
 use Rattle.contrasts.specs.Limits.{readingLimit, mostTwo, mostThree}
 use Rattle.contrasts.specs.Rows.{rowOf, degreesOf}
 use Rattle.contrasts.specs.Tables.{two, three, neg}
@@ -27,7 +26,6 @@ use Rattle.plan.specs.Plan.{factorsOf, someCombination, combinesTo}
 use Rattle.plan.specs.Check.{badLevels, badFactors, badCounts, badWord, badSign, badWords, dependent, factorWord, losesFactor, planNumber, withPlan}
 use Rattle.columns.specs.Lines.{wrongLength, isBeyond, anyBeyond}
 use Rattle.rows.specs.Kinds.{kindByMark, kindOf, badMark, badMarks}
-use Rattle.anova.specs.declared.types.Source.{Source}
 use Rattle.anova.specs.declared.types.Figures.{Figures}
 use Rattle.anova.specs.Table.{wrongRows, wrongLengths, tableNumber, sourceOf, totalSource, checksOf, tableFigures, tableTotals, tableRows}
 

@@ -1,14 +1,14 @@
 -- The walk over the totals: what rows and sums hold after e totals. Beside it what the other inner functions form.
 --
---   walkNumerator ts ws e         the numerator of effect e, from its total and its weight
---   walkKind letters kinds e      the kind of the row of effect e
+--   walkNumerator ts d ds e       the numerator of effect e, from its total, the denominator and its divisor
+--   walkRow, walkKind             the row of effect e, and its kind
 --   rowsAfter, numeratorsAfter, degreesAfter    the rows, and the sums of the four kinds, after e totals
 --   zeros n                       a column of n zeros
 --   squaresOf xs                  the sum of the squares of a column
 --   afterRound n xs               a column after a round of n sets
 use mathlib.Core.Bool.{cond}
 use mathlib.Core.List.{List}
-use Prim.Native.Nat.{ℕ, _*_}
+use Prim.Native.Nat.{ℕ, _*_, _/_}
 use lib.Dec.{ltb}
 use lib.IntN.{ℤ, natAbs}
 use lib.ListN.{length, getD}
@@ -22,8 +22,8 @@ use Rattle.contrasts.specs.Totals.{round}
 -- ---- the walk
 
 -- "a total squared times (denominator over divisor)"
-abbrev pub walkNumerator : List ℤ → List ℕ → ℕ → ℕ
-walkNumerator ts ws e = natAbs (read ts e) * natAbs (read ts e) * getD ws e 0
+abbrev pub walkNumerator : List ℤ → ℕ → List ℕ → ℕ → ℕ
+walkNumerator ts d ds e = natAbs (read ts e) * natAbs (read ts e) * (d / getD ds e 0)
 
 abbrev pub walkRow : List ℕ → ℕ → ℕ
 walkRow effects e = getD effects e 0
@@ -31,11 +31,11 @@ walkRow effects e = getD effects e 0
 abbrev pub walkKind : List ℕ → List ℕ → ℕ → ℕ
 walkKind effects kinds e = getD kinds (getD effects e 0) 0
 
-unfoldable pub rowsAfter : List ℤ → List ℕ → List ℕ → ℕ → ℕ → List ℕ
-rowsAfter ts effects ws r e = sorted r (walkRow effects) (walkNumerator ts ws) e
+unfoldable pub rowsAfter : List ℤ → List ℕ → ℕ → List ℕ → ℕ → ℕ → List ℕ
+rowsAfter ts effects d ds r e = sorted r (walkRow effects) (walkNumerator ts d ds) e
 
-unfoldable pub numeratorsAfter : List ℤ → List ℕ → List ℕ → List ℕ → ℕ → List ℕ
-numeratorsAfter ts effects ws kinds e = sorted 4 (walkKind effects kinds) (walkNumerator ts ws) e
+unfoldable pub numeratorsAfter : List ℤ → List ℕ → ℕ → List ℕ → List ℕ → ℕ → List ℕ
+numeratorsAfter ts effects d ds kinds e = sorted 4 (walkKind effects kinds) (walkNumerator ts d ds) e
 
 unfoldable pub degreesAfter : List ℕ → List ℕ → ℕ → List ℕ
 degreesAfter effects kinds e = sorted 4 (walkKind effects kinds) (λ i. 1) e

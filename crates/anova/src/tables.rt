@@ -14,11 +14,12 @@ use super::types::Table;
 use super::walks::Sums;
 use super::walks::clear;
 use super::walks::walk;
-use effects::weights;
+use effects::divisors;
 use plan::Plan;
 use rows::kinds;
 use yates::totals;
 ghost use Rattle.contrasts.specs.Columns.{totalsOf};
+ghost use Rattle.contrasts.specs.Totals.{denominator};
 ghost use Rattle.plan.specs.Outcome.{outcome};
 ghost use Rattle.plan.specs.Plan.{factorsOf};
 ghost use Rattle.anova.specs.Ready.{TableReady};
@@ -33,20 +34,27 @@ const MEAN: usize = 2;
 const BLOCKS: usize = 3;
 
 // 2 to the power k at two levels. At three 6 to the power k, which is the number of runs times that of rows.
-fn denominator(levels: u8, runs: usize, rows: usize) -> u64
+fn denominator(levels: u8, runs: usize, rows: usize) -> u32
     requires { ⌜ (runs ≤ 1024) × (rows ≤ 1024) ⌝ }
     ensures { λ r. ⌜ r ≡ cond (eqb levels 2) runs (runs * rows) ⌝ }
 {
     if levels == 2 {
-        runs as u64
+        runs as u32
     } else {
-        (runs * rows) as u64
+        (runs * rows) as u32
     }
 }
 
-// Totals, rows and the sums of the four kinds.
-fn form(p: Plan, readings: &[i32], marks: &[u8], column: &mut [i64], rows: &mut [u64]) -> Sums
-    requires { ⌜ TableReady p (now readings) (now marks) (now column) (now rows) ⌝ }
+// Totals, rows and the sums of the four kinds, over the given denominator.
+fn form(
+    p: Plan,
+    over: u32,
+    readings: &[i32],
+    marks: &[u8],
+    column: &mut [i64],
+    rows: &mut [u64],
+) -> Sums
+    requires { ⌜ (over ≡ denominator (factorsOf p)) × TableReady p (now readings) (now marks) (now column) (now rows) ⌝ }
     ensures { λ r. ⌜ r ≡ sumsOf p (now (readings .entry)) (now (marks .entry)) ⌝ }
     ensures { λ _. ⌜ now (column .exit) ≡ totalsOf (factorsOf p) (now (readings .entry)) ⌝ }
     ensures { λ _. ⌜ now (rows .exit) ≡ rowsOf p (now (readings .entry)) ⌝ }
@@ -54,12 +62,13 @@ fn form(p: Plan, readings: &[i32], marks: &[u8], column: &mut [i64], rows: &mut 
     totals(p, readings, column);
     clear(rows);
     let row_of_effects = effects::rows(p);
-    let weight_of_effects = weights(p);
+    let divisor_of_effects = divisors(p);
     let kind_of_rows = kinds(p, marks);
     walk(
         column,
         &row_of_effects,
-        &weight_of_effects,
+        over,
+        &divisor_of_effects,
         &kind_of_rows,
         rows,
     )
@@ -84,13 +93,13 @@ fn make(p: Plan, readings: &[i32], marks: &[u8], column: &mut [i64], rows: &mut 
     ensures { λ _. ⌜ now (rows .exit) ≡ rowsOf p (now (readings .entry)) ⌝ }
 {
     let from_readings = check_number(p.levels, p.k, readings, column);
-    let sums = form(p, readings, marks, column, rows);
-    let denominator = denominator(p.levels, column.len(), rows.len());
-    let total = denominator * sum_of_squares(readings);
+    let over = denominator(p.levels, column.len(), rows.len());
+    let sums = form(p, over, readings, marks, column, rows);
+    let total = (over as u64) * sum_of_squares(readings);
     let numerators = sums.numerators;
     let degrees = sums.degrees;
     Figures {
-        denominator,
+        denominator: over as u64,
         mean: source(numerators, degrees, MEAN),
         kept: source(numerators, degrees, KEPT),
         blocks: source(numerators, degrees, BLOCKS),

@@ -38,15 +38,16 @@ pub fn clear(rows: &mut [u64])
 pub fn walk(
     totals: &[i64],
     effects: &[u16],
-    weights: &[u32],
+    denominator: u32,
+    divisors: &[u32],
     kinds: &[u8],
     rows: &mut [u64],
 ) -> Sums
-    requires { ⌜ Walkable (now totals) (now effects) (now weights) (now kinds) (now rows) ⌝ }
-    ensures { λ r. ⌜ r .numerators ≡ numeratorsAfter (now (totals .entry)) (now (effects .entry)) (now (weights .entry)) (now (kinds .entry)) (length (now (totals .entry))) ⌝ }
+    requires { ⌜ Walkable (now totals) (now effects) denominator (now divisors) (now kinds) (now rows) ⌝ }
+    ensures { λ r. ⌜ r .numerators ≡ numeratorsAfter (now (totals .entry)) (now (effects .entry)) denominator (now (divisors .entry)) (now (kinds .entry)) (length (now (totals .entry))) ⌝ }
     ensures { λ r. ⌜ r .degrees ≡ degreesAfter (now (effects .entry)) (now (kinds .entry)) (length (now (totals .entry))) ⌝ }
     ensures { λ r. ⌜ r .totals ≡ Σ (length (now (totals .entry))) (read (now (totals .entry))) ⌝ }
-    ensures { λ _. ⌜ now (rows .exit) ≡ rowsAfter (now (totals .entry)) (now (effects .entry)) (now (weights .entry)) (length (now (rows .entry))) (length (now (totals .entry))) ⌝ }
+    ensures { λ _. ⌜ now (rows .exit) ≡ rowsAfter (now (totals .entry)) (now (effects .entry)) denominator (now (divisors .entry)) (length (now (rows .entry))) (length (now (totals .entry))) ⌝ }
 {
     let mut numerators = [0u64; 4];
     let mut degrees = [0u64; 4];
@@ -56,7 +57,7 @@ pub fn walk(
         let total = totals[e];
         let row = effects[e] as usize;
         let kind = kinds[row] as usize;
-        let n = numerator(total, weights[e]);
+        let n = numerator(total, denominator / divisors[e]);
         rows[row] += n;
         numerators[kind] += n;
         degrees[kind] += 1;

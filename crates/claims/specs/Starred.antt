@@ -8,7 +8,7 @@
 use mathlib.Core.Path.{_≡_, refl}
 use mathlib.Core.Bool.{Bool, true, false}
 use mathlib.Core.List.{List, [], _∷_, _++_, map}
-use Prim.Native.Nat.{ℕ, suc, _*_, _^_}
+use Prim.Native.Nat.{ℕ, _*_, _^_}
 use lib.Count.{trailingZeros}
 use lib.IntN.{ℤ, pos, negsuc}
 use lib.Ieee.{Float, nan, inf, fin, odd}
@@ -26,7 +26,7 @@ use Rattle.contrasts.specs.Totals.{size, coef*, total, divisor*, denominator, w
 use Rattle.words.specs.Words.{letters, beyond, times, combined, any, among, repeated}
 use Rattle.plan.specs.declared.types.Plan.{Plan}
 use Rattle.plan.specs.Examples.{plan, AB, BC, ABC, AD, BCD}
-use Rattle.plan.specs.Outcome.{Outcome, given, refused, outcome, written}
+use Rattle.plan.specs.Outcome.{Outcome, given, refused, outcome}
 use Rattle.plan.specs.Plan.{factorsOf, someCombination, combinesTo, confoundedIn}
 use Rattle.plan.specs.Check.{badLevels, badFactors, badCounts, badWord, badSign, badWords, dependent, factorWord, losesFactor, planNumber, withPlan}
 use Rattle.aliases.specs.Alias.{baseWord, turnsOf, turns, aliasNumber}
@@ -34,7 +34,6 @@ use Rattle.columns.specs.Lines.{wrongLength, isBeyond, anyBeyond}
 use Rattle.rows.specs.Kinds.{kindByMark, kindOf, badMark, badMarks}
 use Rattle.estimates.specs.Quotient.{quotient}
 use Rattle.estimates.specs.Estimate.{Value, mean, difference, lost, meanOf, differenceOf, valueBy, estimateValue, estimateNumber}
-use Rattle.anova.specs.declared.types.Figures.{Figures}
 use Rattle.anova.specs.Table.{wrongRows, wrongLengths, tableNumber, sourceOf, totalSource, checksOf, tableFigures, tableTotals, tableRows, rowsOf}
 
 pub record Run : Type 0 where

@@ -5,7 +5,7 @@
 --   AddsUp p readings marks      what is claimed of the figures
 --   NoneBeyond p readings marks  no number of the table exceeds the limit
 --   TableAddsUp, table-adds-up   THE CLAIM, and its proof
-use mathlib.Core.Path.{_≡_, refl, sym, _∙_, ap}
+use mathlib.Core.Path.{_≡_, refl, _∙_}
 use mathlib.Core.Bool.{cond}
 use mathlib.Core.List.{List}
 use Prim.Native.Nat.{ℕ, _+_, _*_, _^_, _<_, _≤_}

@@ -1,7 +1,7 @@
 -- Laws that the proofs cite.
 --
 --   Rowed      the loops that fill the rows of effects
---   Shared     the loop that fills their weights
+--   Shared     the loops that fill their divisors
 --   Divided    the loops that divide the table of divisors
 pub mod Rowed
 pub mod Shared

@@ -1,119 +1,115 @@
--- The loop that fills the weights of effects.
+-- The loops that fill the divisors of effects.
 --
---   Weighed k n e ys                          weights are filled below effect e
---   weighed-none, weighed-more, weighed-all   before the first effect, after one more, after the last
---   shifted                                   the denominator, as the code forms it
---   some-divisor                              no divisor is 0
---   no-effects, of-two, of-three              the weights of a plan, by its levels
---   is-three                                  what is known of a three-level plan
-use mathlib.Core.Path.{_≡_, refl, sym, _∙_}
+--   OfTwo n e ys                            at two levels, divisors are filled below effect e
+--   two-none, two-more, two-all             before the first effect, after one more, after the last
+--   OfThree k n e ys                        at three levels, likewise
+--   three-none, three-more, three-all       before the first effect, after one more, after the last
+--   no-effects, of-two, of-three            the divisors of a plan, by its levels
+--   is-two, is-three                        what is known of a plan of two or of three levels
+use mathlib.Core.Path.{_≡_, refl, sym, _∙_, ap}
 use mathlib.Core.Bool.{cond}
 use mathlib.Core.List.{List}
 use mathlib.Core.Logic.{_⊎_, inl, inr}
-use Prim.Native.Nat.{ℕ, _+_, _-_, _*_, _/_, _%_, _^_, _<_, _≤_}
-use native.Mathlib.Nat.{mod-eq-of-lt, pow-le-pow-right}
-use native.Mathlib.Decide.{decLt}
+use Prim.Native.Nat.{ℕ, _+_, _-_, _*_, _/_, _^_, _<_, _≤_}
+use native.Mathlib.Nat.{pow-le-pow-right}
 use native.Mathlib.Omega.{arith}
-use borrow.Author.Tests.{lt-ltb, le-ltb}
+use borrow.Author.Tests.{le-ltb}
 use lib.Dec.{ltb}
 use lib.ListN.{getD, set, replicate, length-replicate, getD-replicate}
 use Rattle.algebra.specs.Fill.{Filled, filled-none, filled-more}
-use Rattle.algebra.specs.Naturals.{mul-pow}
-use Rattle.algebra.specs.Tab.{tab, getD-tab, is-tab}
+use Rattle.algebra.specs.Tab.{tab, getD-tab, is-tab, tab-cong}
 use Rattle.contrasts.specs.Tables.{three}
-use Rattle.contrasts.specs.Totals.{divisor*, weight*}
-use Rattle.contrasts.specs.Laws.Divisors.{divisor*-pos}
-use Rattle.contrasts.specs.Laws.ThreeLevels.{divisor-three, weight-three}
-use Rattle.contrasts.specs.Laws.TwoLevels.{weight-two}
+use Rattle.contrasts.specs.Totals.{divisor*}
+use Rattle.contrasts.specs.Laws.ThreeLevels.{divisor-three}
+use Rattle.contrasts.specs.Laws.TwoLevels.{divisor-two}
 use Rattle.plan.specs.declared.types.Plan.{Plan}
 use Rattle.plan.specs.Check.{runCount}
 use Rattle.plan.specs.Plan.{factorsOf}
 use Rattle.plan.specs.Laws.Sizes.{RunsTwo, RunsThree, runs-known}
 use Rattle.effects.specs.Divisors.{divisorsOf}
-use Rattle.effects.specs.Effects.{effectWeights}
+use Rattle.effects.specs.Effects.{effectDivisors}
 
--- ---- the loop
+ones : (f : ℕ → ℕ) → Filled 1024 f (λ j. 1) 0 (replicate 1024 1)
+ones f =
+    filled-none 0 1024 f (λ j. 1) (replicate 1024 1) (length-replicate {A = ℕ} 1024 1) (λ j h. getD-replicate {A = ℕ} 1024 j 1 0 h)
 
-pub record Weighed (k n e : ℕ) (ys : List ℕ) : Type 0 where
+-- ---- two levels
+
+pub record OfTwo (n e : ℕ) (ys : List ℕ) : Type 0 where
   pub upto : e ≤ n
-  pub so : Filled 1024 (weight* (replicate k three)) (λ j. 1) e ys
+  pub so : Filled 1024 (λ j. n) (λ j. 1) e ys
 
-pub weighed-none : (k n : ℕ) → Weighed k n 0 (replicate 1024 1)
-weighed-none k n =
-    record {
-      upto = omega arith;
-      so = filled-none 0 1024 (weight* (replicate k three)) (λ j. 1) (replicate 1024 1) (length-replicate {A = ℕ} 1024 1)
-          (λ j h. getD-replicate {A = ℕ} 1024 j 1 0 h);
-    }
+pub two-none : (n : ℕ) → OfTwo n 0 (replicate 1024 1)
+two-none n = record { upto = omega arith; so = ones (λ j. n) }
 
--- at most 729 effects
-few : (k n : ℕ) → n ≡ 3 ^ k → k ≤ 6 → n ≤ 729
-few k n e h = rw e (pow-le-pow-right {n = 3} (omega arith) {i = k} {j = 6} h)
+module _ {n e : ℕ} {ys : List ℕ} (w : OfTwo n e ys) where
+  pub two-more : e < n → n ≤ 1024 → OfTwo n (e + 1) (set ys e n)
+  two-more h most = record { upto = omega arith; so = filled-more 0 (w .so) (omega arith) refl }
+
+  pub two-all : n ≤ e → ys ≡ tab 1024 (λ j. cond (ltb j n) n 1)
+  two-all h =
+      let d : e ≡ n = omega (arith, w .upto) in
+      w .so .so ∙ rw d refl
+
+-- ---- three levels
+
+pub record OfThree (k n e : ℕ) (ys : List ℕ) : Type 0 where
+  pub upto : e ≤ n
+  pub so : Filled 1024 (divisor* (replicate k three)) (λ j. 1) e ys
+
+pub three-none : (k n : ℕ) → OfThree k n 0 (replicate 1024 1)
+three-none k n = record { upto = omega arith; so = ones (divisor* (replicate k three)) }
 
 module _ {k n : ℕ} (count : n ≡ 3 ^ k) (most : k ≤ 6) where
   pub n-fits : n ≤ 729
-  n-fits = few k n count most
+  n-fits = rw count (pow-le-pow-right {n = 3} (omega arith) {i = k} {j = 6} most)
 
-  -- 3 to the power k times 2 to the power k
-  pub shifted : n * 2 ^ k % 2 ^ 32 ≡ 6 ^ k
-  shifted =
-      let p : n * 2 ^ k ≡ 6 ^ k = rw count (sym (mul-pow 3 2 k)) in
-      let s : 6 ^ k ≤ 46656 = pow-le-pow-right {n = 6} (omega arith) {i = k} {j = 6} most in
-      rw p (mod-eq-of-lt (omega (arith, s)))
+  pub three-more : {e : ℕ} → e < n → {ds : List ℕ} → ds ≡ divisorsOf k → {ys : List ℕ} → OfThree k n e ys → OfThree k n (e + 1) (set ys e (getD ds e 0))
+  unfolding divisorsOf
+  three-more {e} low {ds} of w =
+      record { upto = omega arith; so = filled-more 0 (w .so) (omega (arith, n-fits)) (rw of (getD-tab 0 729 _ e (omega (arith, n-fits)) ∙ sym fewer)) }
+    where
+      six : k + (6 - k) ≡ 6
+      six = omega arith
 
-  module _ {e : ℕ} (low : e < n) {ds : List ℕ} (of : ds ≡ divisorsOf k) where
-    the-divisor : getD ds e 0 ≡ divisor* (replicate 6 three) e / 3 ^ (6 - k)
-    unfolding divisorsOf
-    the-divisor = rw of (getD-tab 0 729 _ e (omega (arith, n-fits)))
+      fewer : divisor* (replicate k three) e ≡ divisor* (replicate 6 three) e / 3 ^ (6 - k)
+      fewer = divisor-three k (6 - k) e (rw (← count) low) ∙ rw six refl
 
-    own-divisor : getD ds e 0 ≡ divisor* (replicate k three) e
-    own-divisor =
-        let six : k + (6 - k) ≡ 6 = omega arith in
-        the-divisor ∙ sym (divisor-three k (6 - k) e (rw (← count) low) ∙ rw six refl)
-
-    pub some-divisor : 0 < getD ds e 0
-    some-divisor = rw own-divisor (divisor*-pos (replicate k three) e)
-
-    pub weighed-more : {ys : List ℕ} → Weighed k n e ys → Weighed k n (e + 1) (set ys e (n * 2 ^ k % 2 ^ 32 / getD ds e 0))
-    weighed-more w =
-        record {
-          upto = omega arith;
-          so = filled-more 0 (w .so) (omega (arith, n-fits)) (rw (shifted, the-divisor) (sym (weight-three k e most (rw (← count) low))));
-        }
-
-pub weighed-all : {k n e : ℕ} {ys : List ℕ} → Weighed k n e ys → n ≤ e → ys ≡ tab 1024 (λ j. cond (ltb j n) (weight* (replicate k three) j) 1)
-weighed-all {n = n} {e = e} w h =
+pub three-all : {k n e : ℕ} {ys : List ℕ} → OfThree k n e ys → n ≤ e → ys ≡ tab 1024 (λ j. cond (ltb j n) (divisor* (replicate k three) j) 1)
+three-all {n = n} {e = e} w h =
     let d : e ≡ n = omega (arith, w .upto) in
     w .so .so ∙ rw d refl
 
--- ---- the weights of a plan
+-- ---- the divisors of a plan
 
 module _ (p : Plan) {n : ℕ} (count : n ≡ runCount p) where
-  ones : ((e : ℕ) → e < n → weight* (factorsOf p) e ≡ 1) → replicate 1024 1 ≡ effectWeights p
-  unfolding effectWeights
-  ones h =
-      rw (← count) (is-tab 0 (replicate 1024 1) 1024 (λ e. cond (ltb e n) (weight* (factorsOf p) e) 1) (length-replicate {A = ℕ} 1024 1)
-      (λ e l. getD-replicate {A = ℕ} 1024 e 1 0 l ∙ by e (decLt e n)))
-    where
-      by : (e : ℕ) → Dec (e < n) → 1 ≡ cond (ltb e n) (weight* (factorsOf p) e) 1
-      by e (yes k) = rw (lt-ltb e n k) (sym (h e k))
-      by e (no k) = rw (le-ltb e n (omega arith)) refl
-
-  pub no-effects : n ≡ 0 → replicate 1024 1 ≡ effectWeights p
-  no-effects z = ones (λ e h. absurd (omega arith))
+  pub no-effects : n ≡ 0 → replicate 1024 1 ≡ effectDivisors p
+  unfolding effectDivisors
+  no-effects z =
+      rw (← count) (is-tab 0 (replicate 1024 1) 1024 (λ e. cond (ltb e n) (divisor* (factorsOf p) e) 1) (length-replicate {A = ℕ} 1024 1)
+      (λ e l. getD-replicate {A = ℕ} 1024 e 1 0 l ∙ rw (le-ltb e n (omega arith)) refl))
 
   module _ (some : n ≡ 0 → ⊥) where
-    pub of-two : p .levels ≡ 2 → replicate 1024 1 ≡ effectWeights p
-    of-two l = by (runs-known p)
-      where
-        by : (runCount p ≡ 0) ⊎ (RunsTwo p ⊎ RunsThree p) → replicate 1024 1 ≡ effectWeights p
-        by (inl z) = absurd (some (count ∙ z))
-        by (inr (inl a)) = ones (λ e h. rw (a .factors) (weight-two (p .k) e))
-        by (inr (inr a)) = absurd (omega (arith, l, a .levels))
+    module _ (l : p .levels ≡ 2) where
+      known-two : RunsTwo p
+      known-two = by (runs-known p)
+        where
+          by : (runCount p ≡ 0) ⊎ (RunsTwo p ⊎ RunsThree p) → RunsTwo p
+          by (inl z) = absurd (some (count ∙ z))
+          by (inr (inl a)) = a
+          by (inr (inr a)) = absurd (omega (arith, l, a .levels))
+
+      pub is-two : n ≤ 1024
+      is-two = rw (count ∙ known-two .count) (pow-le-pow-right {n = 2} (omega arith) {i = p .k} {j = 10} (known-two .most))
+
+      pub of-two : {ys : List ℕ} → ys ≡ tab 1024 (λ e. cond (ltb e n) n 1) → ys ≡ effectDivisors p
+      unfolding effectDivisors
+      of-two e =
+          e ∙ rw (← count) (tab-cong 0 1024 _ _ (λ j _. ap (λ d. cond (ltb j n) d 1) (count ∙ known-two .count ∙ sym (rw (known-two .factors) (divisor-two (p .k) j)))))
 
     module _ (l : p .levels ≡ 2 → ⊥) where
-      known : RunsThree p
-      known = by (runs-known p)
+      known-three : RunsThree p
+      known-three = by (runs-known p)
         where
           by : (runCount p ≡ 0) ⊎ (RunsTwo p ⊎ RunsThree p) → RunsThree p
           by (inl z) = absurd (some (count ∙ z))
@@ -121,8 +117,8 @@ module _ (p : Plan) {n : ℕ} (count : n ≡ runCount p) where
           by (inr (inr a)) = a
 
       pub is-three : (n ≡ 3 ^ p .k) × (p .k ≤ 6)
-      is-three = (count ∙ known .count, known .most)
+      is-three = (count ∙ known-three .count, known-three .most)
 
-      pub of-three : {ys : List ℕ} → ys ≡ tab 1024 (λ e. cond (ltb e n) (weight* (replicate (p .k) three) e) 1) → ys ≡ effectWeights p
-      unfolding effectWeights
-      of-three e = e ∙ rw (← count, known .factors) refl
+      pub of-three : {ys : List ℕ} → ys ≡ tab 1024 (λ e. cond (ltb e n) (divisor* (replicate (p .k) three) e) 1) → ys ≡ effectDivisors p
+      unfolding effectDivisors
+      of-three e = e ∙ rw (← count, known-three .factors) refl

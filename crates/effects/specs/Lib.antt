@@ -1,6 +1,6 @@
 -- What the calls on effects promise.
 --
---   Effects    the rows and the weights of a plan's effects
+--   Effects    the rows and the divisors of a plan's effects
 --   Divisors   the table of divisors, and the divisors of fewer factors
 pub mod Effects
 pub mod Divisors

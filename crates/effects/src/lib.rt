@@ -1,11 +1,11 @@
-// The effects of a plan: the row that each belongs to, and its weight in the sum of squares.
+// The effects of a plan: the row that each belongs to, and its divisor.
 //
-//   rows(p)      the row of each effect
-//   weights(p)   the weight of each effect: denominator over divisor
-mod divisors;
+//   rows(p)       the row of each effect
+//   divisors(p)   the divisor of each effect
+mod fewer;
 mod letters;
 mod shares;
 mod table;
 
 pub use letters::rows;
-pub use shares::weights;
+pub use shares::divisors;

@@ -1,43 +1,56 @@
-// The weights of effects: denominator over divisor.
+// The divisors of effects.
 ghost use mathlib.Core.Path.{_≡_};
 ghost use mathlib.Core.Bool.{cond};
-ghost use Prim.Native.Nat.{_/_, _-_, _^_, _≤_};
+ghost use Prim.Native.Nat.{_^_, _≤_};
 ghost use lib.Dec.{ltb};
 ghost use lib.ListN.{replicate};
 ghost use Rattle.algebra.specs.Tab.{tab};
 ghost use Rattle.contrasts.specs.Tables.{three};
-ghost use Rattle.contrasts.specs.Totals.{weight*};
-use super::divisors::fewer_factors;
+ghost use Rattle.contrasts.specs.Totals.{divisor*};
+use super::fewer::fewer_factors;
 use plan::Plan;
 use sizes::runs;
-ghost use Rattle.effects.specs.Effects.{effectWeights};
+ghost use Rattle.effects.specs.Effects.{effectDivisors};
 
-// At three levels: 6 to the power k over the divisor. There are n effects.
-fn weights_of_three(n: usize, k: usize) -> [u32; 1024]
-    requires { ⌜ (n ≡ 3 ^ k) × (k ≤ 6) ⌝ }
-    ensures { λ r. ⌜ r ≡ tab 1024 (λ e. cond (ltb e n) (weight* (replicate k three) e) 1) ⌝ }
+// At two levels all divisors are the number of runs, 2 to the power k.
+fn divisors_of_two(n: usize) -> [u32; 1024]
+    requires { ⌜ n ≤ 1024 ⌝ }
+    ensures { λ r. ⌜ r ≡ tab 1024 (λ e. cond (ltb e n) n 1) ⌝ }
 {
-    let divisors = fewer_factors(k);
-    let denominator = (n as u32) << k;
-    let mut weights = [1u32; 1024];
+    let mut divisors = [1u32; 1024];
     let mut e = 0;
     while e < n {
-        weights[e] = denominator / divisors[e];
+        divisors[e] = n as u32;
         e += 1;
     }
-    weights
+    divisors
 }
 
-// The weight of each effect, and 1 where a plan has no such effect. At two levels all weights are 1.
-pub fn weights(p: Plan) -> [u32; 1024]
-    ensures { λ r. ⌜ r ≡ effectWeights p ⌝ }
+// At three levels they are those of the table for so many factors. There are n effects.
+fn divisors_of_three(n: usize, k: usize) -> [u32; 1024]
+    requires { ⌜ (n ≡ 3 ^ k) × (k ≤ 6) ⌝ }
+    ensures { λ r. ⌜ r ≡ tab 1024 (λ e. cond (ltb e n) (divisor* (replicate k three) e) 1) ⌝ }
+{
+    let table = fewer_factors(k);
+    let mut divisors = [1u32; 1024];
+    let mut e = 0;
+    while e < n {
+        divisors[e] = table[e];
+        e += 1;
+    }
+    divisors
+}
+
+// The divisor of each effect, and 1 where a plan has no such effect.
+pub fn divisors(p: Plan) -> [u32; 1024]
+    ensures { λ r. ⌜ r ≡ effectDivisors p ⌝ }
 {
     let n = runs(p);
     if n == 0 {
         return [1; 1024];
     }
     if p.levels == 2 {
-        return [1; 1024];
+        return divisors_of_two(n);
     }
-    weights_of_three(n, p.k as usize)
+    divisors_of_three(n, p.k as usize)
 }

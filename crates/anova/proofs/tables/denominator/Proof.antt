@@ -8,6 +8,8 @@ pub denominator-spec : {M : Type 1} → statement M
 denominator-spec =
     tie.close
     (tie.spec
+    (λ c. omega arith)
+    (λ c. omega (arith, mul-le-mul (c .before .pre .0) (c .before .pre .1)))
     (λ c. omega (arith, mul-le-mul (c .before .pre .0) (c .before .pre .1)))
     (λ c. search tests)
     (λ c. search tests))

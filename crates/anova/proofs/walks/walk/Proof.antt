@@ -8,10 +8,10 @@ use Rattle.anova.proofs.walks.walk.Statement.{statement}
 use Rattle.anova.proofs.walks.walk.Tie as tie
 
 abbrev Inv-loop : tie.InvT-loop
-Inv-loop totals effects weights kinds rows₀ numerators₀ degrees₀ sum₀ e₀ rows numerators degrees sum e = Walking totals effects weights kinds (length rows₀) e rows numerators degrees sum
+Inv-loop totals effects denominator divisors kinds rows₀ numerators₀ degrees₀ sum₀ e₀ rows numerators degrees sum e = Walking totals effects denominator divisors kinds (length rows₀) e rows numerators degrees sum
 
 abbrev μ-loop : tie.MeasureT-loop
-μ-loop totals effects weights kinds rows₀ numerators₀ degrees₀ sum₀ e₀ rows numerators degrees sum e = length totals - e
+μ-loop totals effects denominator divisors kinds rows₀ numerators₀ degrees₀ sum₀ e₀ rows numerators degrees sum e = length totals - e
 
 pub walk-spec : {M : Type 1} → statement M
 walk-spec =
@@ -28,7 +28,8 @@ walk-spec =
     (λ c. omega (arith, c .before .before .before .before .before .before .before .before .before .pre .row-there _ (c .before .before .before .loop-test .taken), c .before .before .before .before .before .before .before .before .before .pre .kinds-long))
     (λ c. omega (arith, c .before .before .before .before .before .before .before .before .before .pre .four-kinds _ (c .before .before .before .loop-test .taken)))
     (λ c. omega arith)
-    (λ c. omega (arith, c .before .before .before .before .before .before .before .before .before .before .pre .weights-long))
+    (λ c. omega (arith, c .before .before .before .before .before .before .before .before .before .before .pre .divisors-long))
+    (λ c. c .before .before .before .before .before .before .before .before .before .before .pre .divisors-some _ (c .before .before .before .before .loop-test .taken))
     (λ c κs. rw (kept _ (c .before .before .before .total .given)) (weighable (c .before .before .before .before .before .before .before .before .before .before .pre) (c .before .before .before .before .before .loop .inv) (c .before .before .before .before .loop-test .taken)))
     (λ c. omega (arith, c .before .before .before .before .before .before .before .before .before .before .before .pre .row-there _ (c .before .before .before .before .before .loop-test .taken)))
     (λ c. omega (arith, c .before .before .before .before .before .before .before .before .before .before .before .before .pre .row-there _ (c .before .before .before .before .before .before .loop-test .taken), rows-long (c .before .before .before .before .before .before .before .before .before .before .before .before .pre) (c .before .before .before .before .before .before .before .loop .inv)))

@@ -1,8 +1,8 @@
 use mathlib.Core.Path.{sym}
 use native.Mathlib.Omega.{arith}
 use Rattle.effects.proofs.Divided.{Missing, missing-none, missing-long, missing-more, missing-all}
-use Rattle.effects.proofs.divisors.fewer_factors.Statement.{statement}
-use Rattle.effects.proofs.divisors.fewer_factors.Tie as tie
+use Rattle.effects.proofs.fewer.fewer_factors.Statement.{statement}
+use Rattle.effects.proofs.fewer.fewer_factors.Tie as tie
 
 abbrev Inv-loop : tie.InvT-loop
 Inv-loop k divisors₀ factors₀ divisors factors = Missing k factors divisors

@@ -2,8 +2,8 @@ use Prim.Native.Nat.{_-_}
 use native.Mathlib.Omega.{arith}
 use lib.ListN.{length}
 use Rattle.effects.proofs.Divided.{Divided, divided-none, divided-long, divided-more, divided-all}
-use Rattle.effects.proofs.divisors.divide_by_three.Statement.{statement}
-use Rattle.effects.proofs.divisors.divide_by_three.Tie as tie
+use Rattle.effects.proofs.fewer.divide_by_three.Statement.{statement}
+use Rattle.effects.proofs.fewer.divide_by_three.Tie as tie
 
 abbrev Inv-loop : tie.InvT-loop
 Inv-loop divisors₀ e₀ divisors e = Divided divisors₀ e divisors

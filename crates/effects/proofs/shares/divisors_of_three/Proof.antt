@@ -1,0 +1,28 @@
+use Prim.Native.Nat.{_-_}
+use native.Mathlib.Omega.{arith}
+use Rattle.effects.proofs.Shared.{OfThree, three-none, three-more, three-all, n-fits}
+use Rattle.effects.proofs.shares.divisors_of_three.Statement.{statement}
+use Rattle.effects.proofs.shares.divisors_of_three.Tie as tie
+
+abbrev Inv-loop : tie.InvT-loop
+Inv-loop n k table divisors₀ e₀ divisors e = OfThree k n e divisors
+
+abbrev μ-loop : tie.MeasureT-loop
+μ-loop n k table divisors₀ e₀ divisors e = n - e
+
+pub divisors-of-three-spec : {M : Type 1} → statement M
+divisors-of-three-spec =
+    tie.close
+    (tie.spec
+    Inv-loop
+    μ-loop
+    (λ c κs. tt)
+    (λ c. three-none _ _)
+    (λ c. omega (arith, n-fits (c .before .before .before .pre .0) (c .before .before .before .pre .1)))
+    (λ c. omega (arith, n-fits (c .before .before .before .pre .0) (c .before .before .before .pre .1)))
+    (λ c. omega (arith, n-fits (c .before .before .before .pre .0) (c .before .before .before .pre .1)))
+    (λ c. omega (arith, n-fits (c .before .before .before .pre .0) (c .before .before .before .pre .1)))
+    (λ c. omega (arith, n-fits (c .before .before .before .pre .0) (c .before .before .before .pre .1)))
+    (λ c. omega (arith, n-fits (c .before .before .before .pre .0) (c .before .before .before .pre .1)))
+    (λ c. three-more (c .before .before .before .pre .0) (c .before .before .before .pre .1) (c .loop-test .taken) (c .before .before .fewer-factors .ensures) (c .before .loop .inv))
+    (λ c. three-all (c .before .loop .inv) (c .loop-test .left)))
