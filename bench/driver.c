@@ -2,6 +2,7 @@
 
    Passes: a column is set from the readings, and the pass of each factor is called on it; the setting is counted, on every side alike.
    Totals: one call, from the readings to the totals of all effects.
+   Tables: one call, from the readings and marks to totals, rows, figures and checks; every third row but the mean is marked.
    First every side must give the same answers and columns, also where it refuses. Then the sides take turns in short batches, so that other
    work on the machine falls on all of them; a side's time is that of its fastest batch.
 
@@ -15,20 +16,34 @@
 
 typedef uint8_t pass_call(uint8_t levels, uint8_t k, size_t factor, int64_t *column, size_t length);
 typedef uint8_t totals_call(uint8_t levels, uint8_t k, const int32_t *readings, size_t readings_length, int64_t *totals, size_t totals_length);
+typedef uint8_t table_call(uint8_t levels, uint8_t k, const int32_t *readings, size_t readings_length, const uint8_t *marks,
+                           size_t marks_length, int64_t *totals, size_t totals_length, uint64_t *rows, size_t rows_length,
+                           uint64_t *figures, size_t figures_length, int64_t *checks, size_t checks_length);
 
 pass_call yates_pass, plain_yates_pass, native_yates_pass;
 totals_call yates_totals, plain_yates_totals, native_yates_totals;
+table_call anova_table, plain_anova_table, native_anova_table;
 
 enum { RATTLE, PLAIN, NATIVE, SIDES };
 static pass_call *const passes[SIDES] = {yates_pass, plain_yates_pass, native_yates_pass};
 static totals_call *const totals[SIDES] = {yates_totals, plain_yates_totals, native_yates_totals};
+static table_call *const tables[SIDES] = {anova_table, plain_anova_table, native_anova_table};
 
-enum { MOST = 1024, ROOM = MOST + 1, BATCHES = 30, BATCH_NS = 500000 };
+enum { MOST = 1024, ROOM = MOST + 1, FIGURES = 11, CHECKS = 2, BATCHES = 30, BATCH_NS = 500000 };
 static const int64_t READING_LIMIT = 100000, VALUE_LIMIT = 409600000;
 
 /* One place of each for all sides, so that none has a better one. */
 static _Alignas(64) int32_t readings[ROOM];
 static _Alignas(64) int64_t values[ROOM], column[ROOM];
+static _Alignas(64) uint8_t marks[ROOM];
+
+/* What the table call writes, with a place more than it is given. */
+static _Alignas(64) struct made {
+    _Alignas(64) int64_t totals[ROOM];
+    _Alignas(64) uint64_t rows[ROOM];
+    uint64_t figures[FIGURES + 1];
+    int64_t checks[CHECKS + 1];
+} made;
 
 static size_t runs_of(unsigned levels, unsigned k)
 {
@@ -47,6 +62,13 @@ static void take_readings(void)
         readings[i] = (int32_t)((int64_t)((state >> 33) % (2 * READING_LIMIT + 1)) - READING_LIMIT);
         values[i] = readings[i];
     }
+}
+
+/* Every row whose number leaves the given rest by 3, but not the mean. */
+static void take_marks(size_t rest)
+{
+    for (size_t row = 0; row < ROOM; row++)
+        marks[row] = row > 0 && row % 3 == rest;
 }
 
 /* ---- the sides agree */
@@ -88,6 +110,53 @@ static void compare_totals(unsigned levels, unsigned k, size_t readings_length, 
     compared++;
 }
 
+static uint8_t call_table(int side, unsigned levels, unsigned k, const size_t lengths[6])
+{
+    return tables[side](levels, k, readings, lengths[0], marks, lengths[1], made.totals, lengths[2], made.rows, lengths[3], made.figures,
+                        lengths[4], made.checks, lengths[5]);
+}
+
+/* All that the call writes is compared, also beyond the lengths that it was given. */
+static void compare_table(unsigned levels, unsigned k, const size_t lengths[6])
+{
+    static struct made wanted;
+    memset(&made, 0x55, sizeof made);
+    uint8_t number = call_table(RATTLE, levels, k, lengths);
+    memcpy(&wanted, &made, sizeof made);
+    for (int side = PLAIN; side < SIDES; side++) {
+        memset(&made, 0x55, sizeof made);
+        if (call_table(side, levels, k, lengths) != number || memcmp(&made, &wanted, sizeof made) != 0)
+            differ("table", levels, k);
+    }
+    compared++;
+}
+
+/* Tables of a plan: with several marks, and with each length one too small and one too great. */
+static void compare_tables(unsigned levels, unsigned k, size_t n)
+{
+    size_t rows = runs_of(2, k) < MOST ? runs_of(2, k) : MOST;
+    size_t lengths[6] = {n, rows, n, rows, FIGURES, CHECKS};
+    for (size_t rest = 0; rest <= 3; rest++) {
+        take_marks(rest);
+        compare_table(levels, k, lengths);
+    }
+    for (int i = 0; i < 6; i++) {
+        size_t length = lengths[i];
+        for (size_t other = length == 0 ? 0 : length - 1; other <= length + 1; other++) {
+            lengths[i] = other;
+            compare_table(levels, k, lengths);
+        }
+        lengths[i] = length;
+    }
+    for (size_t row = 0; row < rows; row += row < 8 ? 1 : 37)
+        for (int mark = 1; mark <= 2; mark++) {
+            uint8_t before = marks[row];
+            marks[row] = (uint8_t)mark;
+            compare_table(levels, k, lengths);
+            marks[row] = before;
+        }
+}
+
 static void compare_sides(void)
 {
     for (unsigned levels = 0; levels <= 5; levels++)
@@ -101,9 +170,11 @@ static void compare_sides(void)
                 compare_totals(levels, k, length, n);
                 compare_totals(levels, k, n, length);
             }
+            compare_tables(levels, k, n);
         }
     /* Values and readings at a limit and beyond it. */
     const size_t places[] = {0, 1, 17, 79, 80, 81};
+    const size_t lengths[] = {81, 16, 81, 16, FIGURES, CHECKS};
     for (size_t p = 0; p < sizeof places / sizeof *places; p++)
         for (int64_t over = -1; over <= 1; over++)
             for (int sign = -1; sign <= 1; sign += 2) {
@@ -116,10 +187,21 @@ static void compare_sides(void)
                 int32_t reading = readings[at];
                 readings[at] = (int32_t)(sign * (READING_LIMIT + over));
                 compare_totals(3, 4, 81, 81);
+                compare_table(3, 4, lengths);
                 readings[at] = sign < 0 ? INT32_MIN : INT32_MAX;
                 compare_totals(3, 4, 81, 81);
+                compare_table(3, 4, lengths);
                 readings[at] = reading;
             }
+    /* All readings at a limit, where numbers grow largest. */
+    for (int sign = -1; sign <= 1; sign += 2) {
+        for (size_t i = 0; i < ROOM; i++)
+            readings[i] = (int32_t)(sign * READING_LIMIT);
+        for (unsigned levels = 2; levels <= 3; levels++)
+            for (unsigned k = 1; k <= (levels == 2 ? 10 : 6); k++)
+                compare_tables(levels, k, runs_of(levels, k));
+    }
+    take_readings();
 }
 
 /* ---- the times */
@@ -139,8 +221,11 @@ static void work(int kind, int side, unsigned levels, unsigned k, size_t n)
         memcpy(column, values, n * sizeof *column);
         for (size_t factor = 0; factor < k; factor++)
             answers |= passes[side](levels, k, factor, column, n);
-    } else {
+    } else if (kind == 1) {
         answers |= totals[side](levels, k, readings, n, column, n);
+    } else {
+        const size_t rows = (size_t)1 << k, lengths[6] = {n, rows, n, rows, FIGURES, CHECKS};
+        answers |= call_table(side, levels, k, lengths);
     }
 }
 
@@ -177,13 +262,14 @@ static void measure(int kind, unsigned levels, unsigned k, double ns[SIDES])
 
 int main(void)
 {
-    static const char *const names[] = {"passes", "totals"};
+    static const char *const names[] = {"passes", "totals", "table"};
     static const unsigned plans[][2] = {{2, 10}, {3, 6}};
 
     take_readings();
     compare_sides();
+    take_marks(0);
     printf("compared %ld\n", compared);
-    for (int kind = 0; kind < 2; kind++)
+    for (int kind = 0; kind < 3; kind++)
         for (int p = 0; p < 2; p++) {
             unsigned levels = plans[p][0], k = plans[p][1];
             double ns[SIDES];

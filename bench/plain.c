@@ -1,4 +1,5 @@
-/* The pass and the totals call in plain C: the same signatures, refusals in the same order, and columns as those of crates/exported.
+/* The pass, the totals call and the table call in plain C: the same signatures, refusals in the same order, and numbers as those of
+   crates/exported.
    SIDE is put before the names, so that one program can hold several compilations of this file. */
 #include <stddef.h>
 #include <stdint.h>
@@ -58,6 +59,26 @@ static void pass_over(uint8_t levels, size_t spacing, int64_t *column, size_t le
             stretch_three(part, part + spacing, part + 2 * spacing, spacing);
 }
 
+/* The readings become the totals of all effects. */
+static void form_totals(uint8_t levels, uint8_t k, const int32_t *readings, int64_t *totals, size_t runs)
+{
+    for (size_t i = 0; i < runs; i++)
+        totals[i] = readings[i];
+    size_t spacing = 1;
+    for (uint8_t f = 0; f < k; f++) {
+        pass_over(levels, spacing, totals, runs);
+        spacing *= levels;
+    }
+}
+
+static int any_reading_beyond(const int32_t *readings, size_t runs)
+{
+    for (size_t i = 0; i < runs; i++)
+        if (readings[i] > READING_LIMIT || readings[i] < -READING_LIMIT)
+            return 1;
+    return 0;
+}
+
 uint8_t NAME(yates_pass)(uint8_t levels, uint8_t k, size_t factor, int64_t *column, size_t length)
 {
     uint8_t number = plan_number(levels, k);
@@ -82,15 +103,157 @@ uint8_t NAME(yates_totals)(uint8_t levels, uint8_t k, const int32_t *readings, s
     size_t runs = power(levels, k);
     if (readings_length != runs || totals_length != runs)
         return 11;
+    if (any_reading_beyond(readings, runs))
+        return 12;
+    form_totals(levels, k, readings, totals, runs);
+    return 0;
+}
+
+/* ---- the table */
+
+enum { FIGURES = 11, CHECKS = 2 };
+enum { KEPT, ERROR, MEAN, BLOCKS, KINDS };
+
+/* The divisors of six three-level factors: entry e is the product of 3, 2 or 6 by the digits of e. */
+static const uint32_t divisors[729] = {
+    729, 486, 1458, 486, 324, 972, 1458, 972, 2916, 486, 324, 972, 324, 216, 648, 972, 648, 1944, 1458, 972, 2916, 972, 648, 1944, 2916,
+    1944, 5832, 486, 324, 972, 324, 216, 648, 972, 648, 1944, 324, 216, 648, 216, 144, 432, 648, 432, 1296, 972, 648, 1944, 648, 432, 1296,
+    1944, 1296, 3888, 1458, 972, 2916, 972, 648, 1944, 2916, 1944, 5832, 972, 648, 1944, 648, 432, 1296, 1944, 1296, 3888, 2916, 1944, 5832,
+    1944, 1296, 3888, 5832, 3888, 11664, 486, 324, 972, 324, 216, 648, 972, 648, 1944, 324, 216, 648, 216, 144, 432, 648, 432, 1296, 972,
+    648, 1944, 648, 432, 1296, 1944, 1296, 3888, 324, 216, 648, 216, 144, 432, 648, 432, 1296, 216, 144, 432, 144, 96, 288, 432, 288, 864,
+    648, 432, 1296, 432, 288, 864, 1296, 864, 2592, 972, 648, 1944, 648, 432, 1296, 1944, 1296, 3888, 648, 432, 1296, 432, 288, 864, 1296,
+    864, 2592, 1944, 1296, 3888, 1296, 864, 2592, 3888, 2592, 7776, 1458, 972, 2916, 972, 648, 1944, 2916, 1944, 5832, 972, 648, 1944, 648,
+    432, 1296, 1944, 1296, 3888, 2916, 1944, 5832, 1944, 1296, 3888, 5832, 3888, 11664, 972, 648, 1944, 648, 432, 1296, 1944, 1296, 3888,
+    648, 432, 1296, 432, 288, 864, 1296, 864, 2592, 1944, 1296, 3888, 1296, 864, 2592, 3888, 2592, 7776, 2916, 1944, 5832, 1944, 1296, 3888,
+    5832, 3888, 11664, 1944, 1296, 3888, 1296, 864, 2592, 3888, 2592, 7776, 5832, 3888, 11664, 3888, 2592, 7776, 11664, 7776, 23328, 486,
+    324, 972, 324, 216, 648, 972, 648, 1944, 324, 216, 648, 216, 144, 432, 648, 432, 1296, 972, 648, 1944, 648, 432, 1296, 1944, 1296, 3888,
+    324, 216, 648, 216, 144, 432, 648, 432, 1296, 216, 144, 432, 144, 96, 288, 432, 288, 864, 648, 432, 1296, 432, 288, 864, 1296, 864,
+    2592, 972, 648, 1944, 648, 432, 1296, 1944, 1296, 3888, 648, 432, 1296, 432, 288, 864, 1296, 864, 2592, 1944, 1296, 3888, 1296, 864,
+    2592, 3888, 2592, 7776, 324, 216, 648, 216, 144, 432, 648, 432, 1296, 216, 144, 432, 144, 96, 288, 432, 288, 864, 648, 432, 1296, 432,
+    288, 864, 1296, 864, 2592, 216, 144, 432, 144, 96, 288, 432, 288, 864, 144, 96, 288, 96, 64, 192, 288, 192, 576, 432, 288, 864, 288,
+    192, 576, 864, 576, 1728, 648, 432, 1296, 432, 288, 864, 1296, 864, 2592, 432, 288, 864, 288, 192, 576, 864, 576, 1728, 1296, 864, 2592,
+    864, 576, 1728, 2592, 1728, 5184, 972, 648, 1944, 648, 432, 1296, 1944, 1296, 3888, 648, 432, 1296, 432, 288, 864, 1296, 864, 2592,
+    1944, 1296, 3888, 1296, 864, 2592, 3888, 2592, 7776, 648, 432, 1296, 432, 288, 864, 1296, 864, 2592, 432, 288, 864, 288, 192, 576, 864,
+    576, 1728, 1296, 864, 2592, 864, 576, 1728, 2592, 1728, 5184, 1944, 1296, 3888, 1296, 864, 2592, 3888, 2592, 7776, 1296, 864, 2592, 864,
+    576, 1728, 2592, 1728, 5184, 3888, 2592, 7776, 2592, 1728, 5184, 7776, 5184, 15552, 1458, 972, 2916, 972, 648, 1944, 2916, 1944, 5832,
+    972, 648, 1944, 648, 432, 1296, 1944, 1296, 3888, 2916, 1944, 5832, 1944, 1296, 3888, 5832, 3888, 11664, 972, 648, 1944, 648, 432, 1296,
+    1944, 1296, 3888, 648, 432, 1296, 432, 288, 864, 1296, 864, 2592, 1944, 1296, 3888, 1296, 864, 2592, 3888, 2592, 7776, 2916, 1944, 5832,
+    1944, 1296, 3888, 5832, 3888, 11664, 1944, 1296, 3888, 1296, 864, 2592, 3888, 2592, 7776, 5832, 3888, 11664, 3888, 2592, 7776, 11664,
+    7776, 23328, 972, 648, 1944, 648, 432, 1296, 1944, 1296, 3888, 648, 432, 1296, 432, 288, 864, 1296, 864, 2592, 1944, 1296, 3888, 1296,
+    864, 2592, 3888, 2592, 7776, 648, 432, 1296, 432, 288, 864, 1296, 864, 2592, 432, 288, 864, 288, 192, 576, 864, 576, 1728, 1296, 864,
+    2592, 864, 576, 1728, 2592, 1728, 5184, 1944, 1296, 3888, 1296, 864, 2592, 3888, 2592, 7776, 1296, 864, 2592, 864, 576, 1728, 2592,
+    1728, 5184, 3888, 2592, 7776, 2592, 1728, 5184, 7776, 5184, 15552, 2916, 1944, 5832, 1944, 1296, 3888, 5832, 3888, 11664, 1944, 1296,
+    3888, 1296, 864, 2592, 3888, 2592, 7776, 5832, 3888, 11664, 3888, 2592, 7776, 11664, 7776, 23328, 1944, 1296, 3888, 1296, 864, 2592,
+    3888, 2592, 7776, 1296, 864, 2592, 864, 576, 1728, 2592, 1728, 5184, 3888, 2592, 7776, 2592, 1728, 5184, 7776, 5184, 15552, 5832, 3888,
+    11664, 3888, 2592, 7776, 11664, 7776, 23328, 3888, 2592, 7776, 2592, 1728, 5184, 7776, 5184, 15552, 11664, 7776, 23328, 7776, 5184,
+    15552, 23328, 15552, 46656,
+};
+
+/* What the totals must add up to. At three levels the column is used for the rounds. */
+static int64_t check_number(uint8_t levels, uint8_t k, const int32_t *readings, int64_t *column, size_t runs)
+{
+    if (levels == 2)
+        return (int64_t)runs * readings[0];
     for (size_t i = 0; i < runs; i++)
-        if (readings[i] > READING_LIMIT || readings[i] < -READING_LIMIT)
-            return 12;
+        column[i] = readings[i];
+    for (size_t sets = runs / 3; k > 0; k--, sets /= 3)
+        for (size_t i = 0; i < sets; i++)
+            column[i] = 3 * column[3 * i] - column[3 * i + 1] + column[3 * i + 2];
+    return column[0];
+}
+
+static uint64_t sum_of_squares(const int32_t *readings, size_t runs)
+{
+    uint64_t sum = 0;
     for (size_t i = 0; i < runs; i++)
-        totals[i] = readings[i];
-    size_t spacing = 1;
-    for (uint8_t f = 0; f < k; f++) {
-        pass_over(levels, spacing, totals, runs);
-        spacing *= levels;
+        sum += (uint64_t)((int64_t)readings[i] * readings[i]);
+    return sum;
+}
+
+/* Numerators and degrees of the kinds of rows, and the sum of the totals. */
+struct sums {
+    uint64_t numerators[KINDS], degrees[KINDS];
+    int64_t totals;
+};
+
+/* Row and effect are one number, and all weights are 1. */
+static struct sums walk_two(const int64_t *totals, const uint8_t *marks, uint64_t *rows, size_t runs)
+{
+    struct sums sums = {{0}, {0}, 0};
+    for (size_t e = 0; e < runs; e++) {
+        int64_t total = totals[e];
+        uint64_t numerator = (uint64_t)(total * total);
+        unsigned kind = marks[e];
+        rows[e] = numerator;
+        sums.numerators[kind] += numerator;
+        sums.degrees[kind]++;
+        sums.totals += total;
     }
+    /* The mean is no kept effect, though its mark is 0. */
+    sums.numerators[MEAN] = rows[0];
+    sums.degrees[MEAN] = 1;
+    sums.numerators[KEPT] -= rows[0];
+    sums.degrees[KEPT]--;
+    return sums;
+}
+
+/* A row adds the effects of its letters; each is weighed by the denominator over its divisor. The divisor is the entry over 3 for each
+   factor missing, so the weight is the denominator times these over the entry. */
+static struct sums walk_three(uint8_t k, const int64_t *totals, const uint8_t *marks, uint64_t *rows, size_t runs, size_t row_count)
+{
+    struct sums sums = {{0}, {0}, 0};
+    uint16_t row_of[729];
+    uint32_t over = (uint32_t)(runs * row_count);
+    for (uint8_t f = k; f < 6; f++)
+        over *= 3;
+    for (size_t row = 0; row < row_count; row++)
+        rows[row] = 0;
+    row_of[0] = 0;
+    for (size_t e = 0; e < runs; e++) {
+        size_t row = 2 * row_of[e / 3] + (e % 3 != 0);
+        row_of[e] = (uint16_t)row;
+        int64_t total = totals[e];
+        uint64_t numerator = (uint64_t)(total * total) * (over / divisors[e]);
+        unsigned kind = row == 0 ? MEAN : marks[row];
+        rows[row] += numerator;
+        sums.numerators[kind] += numerator;
+        sums.degrees[kind]++;
+        sums.totals += total;
+    }
+    return sums;
+}
+
+uint8_t NAME(anova_table)(uint8_t levels, uint8_t k, const int32_t *readings, size_t readings_length, const uint8_t *marks,
+                          size_t marks_length, int64_t *totals, size_t totals_length, uint64_t *rows, size_t rows_length,
+                          uint64_t *figures, size_t figures_length, int64_t *checks, size_t checks_length)
+{
+    uint8_t number = plan_number(levels, k);
+    if (number != 0)
+        return number;
+    if (figures_length != FIGURES || checks_length != CHECKS)
+        return 11;
+    size_t runs = power(levels, k), row_count = (size_t)1 << k;
+    if (readings_length != runs || totals_length != runs || rows_length != row_count || marks_length != row_count)
+        return 11;
+    if (any_reading_beyond(readings, runs))
+        return 12;
+    for (size_t row = 0; row < row_count; row++)
+        if (marks[row] > 1)
+            return 13;
+    if (marks[0] == 1)
+        return 13;
+
+    checks[1] = check_number(levels, k, readings, totals, runs);
+    form_totals(levels, k, readings, totals, runs);
+    struct sums sums = levels == 2 ? walk_two(totals, marks, rows, runs) : walk_three(k, totals, marks, rows, runs, row_count);
+    checks[0] = sums.totals;
+    figures[0] = levels == 2 ? runs : runs * row_count;
+    static const int order[] = {MEAN, KEPT, BLOCKS, ERROR};
+    for (int i = 0; i < KINDS; i++) {
+        figures[1 + 2 * i] = sums.degrees[order[i]];
+        figures[2 + 2 * i] = sums.numerators[order[i]];
+    }
+    figures[9] = runs;
+    figures[10] = figures[0] * sum_of_squares(readings, runs);
     return 0;
 }

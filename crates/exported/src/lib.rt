@@ -2,16 +2,28 @@
 //
 //   yates_pass(levels, k, factor, column)       the pass of one factor, in place
 //   yates_totals(levels, k, readings, totals)   the totals of all effects
+//   anova_table(levels, k, readings, marks, totals, rows, figures, checks)   the analysis of variance
 //
 // Each gives 0 where it is done and the number of the refusal where it is not. In C a slice is a pointer and a length:
 //
 //   uint8_t yates_pass(uint8_t levels, uint8_t k, size_t factor, int64_t *column, size_t length);
 //   uint8_t yates_totals(uint8_t levels, uint8_t k, const int32_t *readings, size_t readings_length, int64_t *totals, size_t totals_length);
+//   uint8_t anova_table(uint8_t levels, uint8_t k, const int32_t *readings, size_t readings_length, const uint8_t *marks, size_t marks_length,
+//                       int64_t *totals, size_t totals_length, uint64_t *rows, size_t rows_length, uint64_t *figures, size_t figures_length,
+//                       int64_t *checks, size_t checks_length);
 ghost use mathlib.Core.Path.{_≡_};
+
+mod handed;
+
+use handed::tabulate;
+use handed::wrong_room;
 use plan::Plan;
+use plan::lowest;
 use yates::Answer;
 ghost use Rattle.yates.specs.Calls.{passNumber, passColumn, totalsNumber, totalsColumn};
+ghost use Rattle.plan.specs.Check.{withPlan};
 ghost use Rattle.exported.specs.Whole.{wholePlan};
+ghost use Rattle.exported.specs.Handed.{roomNumber, callNumber, callTotals, callRows, callFigures, callChecks};
 
 fn whole(levels: u8, k: u8) -> Plan
     ensures { λ r. ⌜ r ≡ wholePlan levels k ⌝ }
@@ -49,4 +61,38 @@ pub extern "C" fn yates_totals(levels: u8, k: u8, readings: &[i32], totals: &mut
         Answer::Done => 0,
         Answer::Refused(n) => n,
     }
+}
+
+// The number of a call that has no room for its figures.
+fn room_number(p: Plan) -> u8
+    ensures { λ r. ⌜ r ≡ roomNumber p ⌝ }
+{
+    let n = lowest(p);
+    if n == 0 { 11 } else { n }
+}
+
+// The analysis of variance: totals, row numerators, and the figures as 11 numbers and the checks as 2, in the order that `figureNumbers` and
+// `checkNumbers` give.
+#[no_mangle]
+pub extern "C" fn anova_table(
+    levels: u8,
+    k: u8,
+    readings: &[i32],
+    marks: &[u8],
+    totals: &mut [i64],
+    rows: &mut [u64],
+    figures: &mut [u64],
+    checks: &mut [i64],
+) -> u8
+    ensures { λ r. ⌜ r ≡ callNumber (wholePlan levels k) (now (readings .entry)) (now (marks .entry)) (now (totals .entry)) (now (rows .entry)) (now (figures .entry)) (now (checks .entry)) ⌝ }
+    ensures { λ _. ⌜ now (totals .exit) ≡ callTotals (wholePlan levels k) (now (readings .entry)) (now (marks .entry)) (now (totals .entry)) (now (rows .entry)) (now (figures .entry)) (now (checks .entry)) ⌝ }
+    ensures { λ _. ⌜ now (rows .exit) ≡ callRows (wholePlan levels k) (now (readings .entry)) (now (marks .entry)) (now (totals .entry)) (now (rows .entry)) (now (figures .entry)) (now (checks .entry)) ⌝ }
+    ensures { λ _. ⌜ now (figures .exit) ≡ callFigures (wholePlan levels k) (now (readings .entry)) (now (marks .entry)) (now (totals .entry)) (now (rows .entry)) (now (figures .entry)) (now (checks .entry)) ⌝ }
+    ensures { λ _. ⌜ now (checks .exit) ≡ callChecks (wholePlan levels k) (now (readings .entry)) (now (marks .entry)) (now (totals .entry)) (now (rows .entry)) (now (figures .entry)) (now (checks .entry)) ⌝ }
+{
+    let p = whole(levels, k);
+    if wrong_room(figures.len(), checks.len()) {
+        return room_number(p);
+    }
+    tabulate(p, readings, marks, totals, rows, figures, checks)
 }

@@ -7,8 +7,8 @@ pub yates-pass-spec : {M : Type 1} → statement M
 yates-pass-spec =
     tie.close
     (tie.spec
-    (λ c κs. search needs)
-    (λ c κs. search needs)
+    (λ c κs. tt)
+    (λ c κs. tt)
     (λ c. search needs)
     (λ c. search needs)
     (λ c. search needs)

@@ -1,0 +1,134 @@
+-- Room for the figures of a table, and the whole call with it and without it.
+--
+--   figures-wrong, by-checks    whether there is room, length by length
+--   room-is                     where there is
+--   room-by-plan, room-eleven   the number of a call without room
+--   table-made, table-refused   the table call and its figures as numbers, where there is room
+--   without-room, with-room     the whole call
+use mathlib.Core.Path.{_≡_, refl, sym, _∙_, ap}
+use mathlib.Core.Bool.{Bool, true, false, not, true≢false}
+use mathlib.Core.List.{List, [], _∷_}
+use Prim.Native.Nat.{ℕ}
+use native.Mathlib.Decide.{ℕ-discrete}
+use native.Mathlib.Omega.{arith}
+use borrow.Author.Tests.{eq-eqb, ne-eqb, eqb-true, not-false}
+use lib.Dec.{eqb}
+use lib.IntN.{ℤ}
+use lib.ListN.{length}
+use Rattle.algebra.specs.Tests.{neither}
+use Rattle.contrasts.specs.Columns.{totalsOf}
+use Rattle.plan.specs.declared.types.Plan.{Plan}
+use Rattle.plan.specs.Check.{planNumber}
+use Rattle.plan.specs.Laws.Answers.{plan-first, after-plan, given-with, unwritten, written-new, number-of}
+use Rattle.plan.specs.Outcome.{line, numberOf, Outcome, given, refused, outcome, written}
+use Rattle.plan.specs.Plan.{factorsOf}
+use Rattle.anova.specs.declared.types.Figures.{Figures}
+use Rattle.anova.specs.declared.types.Table.{Table}
+use Rattle.anova.specs.declared.types.Table.the-variants.{Made, Refused}
+use Rattle.anova.specs.Table.{tableNumber, tableFigures, tableTotals, tableRows, tableOutcome, rowsOf}
+use Rattle.exported.specs.Handed.{figureNumbers, checkNumbers, wrongRoom, roomNumber, callNumber, callTotals, callRows, callFigures, callChecks}
+
+-- ---- the lengths
+
+module _ (m n : ℕ) where
+  pub figures-wrong : (m ≡ 11 → ⊥) → true ≡ wrongRoom m n
+  unfolding wrongRoom
+  figures-wrong h = rw (ne-eqb m 11 h) refl
+
+  pub by-checks : m ≡ 11 → not (eqb n 2) ≡ wrongRoom m n
+  unfolding wrongRoom
+  by-checks h = rw (eq-eqb m 11 h) refl
+
+  pub room-is : wrongRoom m n ≡ false → (m ≡ 11) × (n ≡ 2)
+  unfolding wrongRoom
+  room-is e =
+      let a = neither (not (eqb m 11)) (not (eqb n 2)) e in
+      (eqb-true m 11 (not-false (eqb m 11) (a .0)), eqb-true n 2 (not-false (eqb n 2) (a .1)))
+
+-- ---- no room
+
+module _ (p : Plan) where
+  pub room-by-plan : {n : ℕ} → n ≡ planNumber p → (n ≡ 0 → ⊥) → n ≡ roomNumber p
+  unfolding roomNumber
+  room-by-plan e h = plan-first p (line 11 true ∷ []) e h
+
+  pub room-eleven : planNumber p ≡ 0 → 11 ≡ roomNumber p
+  unfolding roomNumber
+  room-eleven e = sym (after-plan p (line 11 true ∷ []) e)
+
+  room-stopped : roomNumber p ≡ 0 → ⊥
+  room-stopped e = by (ℕ-discrete (planNumber p) 0)
+    where
+      by : Dec (planNumber p ≡ 0) → ⊥
+      by (yes d) = absurd (omega (arith, room-eleven d, e))
+      by (no d) = d (room-by-plan refl d ∙ e)
+
+-- ---- room
+
+abbrev isGiven : {A : Type 0} → Outcome A → Bool
+isGiven (given v) = true
+isGiven (refused n) = false
+
+abbrev valueOr : {A : Type 0} → A → Outcome A → A
+valueOr d (given v) = v
+valueOr d (refused n) = d
+
+module _ (m : ℕ) (v : Figures) {r : Table} (told : tableOutcome r ≡ outcome m v) where
+  pub table-made : (f : Figures) → r ≡ Made f → (figures : List ℕ) (checks : List ℤ) {fs : List ℕ} {cs : List ℤ} → fs ≡ figureNumbers f → cs ≡ checkNumbers f
+      → (0 ≡ m) × ((fs ≡ written m (figureNumbers v) figures) × (cs ≡ written m (checkNumbers v) checks))
+  table-made f e figures checks a b =
+      let done : 0 ≡ m = ap numberOf (ap tableOutcome (sym e) ∙ told) ∙ number-of m v in
+      let same : f ≡ v = ap (valueOr f) (ap tableOutcome (sym e) ∙ told ∙ given-with m v (sym done)) in (
+        done,
+        (
+          a ∙ ap figureNumbers same ∙ written-new m (figureNumbers v) figures (sym done),
+          b ∙ ap checkNumbers same ∙ written-new m (checkNumbers v) checks (sym done),
+        ),
+      )
+
+  pub table-refused : (n : ℕ) → r ≡ Refused n → (figures : List ℕ) (checks : List ℤ)
+      → (n ≡ m) × ((figures ≡ written m (figureNumbers v) figures) × (checks ≡ written m (checkNumbers v) checks))
+  table-refused n e figures checks =
+      let number : n ≡ m = ap numberOf (ap tableOutcome (sym e) ∙ told) ∙ number-of m v in
+      let not-made : (m ≡ 0 → ⊥) = λ z. true≢false (sym (ap isGiven (ap tableOutcome (sym e) ∙ told ∙ given-with m v z))) in
+      (number, (unwritten m (figureNumbers v) figures not-made, unwritten m (checkNumbers v) checks not-made))
+
+-- ---- the whole call
+
+module _ (p : Plan) (readings : List ℤ) (marks : List ℕ) (totals : List ℤ) (rows figures : List ℕ) (checks : List ℤ) where
+  -- what the call promises of its number and of the four slices
+  abbrev Called : ℕ → List ℤ → List ℕ → List ℕ → List ℤ → Type 0
+  Called n ts rs fs cs =
+      (n ≡ callNumber p readings marks totals rows figures checks)
+      × ((ts ≡ callTotals p readings marks totals rows figures checks)
+      × ((rs ≡ callRows p readings marks totals rows figures checks)
+      × ((fs ≡ callFigures p readings marks totals rows figures checks)
+      × (cs ≡ callChecks p readings marks totals rows figures checks))))
+
+  pub without-room : wrongRoom (length figures) (length checks) ≡ true → {n : ℕ} → n ≡ roomNumber p → Called n totals rows figures checks
+  unfolding callNumber callTotals callRows callFigures callChecks
+  without-room w e =
+      let h = room-stopped p in
+      rw w (
+        e,
+        (
+          unwritten (roomNumber p) (totalsOf (factorsOf p) readings) totals h,
+          (
+            unwritten (roomNumber p) (rowsOf p readings) rows h,
+            (
+              unwritten (roomNumber p) (figureNumbers (tableFigures p readings marks)) figures h,
+              unwritten (roomNumber p) (checkNumbers (tableFigures p readings marks)) checks h,
+            ),
+          ),
+        ),
+      )
+
+  pub with-room : wrongRoom (length figures) (length checks) ≡ false → {n : ℕ} {ts : List ℤ} {rs fs : List ℕ} {cs : List ℤ}
+      → n ≡ tableNumber p readings marks totals rows
+      → ts ≡ tableTotals p readings marks totals rows
+      → rs ≡ tableRows p readings marks totals rows
+      → fs ≡ written (tableNumber p readings marks totals rows) (figureNumbers (tableFigures p readings marks)) figures
+      → cs ≡ written (tableNumber p readings marks totals rows) (checkNumbers (tableFigures p readings marks)) checks
+      → Called n ts rs fs cs
+  unfolding callNumber callTotals callRows callFigures callChecks tableTotals tableRows
+  with-room w n t r f c = rw w (n, (t, (r, (f, c))))

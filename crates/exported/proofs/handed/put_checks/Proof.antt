@@ -1,0 +1,14 @@
+use mathlib.Core.Path.{_∙_}
+use borrow.Author.Needs.{needs}
+use Rattle.algebra.specs.Size.{kept}
+use Rattle.exported.proofs.handed.put_checks.Statement.{statement}
+use Rattle.exported.proofs.handed.put_checks.Tie as tie
+
+pub put-checks-spec : {M : Type 1} → statement M
+put-checks-spec =
+    tie.close
+    (tie.spec
+    (λ c. search needs)
+    (λ c κs. search needs)
+    (λ c. search needs)
+    (λ c. c .before .put-signed .ensures ∙ rw (kept (c .before .before .before .before .before .before .args .f .checks .totals) (c .before .before .before .before .struct-told .given .0 .1), kept (c .before .before .before .before .before .before .args .f .checks .readings) (c .before .before .before .before .struct-told .given .1 .0 .1))))

@@ -1,0 +1,68 @@
+-- The table as numbers in slices that a program in C lends.
+--
+--   figureNumbers, checkNumbers   the figures as 11 numbers, and the checks as 2, in the order of the slices
+--   wrongRoom m n                 slices of m and n places are not as long
+--   roomNumber p                  the number of a call that has no such room
+--   callNumber                    the lowest number that applies, 0 where the table is made
+--   callTotals, callRows, callFigures, callChecks    the lent slices at exit
+use mathlib.Core.Bool.{Bool, true, not, cond, _||_}
+use mathlib.Core.List.{List, [], _∷_}
+use Prim.Native.Nat.{ℕ}
+use lib.Dec.{eqb}
+use lib.IntN.{ℤ}
+use lib.ListN.{length}
+use Rattle.contrasts.specs.Columns.{totalsOf}
+use Rattle.plan.specs.declared.types.Plan.{Plan}
+use Rattle.plan.specs.Check.{withPlan}
+use Rattle.plan.specs.Outcome.{line, written}
+use Rattle.plan.specs.Plan.{factorsOf}
+use Rattle.anova.specs.declared.types.Figures.{Figures}
+use Rattle.anova.specs.Table.{tableNumber, tableFigures, rowsOf}
+
+-- ---- the numbers
+
+abbrev pub figureNumbers : Figures → List ℕ
+figureNumbers f =
+    f .denominator
+    ∷ f .mean .degrees
+    ∷ f .mean .numerator
+    ∷ f .kept .degrees
+    ∷ f .kept .numerator
+    ∷ f .blocks .degrees
+    ∷ f .blocks .numerator
+    ∷ f .error .degrees
+    ∷ f .error .numerator
+    ∷ f .total .degrees
+    ∷ f .total .numerator
+    ∷ []
+
+abbrev pub checkNumbers : Figures → List ℤ
+checkNumbers f = f .checks .totals ∷ f .checks .readings ∷ []
+
+-- ---- what is refused
+
+unfoldable pub wrongRoom : ℕ → ℕ → Bool
+wrongRoom figures checks = not (eqb figures 11) || not (eqb checks 2)
+
+-- line 11, after the plan's own numbers
+unfoldable pub roomNumber : Plan → ℕ
+roomNumber p = withPlan p (line 11 true ∷ [])
+
+module _ (p : Plan) (readings : List ℤ) (marks : List ℕ) (totals : List ℤ) (rows figures : List ℕ) (checks : List ℤ) where
+  -- the table's number; without room for figures and checks line 11 applies too
+  unfoldable pub callNumber : ℕ
+  callNumber = cond (wrongRoom (length figures) (length checks)) (roomNumber p) (tableNumber p readings marks totals rows)
+
+  -- ---- what is written
+
+  unfoldable pub callTotals : List ℤ
+  callTotals = written callNumber (totalsOf (factorsOf p) readings) totals
+
+  unfoldable pub callRows : List ℕ
+  callRows = written callNumber (rowsOf p readings) rows
+
+  unfoldable pub callFigures : List ℕ
+  callFigures = written callNumber (figureNumbers (tableFigures p readings marks)) figures
+
+  unfoldable pub callChecks : List ℤ
+  callChecks = written callNumber (checkNumbers (tableFigures p readings marks)) checks

@@ -1,0 +1,108 @@
+// The table as numbers in slices that the caller lends.
+ghost use mathlib.Core.Path.{_≡_};
+ghost use lib.ListN.{length};
+use anova::Figures;
+use anova::Table;
+use plan::Plan;
+ghost use Rattle.plan.specs.Outcome.{written};
+ghost use Rattle.anova.specs.Table.{tableNumber, tableFigures, tableTotals, tableRows};
+ghost use Rattle.exported.specs.Handed.{figureNumbers, checkNumbers, wrongRoom};
+
+const FIGURES: usize = 11;
+
+const CHECKS: usize = 2;
+
+// Whether the slices for figures and checks have other lengths than theirs.
+pub fn wrong_room(figures: usize, checks: usize) -> bool
+    ensures { λ r. ⌜ r ≡ wrongRoom figures checks ⌝ }
+{
+    if figures != FIGURES {
+        return true;
+    }
+    checks != CHECKS
+}
+
+fn put_unsigned(from: &[u64], to: &mut [u64])
+    requires { ⌜ length (now from) ≡ length (now to) ⌝ }
+    ensures { λ _. ⌜ now (to .exit) ≡ now (from .entry) ⌝ }
+{
+    let mut i = 0;
+    while i < from.len() {
+        to[i] = from[i];
+        i += 1;
+    }
+}
+
+fn put_signed(from: &[i64], to: &mut [i64])
+    requires { ⌜ length (now from) ≡ length (now to) ⌝ }
+    ensures { λ _. ⌜ now (to .exit) ≡ now (from .entry) ⌝ }
+{
+    let mut i = 0;
+    while i < from.len() {
+        to[i] = from[i];
+        i += 1;
+    }
+}
+
+// Denominator, then degrees and numerator of mean, kept effects, blocks, error and total.
+fn put_figures(f: Figures, figures: &mut [u64])
+    requires { ⌜ length (now figures) ≡ 11 ⌝ }
+    ensures { λ _. ⌜ now (figures .exit) ≡ figureNumbers f ⌝ }
+{
+    let mean = f.mean;
+    let kept = f.kept;
+    let blocks = f.blocks;
+    let error = f.error;
+    let total = f.total;
+    let numbers = [
+        f.denominator,
+        mean.degrees,
+        mean.numerator,
+        kept.degrees,
+        kept.numerator,
+        blocks.degrees,
+        blocks.numerator,
+        error.degrees,
+        error.numerator,
+        total.degrees,
+        total.numerator,
+    ];
+    put_unsigned(&numbers, figures);
+}
+
+// The sum of the totals, then what it must be by the readings.
+fn put_checks(f: Figures, checks: &mut [i64])
+    requires { ⌜ length (now checks) ≡ 2 ⌝ }
+    ensures { λ _. ⌜ now (checks .exit) ≡ checkNumbers f ⌝ }
+{
+    let both = f.checks;
+    let numbers = [both.totals, both.readings];
+    put_signed(&numbers, checks);
+}
+
+// The table call, where there is room for figures and checks.
+pub fn tabulate(
+    p: Plan,
+    readings: &[i32],
+    marks: &[u8],
+    totals: &mut [i64],
+    rows: &mut [u64],
+    figures: &mut [u64],
+    checks: &mut [i64],
+) -> u8
+    requires { ⌜ (length (now figures) ≡ 11) × (length (now checks) ≡ 2) ⌝ }
+    ensures { λ r. ⌜ r ≡ tableNumber p (now (readings .entry)) (now (marks .entry)) (now (totals .entry)) (now (rows .entry)) ⌝ }
+    ensures { λ _. ⌜ now (totals .exit) ≡ tableTotals p (now (readings .entry)) (now (marks .entry)) (now (totals .entry)) (now (rows .entry)) ⌝ }
+    ensures { λ _. ⌜ now (rows .exit) ≡ tableRows p (now (readings .entry)) (now (marks .entry)) (now (totals .entry)) (now (rows .entry)) ⌝ }
+    ensures { λ _. ⌜ now (figures .exit) ≡ written (tableNumber p (now (readings .entry)) (now (marks .entry)) (now (totals .entry)) (now (rows .entry))) (figureNumbers (tableFigures p (now (readings .entry)) (now (marks .entry)))) (now (figures .entry)) ⌝ }
+    ensures { λ _. ⌜ now (checks .exit) ≡ written (tableNumber p (now (readings .entry)) (now (marks .entry)) (now (totals .entry)) (now (rows .entry))) (checkNumbers (tableFigures p (now (readings .entry)) (now (marks .entry)))) (now (checks .entry)) ⌝ }
+{
+    match anova::table(p, readings, marks, totals, rows) {
+        Table::Made(f) => {
+            put_figures(f, figures);
+            put_checks(f, checks);
+            0
+        }
+        Table::Refused(n) => n,
+    }
+}
