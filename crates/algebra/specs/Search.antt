@@ -5,6 +5,8 @@
 --   some-at, none-at               so where it does there is one, and where it does not f fails at each
 --   Unfound f n i                  a loop up to n has found none below i
 --   unfound, onward, found, nowhere    at its start, at its next turn, where it finds one, at its end
+--   Seen f n i b                   a loop up to n that looks at all numbers has seen those below i, and b is whether one was found
+--   seen-none, seen-more, seen-all    at its start, at its next turn, at its end
 use mathlib.Core.Path.{_≡_, refl, sym, ap, _∙_}
 use mathlib.Core.Bool.{Bool, true, false, _||_, or-true}
 use Prim.Native.Nat.{ℕ, zero, suc, _+_, _<_, _≤_}
@@ -66,3 +68,21 @@ module _ {f : ℕ → Bool} {n i : ℕ} (w : Unfound f n i) where
 
   pub nowhere : n ≤ i → false ≡ some n f
   nowhere h = let e : i ≡ n = omega (arith, w .within) in sym (w .so) ∙ ap (λ (m : ℕ). some m f) e
+
+-- ---- the loop that looks at all numbers
+
+pub record Seen (f : ℕ → Bool) (n i : ℕ) (b : Bool) : Type 0 where
+  pub within : i ≤ n
+  pub so : b ≡ some i f
+
+pub seen-none : (f : ℕ → Bool) (n : ℕ) → Seen f n 0 false
+unfolding some
+seen-none f n = record { within = omega arith; so = refl }
+
+module _ {f : ℕ → Bool} {n i : ℕ} {b : Bool} (w : Seen f n i b) where
+  pub seen-more : i < n → {t : Bool} → t ≡ f i → Seen f n (i + 1) (b || t)
+  unfolding some
+  seen-more h e = record { within = omega arith; so = rw (add-one i, w .so, e) refl }
+
+  pub seen-all : n ≤ i → b ≡ some n f
+  seen-all h = let e : i ≡ n = omega (arith, w .within) in w .so ∙ ap (λ (m : ℕ). some m f) e

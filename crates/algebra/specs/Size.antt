@@ -5,9 +5,9 @@
 --   natAbs-+ℤ, natAbs-sub    the size of a + b, and of a - b, is at most the sum of the sizes
 --   natAbs-Σ                 and so for a finite sum
 --   square                   a a is the square of the size
---   fits                     a size below 2 ^ 63 fits an i64
+--   fits, fits-half          a size below 2 ^ 63 fits an i64, and one below 2 ^ 31 an i32
 --   wrap, back               an i64 as code holds it, as bits and read again, is the number
---   kept                     so of one that is read from a slice
+--   kept, held-half          so of one that is read from a slice, and of an i32
 --   size-below               a size is at most its square
 --   square-fits, square-held, square-is    the square of an i64, as code forms it: it fits, it is not negative, it is the square of the size
 --   widened, widened-fits    an i32 that is read from a slice, as an i64
@@ -68,6 +68,9 @@ mag-le (negsuc n) = omega arith
 pub fits : (z : ℤ) → natAbs z < 2 ^ 63 → SFits w64 z
 fits z h = record { sfits = omega (arith, mag-le z) }
 
+pub fits-half : (z : ℤ) → natAbs z < 2 ^ 31 → SFits w32 z
+fits-half z h = record { sfits = omega (arith, mag-le z) }
+
 abbrev pub wrap : ℤ → ℤ
 wrap z = toZ w64 (ofZ w64 z)
 
@@ -77,14 +80,14 @@ back z h = toZ-ofZ (fits z h)
 pub kept : (z : ℤ) → mag z < 2 ^ 63 → wrap z ≡ z
 kept z h = toZ-ofZ {w = w64} {z = z} (record { sfits = h })
 
-narrow : (z : ℤ) → mag z < 2 ^ 31 → toZ w32 (ofZ w32 z) ≡ z
-narrow z h = toZ-ofZ {w = w32} {z = z} (record { sfits = h })
+pub held-half : (z : ℤ) → mag z < 2 ^ 31 → toZ w32 (ofZ w32 z) ≡ z
+held-half z h = toZ-ofZ {w = w32} {z = z} (record { sfits = h })
 
 pub widened-fits : (z : ℤ) → mag z < 2 ^ 31 → SFits w64 (toZ w32 (ofZ w32 z))
-widened-fits z h = rw (narrow z h) (record { sfits = omega (arith, h) })
+widened-fits z h = rw (held-half z h) (record { sfits = omega (arith, h) })
 
 pub widened : (z : ℤ) → mag z < 2 ^ 31 → wrap (toZ w32 (ofZ w32 z)) ≡ z
-widened z h = toZ-ofZ (widened-fits z h) ∙ narrow z h
+widened z h = toZ-ofZ (widened-fits z h) ∙ held-half z h
 
 -- ---- the square
 

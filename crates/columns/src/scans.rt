@@ -4,7 +4,7 @@ use super::bits::all_bits;
 ghost use Rattle.contrasts.specs.Limits.{readingLimit, valueLimit};
 ghost use Rattle.columns.specs.Lines.{isBeyond, anyBeyond};
 
-const READING_LIMIT: u32 = 100_000;
+const READING_LIMIT: i32 = 100_000;
 
 const VALUE_LIMIT: u32 = 409_600_000;
 
@@ -43,16 +43,23 @@ pub fn any_value_beyond(column: &[i64]) -> bool
     search_values(column)
 }
 
-// Whether a reading is refused.
+// Whether a reading is refused. Both comparisons are made, and the loop does not stop early, so it is compiled to work several readings at a
+// time.
+fn is_reading_beyond(x: i32) -> bool
+    ensures { λ r. ⌜ r ≡ isBeyond readingLimit x ⌝ }
+{
+    (READING_LIMIT < x) | (x < -READING_LIMIT)
+}
+
+// Whether a reading of the column is refused.
 pub fn any_reading_beyond(readings: &[i32]) -> bool
     ensures { λ r. ⌜ r ≡ anyBeyond readingLimit (now (readings .entry)) ⌝ }
 {
+    let mut any = false;
     let mut i = 0;
     while i < readings.len() {
-        if is_beyond(readings[i] as i64, READING_LIMIT) {
-            return true;
-        }
+        any = any | is_reading_beyond(readings[i]);
         i += 1;
     }
-    false
+    any
 }

@@ -8,18 +8,17 @@ use words::combine;
 ghost use Rattle.plan.specs.Plan.{someCombination};
 ghost use Rattle.rows.specs.Kinds.{marked, anyOver, badMarks};
 
-// Whether a mark is neither 0 nor 1.
+// Whether a mark is neither 0 nor 1. The loop does not stop early, so it is compiled to work several marks at a time.
 fn any_over(marks: &[u8]) -> bool
     ensures { λ r. ⌜ r ≡ anyOver (now (marks .entry)) ⌝ }
 {
+    let mut any = false;
     let mut w = 0;
     while w < marks.len() {
-        if 1 < marks[w] {
-            return true;
-        }
+        any = any | (1 < marks[w]);
         w += 1;
     }
-    false
+    any
 }
 
 // Whether a row has mark 1. A row beyond the marks has none.
