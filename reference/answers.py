@@ -251,13 +251,16 @@ def plan_text(plan):
     return "levels %d, k %d, added%s, blocks%s" % (plan.levels, plan.k, added, published.values_text(plan.blocks))
 
 
+def refusal_line(number, own):
+    """The input of a refusal."""
+    marks = "".join(" %d/%d" % pair for pair in enumerate(own.marks) if pair[1])
+    return "refusal %d, %s, totals %d, rows %d, marks %d%s, readings%s, %s" % (
+        number, plan_text(own.plan), own.totals_length, own.rows_length, len(own.marks), marks,
+        published.values_text(own.readings), own.why)
+
+
 def input_lines():
     """The inputs of all refusals and estimates, a line for each."""
-    lines = []
-    for number, own in enumerate(REFUSALS, 1):
-        lines.append("refusal %d (%s): %s, readings%s, marks%s, totals %d long, rows %d long"
-                     % (number, own.why, plan_text(own.plan), published.values_text(own.readings),
-                        published.values_text(own.marks), own.totals_length, own.rows_length))
-    for number, own in enumerate(ESTIMATES, 1):
-        lines.append("estimate %d: %s, effect %d, total %d" % (number, plan_text(own.plan), own.effect, own.total))
-    return lines
+    return ([refusal_line(number, own) for number, own in enumerate(REFUSALS, 1)]
+            + ["estimate %d, %s, effect %d, total %d" % (number, plan_text(own.plan), own.effect, own.total)
+               for number, own in enumerate(ESTIMATES, 1)])

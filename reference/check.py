@@ -1,9 +1,9 @@
-# Compares the stored outputs of the programs with what the reference files here make now. Exits with 1 at a difference.
+# Compares the stored inputs and outputs of the programs with what the reference files here make now. Exits with 1 at a difference.
 #
 #   crates/worked_plans/stdout    the plans of AMCP 706-112, Tables 12-3 and 12-4: amcp.py
 #   crates/worked_totals/stdout   steps, totals and passes of the published examples: published.py, by factab.py
-#
-# The figures of tables.py, worked by anova.py, are checked too. No program works them yet.
+#   crates/worked_tables/stdout   tables, refusals and estimates: tables.py and answers.py, by anova.py
+#   crates/worked_tables/stdin    the inputs of these, which that program reads
 
 import sys
 from pathlib import Path
@@ -18,27 +18,25 @@ ROOT = Path(__file__).resolve().parent.parent
 PROGRAMS = [
     ("worked_plans", amcp),
     ("worked_totals", published),
+    ("worked_tables", tables),
 ]
 
-# Reference files whose figures are checked, while no program writes their text. There is no crate worked_tables yet; with it,
-# ("worked_tables", tables) belongs to PROGRAMS.
-UNWRITTEN = [tables]
 
-
-def stored_text(crate):
-    """What a program must write, as stored beside its sources; None if nothing is stored."""
-    stored = ROOT / "crates" / crate / "stdout"
+def stored_text(crate, name):
+    """What is stored beside a program's sources under a name; None if nothing is."""
+    stored = ROOT / "crates" / crate / name
     return stored.read_text() if stored.exists() else None
 
 
 def complaints():
-    """What is wrong: published figures that do not hold together, and stored outputs that differ."""
+    """What is wrong: published figures that do not hold together, and stored inputs and outputs that differ."""
     found = []
-    for module in [module for _, module in PROGRAMS] + UNWRITTEN:
-        found += ["reference/%s.py: %s" % (module.__name__, complaint) for complaint in module.check()]
     for crate, module in PROGRAMS:
-        if stored_text(crate) != module.expected_text():
+        found += ["reference/%s.py: %s" % (module.__name__, complaint) for complaint in module.check()]
+        if stored_text(crate, "stdout") != module.expected_text():
             found.append("crates/%s/stdout differs from what reference/%s.py makes" % (crate, module.__name__))
+    if stored_text("worked_tables", "stdin") != tables.inputs_text():
+        found.append("crates/worked_tables/stdin differs from what reference/tables.py makes")
     return found
 
 

@@ -39,7 +39,12 @@ from answers import FOUR_BLOCKS, SIX_ADDED, TEN, TEN_BLOCKED
 from factab import Plan
 
 # places: decimals of the readings in print. plots: how many plots one reading adds up. marked: the rows with mark 1.
-WorkedTable = namedtuple("WorkedTable", "title plan readings marked places plots printed")
+# made: how readings are made that are not printed.
+WorkedTable = namedtuple("WorkedTable", "title plan readings marked places plots printed made", defaults=(None,))
+
+# kind: `signs`, with a field of an effect and the readings where its coefficient is 0, above 0 and below 0; or `numbers`, which
+# are spread out.
+Made = namedtuple("Made", "kind field readings")
 
 # parts: what the figures of the text belong to, see part_of. units: how many units of its last decimal a figure may be off.
 Printed = namedtuple("Printed", "where measure parts text units", defaults=(Fraction(1, 2),))
@@ -53,7 +58,7 @@ LACKING, NOT_PRINTED = published.LACKING, published.NOT_PRINTED
 
 MOST_NUMERATOR = 340_122_240_000_000_000
 MOST_ROWS_SHOWN = 64
-MODULUS = 2 ** 61 - 1
+MODULUS = 2 ** 31 - 1
 
 
 def mended(figure):
@@ -356,27 +361,39 @@ def spread_out(levels, k):
     return readings
 
 
-def extreme(title, plan, readings, marked):
+def by_signs(plan, effect, top, at_zero):
+    """Readings by the signs of an effect."""
+    readings = signs_of(plan.levels, plan.k, effect, top, at_zero)
+    return Made("signs", "effect %d %d %d %d" % (effect, at_zero, top, -top), readings)
+
+
+def by_spreading(plan):
+    """Numbers that are spread out."""
+    return Made("numbers", "spread out", spread_out(plan.levels, plan.k))
+
+
+def extreme(title, plan, made, marked):
     """A table of made-up readings."""
-    return WorkedTable(title, plan, readings, rows_of(marked), 0, 1, [])
+    return WorkedTable(title, plan, made.readings, rows_of(marked), 0, 1, [], made)
 
 
 SIX = Plan(3, 6)
 ALL_TEN = "ABCDEFGHIJ"
+TEN_ADDED = Plan(2, 10, SIX_ADDED, FOUR_BLOCKS)
 EXTREMES = [
-    extreme("ten factors, all 100000", TEN, signs_of(2, 10, 0, TOP, 0), "A AB " + ALL_TEN),
-    extreme("ten factors in 16 blocks, all -100000", TEN_BLOCKED, signs_of(2, 10, 0, -TOP, 0), "A B ABD"),
-    extreme("ten factors, signs of effect 1023", TEN, signs_of(2, 10, 1023, TOP, 0), "J " + ALL_TEN),
-    extreme("ten factors in 16 blocks, signs of effect 1023", TEN_BLOCKED, signs_of(2, 10, 1023, TOP, 0), "A J"),
-    extreme("ten factors, signs of effect 1", TEN, signs_of(2, 10, 1, TOP, 0), "B BCDEFGHIJ"),
-    extreme("ten factors in 16 blocks, six added, spread out", Plan(2, 10, SIX_ADDED, FOUR_BLOCKS), spread_out(2, 10),
+    extreme("ten factors, all 100000", TEN, by_signs(TEN, 0, TOP, 0), "A AB " + ALL_TEN),
+    extreme("ten factors in 16 blocks, all -100000", TEN_BLOCKED, by_signs(TEN_BLOCKED, 0, -TOP, 0), "A B ABD"),
+    extreme("ten factors, signs of effect 1023", TEN, by_signs(TEN, 1023, TOP, 0), "J " + ALL_TEN),
+    extreme("ten factors in 16 blocks, signs of effect 1023", TEN_BLOCKED, by_signs(TEN_BLOCKED, 1023, TOP, 0), "A J"),
+    extreme("ten factors, signs of effect 1", TEN, by_signs(TEN, 1, TOP, 0), "B BCDEFGHIJ"),
+    extreme("ten factors in 16 blocks, six added, spread out", TEN_ADDED, by_spreading(TEN_ADDED),
             "A BD ABCDEFGHI BCDEFGHIJ"),
-    extreme("six factors at three levels, all 100000", SIX, signs_of(3, 6, 0, TOP, 0), "A ABCDEF"),
-    extreme("six factors at three levels, all -100000", SIX, signs_of(3, 6, 0, -TOP, 0), "F"),
-    extreme("six factors at three levels, signs of effect 728", SIX, signs_of(3, 6, 728, TOP, 0), "ABCDE ABCDEF"),
-    extreme("six factors at three levels, signs of effect 364, 0 at 0", SIX, signs_of(3, 6, 364, TOP, 0), "A ABCDEF"),
-    extreme("six factors at three levels, signs of effect 1, 100000 at 0", SIX, signs_of(3, 6, 1, TOP, TOP), "A F"),
-    extreme("six factors at three levels, spread out", SIX, spread_out(3, 6), "AF BCDE ABCDEF"),
+    extreme("six factors at three levels, all 100000", SIX, by_signs(SIX, 0, TOP, 0), "A ABCDEF"),
+    extreme("six factors at three levels, all -100000", SIX, by_signs(SIX, 0, -TOP, 0), "F"),
+    extreme("six factors at three levels, signs of effect 728", SIX, by_signs(SIX, 728, TOP, 0), "ABCDE ABCDEF"),
+    extreme("six factors at three levels, signs of effect 364, 0 at 0", SIX, by_signs(SIX, 364, TOP, 0), "A ABCDEF"),
+    extreme("six factors at three levels, signs of effect 1, 100000 at 0", SIX, by_signs(SIX, 1, TOP, TOP), "A F"),
+    extreme("six factors at three levels, spread out", SIX, by_spreading(SIX), "AF BCDE ABCDEF"),
 ]
 
 # Numerators of the extreme tables that are known without adding up: every row but these is 0. With the signs of effect 728
@@ -736,10 +753,6 @@ def check_table(own, table):
         complaints.append("beyond the limits")
     if table.error.degrees != sum(anova.row_degrees(levels, row) for row in own.marked):
         complaints.append("degrees of error")
-    if sum((row + 1) * part.numerator for row, part in enumerate(table.rows)) >= 2 ** 64 and k > 6:
-        complaints.append("the weighted sum of rows is beyond 64 bits")
-    if abs(weighted_totals(table)) >= 2 ** 63:
-        complaints.append("the weighted sum of totals is beyond 64 bits")
     return complaints + check_rows(own, table) + check_blocks(own, table)
 
 
@@ -871,14 +884,12 @@ def check():
 
 # ---- expected text ----
 
-def weighted_totals(table):
-    """The sum over effects of (effect + 1) times total."""
-    return sum((effect + 1) * total for effect, total in enumerate(table.totals))
-
-
-def weighted_rows(table):
-    """The sum over rows of (row + 1) times numerator, modulo 2 to the power 61, less 1."""
-    return sum((row + 1) * part.numerator for row, part in enumerate(table.rows)) % MODULUS
+def counted(values):
+    """A number by which every value of a list counts: 31 times the one before, and the value, modulo a prime."""
+    number = 0
+    for value in values:
+        number = (number * 31 + value) % MODULUS
+    return number
 
 
 def row_line(table, row):
@@ -892,7 +903,8 @@ def rows_lines(table):
     rows = range(len(table.rows))
     if len(rows) <= MOST_ROWS_SHOWN:
         return [row_line(table, row) for row in rows]
-    return [row_line(table, row) for row in rows if table.kinds[row] != anova.KEPT] + ["rows %d" % weighted_rows(table)]
+    shown = [row_line(table, row) for row in rows if table.kinds[row] != anova.KEPT]
+    return shown + ["rows %d" % counted(part.numerator for part in table.rows)]
 
 
 def table_lines(table):
@@ -906,7 +918,7 @@ def worked_lines(number, own):
     """The lines of one worked table."""
     table = table_of(own)
     return (["example %d: %d levels, %d factors" % (number, own.plan.levels, own.plan.k)] + table_lines(table)
-            + ["totals %d" % weighted_totals(table)])
+            + ["totals %d" % counted(table.totals)])
 
 
 def expected_text():
@@ -917,15 +929,20 @@ def expected_text():
     return "".join(line + "\n" for line in lines + answers.expected_lines())
 
 
+def input_line(number, own):
+    """The line of a worked table."""
+    kind, field = ("table", "readings" + published.values_text(own.readings)) if own.made is None else own.made[:2]
+    marks = "".join(" %d/1" % row for row in own.marked)
+    runs, rows = len(own.readings), anova.row_count(own.plan.k)
+    return "%s %d, %s, totals %d, rows %d, marks %d%s, %s, %s" % (
+        kind, number, answers.plan_text(own.plan), runs, rows, rows, marks, field, own.title)
+
+
 def inputs_text():
-    """The inputs of all tables, refusals and estimates, a line for each. Words and rows are numbers; an added factor is its
-    word and sign. The readings of the extreme tables are left out."""
-    lines = []
-    for number, own in enumerate(TABLES, 1):
-        readings = "" if own in EXTREMES else ", readings" + published.values_text(own.readings)
-        lines.append("example %d (%s): %s, marked%s%s"
-                     % (number, own.title, answers.plan_text(own.plan), published.values_text(own.marked), readings))
-    lines += answers.input_lines()
+    """The input of the program: a line for each table, refusal and estimate. Words and rows are numbers; an added factor is
+    its word and sign, and marks are how many there are and then the rows whose marks are not 0, each with its mark. Title
+    or reason stand last."""
+    lines = [input_line(number, own) for number, own in enumerate(TABLES, 1)] + answers.input_lines()
     return "".join(line + "\n" for line in lines)
 
 
