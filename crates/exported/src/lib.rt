@@ -21,7 +21,6 @@ use plan::Plan;
 use plan::lowest;
 use yates::Answer;
 ghost use Rattle.yates.specs.Calls.{passNumber, passColumn, totalsNumber, totalsColumn};
-ghost use Rattle.plan.specs.Check.{withPlan};
 ghost use Rattle.exported.specs.Whole.{wholePlan};
 ghost use Rattle.exported.specs.Handed.{roomNumber, callNumber, callTotals, callRows, callFigures, callChecks};
 
