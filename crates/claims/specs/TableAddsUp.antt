@@ -2,8 +2,8 @@
 --
 -- Whatever readings and marks the table call accepts, and whatever the slices held that it is lent to write.
 --
---   AddsUp p readings marks      what is claimed of the figures
---   NoneBeyond p readings marks  no number of the table exceeds the limit
+--   AddsUp p readings f          what is claimed of the figures
+--   SourceWithin, NoneBeyond     no number of the table exceeds the limit
 --   TableAddsUp, table-adds-up   THE CLAIM, and its proof
 use mathlib.Core.Path.{_≡_, refl, _∙_}
 use mathlib.Core.Bool.{cond}
@@ -45,7 +45,7 @@ whole p readings = denominator (factorsOf p) * squared (factorsOf p) (read readi
 abbrev pub figures : Plan → List ℤ → List ℕ → Figures
 figures p readings marks = tableFigures p readings marks
 
-pub record AddsUp (p : Plan) (readings : List ℤ) (marks : List ℕ) (f : Figures) : Type 0 where
+pub record AddsUp (p : Plan) (readings : List ℤ) (f : Figures) : Type 0 where
   pub numerators : f .mean .numerator + f .kept .numerator + f .blocks .numerator + f .error .numerator ≡ whole p readings
   pub total : f .total .numerator ≡ whole p readings
   -- "The degrees of mean, kept effects, blocks and error add up to the total's", which are N
@@ -73,7 +73,7 @@ abbrev pub TableAddsUp : Type 0
 TableAddsUp =
     (p : Plan) (readings : List ℤ) (marks : List ℕ) (totals : List ℤ) (rows : List ℕ)
     → tableNumber p readings marks totals rows ≡ 0
-    → AddsUp p readings marks (figures p readings marks) × NoneBeyond p readings (figures p readings marks)
+    → AddsUp p readings (figures p readings marks) × NoneBeyond p readings (figures p readings marks)
 
 -- ---- the proof
 
@@ -94,7 +94,7 @@ module _ {p : Plan} {readings : List ℤ} {marks : List ℕ} {totals : List ℤ}
   all-degrees : Σℕ (rowsIn p) (degreesOf (factorsOf p)) ≡ runsOf p
   all-degrees = rw (rows-power a) at (degrees-sum (factorsOf p))
 
-  adds-up : AddsUp p readings marks (figures p readings marks)
+  adds-up : AddsUp p readings (figures p readings marks)
   unfolding tableFigures sourceOf totalSource checksOf
   adds-up =
       record {

@@ -6,7 +6,6 @@
 --   size-three                the number of runs
 --   divisor-three             the divisors of fewer factors
 --   denominator-three         the common denominator
---   weight-three              denominator over divisor, from the divisors of six factors
 --   round-three               a round of the check
 --   round-bound               the growth of values in it
 --   bound-three               the growth of values
@@ -23,7 +22,7 @@ use Rattle.algebra.specs.Size.{natAbs-+ℤ, natAbs-sub, natAbs-*ℤ}
 use Rattle.algebra.specs.Sum.{Σ}
 use Rattle.algebra.specs.Naturals.{Σℕ, most}
 use Rattle.contrasts.specs.Tables.{three, neg}
-use Rattle.contrasts.specs.Totals.{Column, size, passAt, passes, step, divisor*, denominator, weight*, checkWeight, round}
+use Rattle.contrasts.specs.Totals.{Column, size, passAt, passes, step, divisor*, denominator, checkWeight, round}
 use Rattle.contrasts.specs.Laws.Alike.{size-alike, denominator-alike, divisor-fewer, widest-alike}
 use Rattle.contrasts.specs.Laws.Bounds.{Within, reach, widest, bound-calls}
 use Rattle.contrasts.specs.Laws.Steps.{step-value}
@@ -113,12 +112,6 @@ divisor-three k j e h =
 pub denominator-three : (k : ℕ) → denominator (replicate k three) ≡ 6 ^ k
 unfolding three
 denominator-three k = denominator-alike k three
-
-pub weight-three : (k e : ℕ) → k ≤ 6 → e < 3 ^ k → weight* (replicate k three) e ≡ 6 ^ k / (divisor* (replicate 6 three) e / 3 ^ (6 - k))
-unfolding weight*
-weight-three k e most h =
-    let six : k + (6 - k) ≡ 6 = omega arith in
-    rw (denominator-three k, divisor-three k (6 - k) e h, six) refl
 
 -- ---- the check
 
