@@ -1,12 +1,11 @@
 -- What the table call refuses, as the code judges it.
 --
---   readings-wrong, totals-wrong, rows-wrong, by-marks    line 11, length by length, of an accepted plan
+--   readings-wrong, totals-wrong, rows-not, by-marks    line 11, length by length, of an accepted plan
 --   table-stopped, table-completed                        a call that is refused, and one that is not
 use mathlib.Core.Path.{_≡_, refl, _∙_, ap}
 use mathlib.Core.Bool.{true, not}
 use mathlib.Core.List.{List}
-use Prim.Native.Nat.{ℕ, _^_}
-use borrow.Author.Tests.{eq-eqb, ne-eqb}
+use Prim.Native.Nat.{ℕ}
 use lib.Dec.{eqb}
 use lib.IntN.{ℤ}
 use Rattle.contrasts.specs.Columns.{totalsOf}
@@ -16,8 +15,10 @@ use Rattle.plan.specs.Laws.Answers.{stopped, completed}
 use Rattle.plan.specs.Outcome.{Outcome, given, refused, outcome}
 use Rattle.plan.specs.Plan.{factorsOf}
 use Rattle.columns.specs.Laws.Lengths.{wrong, right}
+use Rattle.rows.specs.Kinds.{rowCount}
+use Rattle.rows.specs.Laws.{rows-wrong, rows-right, rows-by}
 use Rattle.anova.specs.declared.types.Figures.{Figures}
-use Rattle.anova.specs.Table.{wrongRows, wrongLengths, tableNumber, tableFigures, tableTotals, tableRows, rowsOf}
+use Rattle.anova.specs.Table.{wrongLengths, tableNumber, tableFigures, tableTotals, tableRows, rowsOf}
 
 -- ---- line 11
 
@@ -31,14 +32,14 @@ module _ (p : Plan) (ok : planNumber p ≡ 0) {n : ℕ} (runs : n ≡ runCount p
     unfolding wrongLengths
     totals-wrong h = rw (right p ok runs readings a, wrong p ok runs totals h) refl
 
-    module _ (b : totals ≡ n) {r : ℕ} (count : r ≡ 2 ^ p .k) where
-      pub rows-wrong : (rows ≡ r → ⊥) → true ≡ wrongLengths p readings marks totals rows
-      unfolding wrongLengths wrongRows
-      rows-wrong h = rw (right p ok runs readings a, right p ok runs totals b, ← count, ne-eqb rows r h) refl
+    module _ (b : totals ≡ n) {r : ℕ} (count : r ≡ rowCount p) where
+      pub rows-not : (rows ≡ r → ⊥) → true ≡ wrongLengths p readings marks totals rows
+      unfolding wrongLengths
+      rows-not h = rw (right p ok runs readings a, right p ok runs totals b, rows-wrong p ok count rows h) refl
 
       pub by-marks : rows ≡ r → not (eqb marks r) ≡ wrongLengths p readings marks totals rows
-      unfolding wrongLengths wrongRows
-      by-marks h = rw (right p ok runs readings a, right p ok runs totals b, ← count, eq-eqb rows r h) refl
+      unfolding wrongLengths
+      by-marks h = rw (right p ok runs readings a, right p ok runs totals b, rows-right p ok count rows h, rows-by p ok count marks) refl
 
 -- ---- the whole call
 

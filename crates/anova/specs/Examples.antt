@@ -25,9 +25,9 @@ use Rattle.plan.specs.Examples.{plan, ABC, AD}
 use Rattle.plan.specs.Plan.{factorsOf, someCombination, combinesTo}
 use Rattle.plan.specs.Check.{badLevels, badFactors, badCounts, badWord, badSign, badWords, dependent, factorWord, losesFactor, planNumber, withPlan}
 use Rattle.columns.specs.Lines.{wrongLength, isBeyond, anyBeyond}
-use Rattle.rows.specs.Kinds.{kindByMark, kindOf, badMark, badMarks}
+use Rattle.rows.specs.Kinds.{wrongRows, kindByMark, kindOf, badMark, badMarks}
 use Rattle.anova.specs.declared.types.Figures.{Figures}
-use Rattle.anova.specs.Table.{wrongRows, wrongLengths, tableNumber, sourceOf, totalSource, checksOf, tableFigures, tableTotals, tableRows}
+use Rattle.anova.specs.Table.{wrongLengths, tableNumber, sourceOf, totalSource, checksOf, tableFigures, tableTotals, tableRows}
 
 -- degrees and numerators of mean, kept, blocks, error and total, after the denominator; then both check numbers
 abbrev numbers : Figures → List ℤ

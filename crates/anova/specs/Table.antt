@@ -1,6 +1,6 @@
 -- The table call: its number, its figures, and the columns that it leaves.
 --
---   wrongRows, wrongLengths    line 11, of rows or marks and of all four slices
+--   wrongLengths               line 11, of all four slices
 --   tableNumber                the lowest number that applies, 0 where the table is made
 --   sourceOf p xs marks c      degrees and numerator of the rows of one kind
 --   totalSource p xs           those of the total
@@ -10,7 +10,7 @@
 --   rowsOf p xs                the row numerators
 --   tableTotals, tableRows     the lent slices at exit
 --   tableOutcome               the cases of the call's answer
-use mathlib.Core.Bool.{Bool, not, cond, _||_}
+use mathlib.Core.Bool.{Bool, cond, _||_}
 use mathlib.Core.List.{List, [], _∷_}
 use Prim.Native.Nat.{ℕ, _*_}
 use lib.Dec.{eqb}
@@ -28,7 +28,7 @@ use Rattle.plan.specs.Check.{withPlan}
 use Rattle.plan.specs.Outcome.{line, Outcome, given, refused, written}
 use Rattle.plan.specs.Plan.{factorsOf, runsOf}
 use Rattle.columns.specs.Lines.{wrongLength, anyBeyond}
-use Rattle.rows.specs.Kinds.{rowsIn, keptKind, errorKind, meanKind, blocksKind, kindOf, badMarks}
+use Rattle.rows.specs.Kinds.{rowsIn, wrongRows, keptKind, errorKind, meanKind, blocksKind, kindOf, badMarks}
 use Rattle.anova.specs.declared.types.Source.{Source}
 use Rattle.anova.specs.declared.types.Checks.{Checks}
 use Rattle.anova.specs.declared.types.Figures.{Figures}
@@ -37,9 +37,6 @@ use Rattle.anova.specs.declared.types.Table.{Table}
 use Rattle.anova.specs.declared.types.Table.the-variants.{Made, Refused}
 
 -- ---- what is refused
-
-unfoldable pub wrongRows : Plan → ℕ → Bool
-wrongRows p n = not (eqb n (rowsIn p))
 
 -- 11: "readings, totals, rows or marks not N, N, R, R long"
 unfoldable pub wrongLengths : Plan → ℕ → ℕ → ℕ → ℕ → Bool

@@ -1,21 +1,13 @@
 // What the table call refuses.
 ghost use mathlib.Core.Path.{_≡_};
-ghost use Prim.Native.Nat.{_^_, _≤_};
 use columns::any_reading_beyond;
 use plan::Plan;
 use plan::lowest;
 use rows::bad_marks;
+use rows::row_count;
 use sizes::runs;
 ghost use Rattle.plan.specs.Check.{planNumber};
 ghost use Rattle.anova.specs.Table.{wrongLengths, tableNumber};
-
-// How many rows there are for so many factors.
-fn row_count(k: u8) -> usize
-    requires { ⌜ k ≤ 10 ⌝ }
-    ensures { λ r. ⌜ r ≡ 2 ^ k ⌝ }
-{
-    1usize << k
-}
 
 // Line 11, of an accepted plan.
 fn wrong_lengths(p: Plan, readings: usize, marks: usize, totals: usize, rows: usize) -> bool
@@ -29,7 +21,7 @@ fn wrong_lengths(p: Plan, readings: usize, marks: usize, totals: usize, rows: us
     if totals != runs {
         return true;
     }
-    let row_count = row_count(p.k);
+    let row_count = row_count(p);
     if rows != row_count {
         return true;
     }

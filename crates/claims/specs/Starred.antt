@@ -31,10 +31,10 @@ use Rattle.plan.specs.Plan.{factorsOf, someCombination, combinesTo, confoundedI
 use Rattle.plan.specs.Check.{badLevels, badFactors, badCounts, badWord, badSign, badWords, dependent, factorWord, losesFactor, planNumber, withPlan}
 use Rattle.aliases.specs.Alias.{baseWord, turnsOf, turns, aliasNumber}
 use Rattle.columns.specs.Lines.{wrongLength, isBeyond, anyBeyond}
-use Rattle.rows.specs.Kinds.{kindByMark, kindOf, badMark, badMarks}
+use Rattle.rows.specs.Kinds.{wrongRows, kindByMark, kindOf, badMark, badMarks}
 use Rattle.estimates.specs.Quotient.{quotient}
 use Rattle.estimates.specs.Estimate.{Value, mean, difference, lost, meanOf, differenceOf, valueBy, estimateValue, estimateNumber}
-use Rattle.anova.specs.Table.{wrongRows, wrongLengths, tableNumber, sourceOf, totalSource, checksOf, tableFigures, tableTotals, tableRows, rowsOf}
+use Rattle.anova.specs.Table.{wrongLengths, tableNumber, sourceOf, totalSource, checksOf, tableFigures, tableTotals, tableRows, rowsOf}
 
 pub record Run : Type 0 where
   pub gives : List ℤ

@@ -2,6 +2,7 @@
 // answers.
 //
 //   any_value_beyond(column)               a pass or a step refuses a value of it
+//   is_reading_beyond(x)                   a reading is refused
 //   any_reading_beyond(readings)           the totals and the table refuse a reading
 //   values_number(p, from, to)             the lowest number of a call that reads a column of values and writes another
 //   readings_number(p, readings, totals)   and of one that reads readings
@@ -18,4 +19,5 @@ pub use numbers::readings_number;
 pub use numbers::values_number;
 pub use scans::any_reading_beyond;
 pub use scans::any_value_beyond;
+pub use scans::is_reading_beyond;
 pub use types::Answer;

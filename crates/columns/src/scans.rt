@@ -45,7 +45,7 @@ pub fn any_value_beyond(column: &[i64]) -> bool
 
 // Whether a reading is refused. Both comparisons are made, and the loop does not stop early, so it is compiled to work several readings at a
 // time.
-fn is_reading_beyond(x: i32) -> bool
+pub fn is_reading_beyond(x: i32) -> bool
     ensures { λ r. ⌜ r ≡ isBeyond readingLimit x ⌝ }
 {
     (READING_LIMIT < x) | (x < -READING_LIMIT)

@@ -1,25 +1,34 @@
 -- Rows of the table: their kinds, and the marks that are refused.
 --
---   rowsIn p                     how many rows there are
+--   rowsIn p, rowCount p         how many rows there are; for any plan, 0 where k is beyond every plan's
+--   wrongRows p n                line 11: rows or marks are not R
 --   keptKind, errorKind, meanKind, blocksKind    the four kinds, as numbers; the first two are the marks
 --   marked marks w               row w has mark 1
 --   kindByMark, kindOf           what a row is, by its mark alone and in a plan
 --   kindsOf p marks              the kinds of as many rows as the largest plan has
 --   anyOver marks                a mark is over 1
 --   badMark, badMarks            line 13, of one row and of all
-use mathlib.Core.Bool.{Bool, cond, _&&_, _||_}
+use mathlib.Core.Bool.{Bool, not, cond, _&&_, _||_}
 use mathlib.Core.List.{List}
 use Prim.Native.Nat.{ℕ, _^_}
 use lib.Dec.{eqb, ltb}
 use lib.ListN.{length, getD}
 use Rattle.algebra.specs.Search.{some}
 use Rattle.algebra.specs.Tab.{tab}
+use Rattle.contrasts.specs.Limits.{mostTwo}
 use Rattle.plan.specs.declared.types.Plan.{Plan}
 use Rattle.plan.specs.Plan.{confoundedIn}
 
 -- "There are R rows, 2 to the power k, numbered by their set of base letters."
 abbrev pub rowsIn : Plan → ℕ
 rowsIn p = 2 ^ p .k
+
+unfoldable pub rowCount : Plan → ℕ
+rowCount p = cond (ltb mostTwo (p .k)) 0 (rowsIn p)
+
+-- 11: "[..] rows or marks not [..] R, R long"
+unfoldable pub wrongRows : Plan → ℕ → Bool
+wrongRows p n = not (eqb n (rowsIn p))
 
 -- ---- kinds
 

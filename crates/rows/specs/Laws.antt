@@ -1,14 +1,22 @@
 -- Laws on rows that callers cite.
 --
 --   four-kinds    a row is of one of the four kinds
-use mathlib.Core.Bool.{Bool, true, false, cond}
+--   row-count     what `row_count` gives of an accepted plan
+--   rows-wrong, rows-right, rows-by    what the code's comparison with `row_count` says of an accepted plan
+--   rows-as-long  rows or marks to which line 11 does not apply are as many as the plan has rows
+use mathlib.Core.Path.{_≡_, refl, sym, _∙_}
+use mathlib.Core.Bool.{Bool, true, false, not, cond}
 use mathlib.Core.List.{List}
 use Prim.Native.Nat.{ℕ, _<_}
+use borrow.Author.Tests.{le-ltb, eq-eqb, ne-eqb, eqb-true, not-false}
 use lib.Dec.{eqb, lit<}
 use lib.ListN.{getD}
+use Rattle.contrasts.specs.Limits.{mostTwo}
 use Rattle.plan.specs.declared.types.Plan.{Plan}
+use Rattle.plan.specs.Check.{planNumber}
+use Rattle.plan.specs.Laws.Accepted.{accepted}
 use Rattle.plan.specs.Plan.{confoundedIn}
-use Rattle.rows.specs.Kinds.{kindByMark, kindOf}
+use Rattle.rows.specs.Kinds.{rowsIn, rowCount, wrongRows, kindByMark, kindOf}
 
 pub four-kinds : (p : Plan) (marks : List ℕ) (w : ℕ) → kindOf p marks w < 4
 unfolding kindOf kindByMark
@@ -19,3 +27,24 @@ four-kinds p marks w = by (eqb w 0) (confoundedIn p w) (eqb (getD marks w 0) 1)
     by false true c = lit< tt
     by false false true = lit< tt
     by false false false = lit< tt
+
+pub row-count : (p : Plan) → planNumber p ≡ 0 → rowCount p ≡ rowsIn p
+unfolding rowCount
+row-count p ok = rw (le-ltb mostTwo (p .k) (accepted p ok .factors .1)) refl
+
+module _ (p : Plan) (ok : planNumber p ≡ 0) {n : ℕ} (e : n ≡ rowCount p) (m : ℕ) where
+  pub rows-wrong : (m ≡ n → ⊥) → wrongRows p m ≡ true
+  unfolding wrongRows
+  rows-wrong h = rw (ne-eqb m (rowsIn p) (λ d. h (d ∙ sym (e ∙ row-count p ok)))) refl
+
+  pub rows-right : m ≡ n → wrongRows p m ≡ false
+  unfolding wrongRows
+  rows-right h = rw (eq-eqb m (rowsIn p) (h ∙ e ∙ row-count p ok)) refl
+
+  pub rows-by : not (eqb m n) ≡ wrongRows p m
+  unfolding wrongRows
+  rows-by = rw (e, row-count p ok) refl
+
+pub rows-as-long : (p : Plan) (n : ℕ) → wrongRows p n ≡ false → n ≡ rowsIn p
+unfolding wrongRows
+rows-as-long p n e = eqb-true n (rowsIn p) (not-false (eqb n (rowsIn p)) e)

@@ -1,10 +1,13 @@
-// The rows of the table: what marks they may have, and whether a row is mean, kept, blocks or error.
+// The rows of the table: how many there are, what marks they may have, and whether a row is mean, kept, blocks or error.
 //
+//   row_count(p)          how many rows there are
 //   bad_marks(p, marks)   whether line 13 applies
 //   kinds(p, marks)       the kind of each row
 mod choices;
+mod counts;
 mod kinds_of_rows;
 mod marks;
 
+pub use counts::row_count;
 pub use kinds_of_rows::kinds;
 pub use marks::bad_marks;

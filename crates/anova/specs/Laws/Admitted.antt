@@ -30,13 +30,10 @@ use Rattle.plan.specs.Laws.Answers.{passed, plan-passed}
 use Rattle.plan.specs.Laws.Sizes.{RunsTwo, RunsThree, runs-known, run-count, plan-within}
 use Rattle.columns.specs.Lines.{wrongLength, anyBeyond}
 use Rattle.columns.specs.Laws.Admitted.{all-within, as-long}
-use Rattle.rows.specs.Kinds.{rowsIn}
+use Rattle.rows.specs.Kinds.{rowsIn, wrongRows}
+use Rattle.rows.specs.Laws.{rows-as-long}
 use Rattle.anova.specs.Ready.{TableReady}
-use Rattle.anova.specs.Table.{wrongRows, wrongLengths, tableNumber}
-
-rows-as-long : (p : Plan) (n : ℕ) → wrongRows p n ≡ false → n ≡ rowsIn p
-unfolding wrongRows
-rows-as-long p n e = eqb-true n (rowsIn p) (not-false (eqb n (rowsIn p)) e)
+use Rattle.anova.specs.Table.{wrongLengths, tableNumber}
 
 pub table-admitted : (p : Plan) (readings : List ℤ) (marks : List ℕ) (totals : List ℤ) (rows : List ℕ)
     → tableNumber p readings marks totals rows ≡ 0 → TableReady p readings marks totals rows

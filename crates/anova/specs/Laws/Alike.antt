@@ -11,8 +11,8 @@ use Rattle.plan.specs.Check.{withPlan}
 use Rattle.plan.specs.Plan.{factorsOf}
 use Rattle.plan.specs.Laws.Alike.{Alike, same-number as same-plan-number}
 use Rattle.columns.specs.Lines.{wrongLength}
-use Rattle.rows.specs.Kinds.{kindOf, badMark, badMarks}
-use Rattle.anova.specs.Table.{wrongRows, wrongLengths, tableNumber, sourceOf, totalSource, checksOf, tableFigures, rowsOf}
+use Rattle.rows.specs.Kinds.{wrongRows, kindOf, badMark, badMarks}
+use Rattle.anova.specs.Table.{wrongLengths, tableNumber, sourceOf, totalSource, checksOf, tableFigures, rowsOf}
 
 module _ {p q : Plan} (a : Alike p q) (readings : List ℤ) where
   pub same-number : (marks : List ℕ) (totals : List ℤ) (rows : List ℕ) → tableNumber p readings marks totals rows ≡ tableNumber q readings marks totals rows

@@ -1,5 +1,4 @@
-use Rattle.plan.specs.Laws.Accepted.{sizes}
-use Rattle.anova.proofs.Judged.{readings-wrong, totals-wrong, rows-wrong, by-marks}
+use Rattle.anova.proofs.Judged.{readings-wrong, totals-wrong, rows-not, by-marks}
 use Rattle.anova.proofs.numbers.wrong_lengths.Statement.{statement}
 use Rattle.anova.proofs.numbers.wrong_lengths.Tie as tie
 
@@ -10,6 +9,6 @@ wrong-lengths-spec =
     (λ c κs. tt)
     (λ c. readings-wrong _ (c .before .before .pre) (c .before .runs .ensures) _ _ _ _ (c .if1 .taken))
     (λ c. totals-wrong _ (c .before .before .before .pre) (c .before .before .runs .ensures) _ _ _ _ (c .before .if1 .left) (c .if2 .taken))
-    (λ c κs. sizes _ (c .before .before .before .pre) .0)
-    (λ c. rows-wrong _ (c .before .before .before .before .before .pre) (c .before .before .before .before .runs .ensures) _ _ _ _ (c .before .before .before .if1 .left) (c .before .before .if2 .left) (c .before .row-count .ensures) (c .if3 .taken))
+    (λ c κs. tt)
+    (λ c. rows-not _ (c .before .before .before .before .before .pre) (c .before .before .before .before .runs .ensures) _ _ _ _ (c .before .before .before .if1 .left) (c .before .before .if2 .left) (c .before .row-count .ensures) (c .if3 .taken))
     (λ c. by-marks _ (c .before .before .before .before .before .pre) (c .before .before .before .before .runs .ensures) _ _ _ _ (c .before .before .before .if1 .left) (c .before .before .if2 .left) (c .before .row-count .ensures) (c .if3 .left)))

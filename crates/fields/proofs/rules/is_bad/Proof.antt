@@ -1,0 +1,16 @@
+use mathlib.Core.Path.{refl}
+use borrow.Author.Tests.{eq-eqb, ne-eqb}
+use lib.Dec.{eqb}
+use Rattle.fields.proofs.Judging.{itself}
+use Rattle.fields.proofs.rules.is_bad.Statement.{statement}
+use Rattle.fields.proofs.rules.is_bad.Tie as tie
+
+pub is-bad-spec : {M : Type 1} → statement M
+is-bad-spec =
+    tie.close
+    (tie.spec
+    (λ c. rw (eq-eqb _ 1 (c .if1 .taken)) refl)
+    (λ c. rw (ne-eqb _ 1 (c .before .if1 .left), eq-eqb _ 2 (c .if2 .taken)) refl)
+    (λ c. rw (ne-eqb _ 1 (c .before .before .if1 .left), ne-eqb _ 2 (c .before .if2 .left), eq-eqb _ 3 (c .if3 .taken)) refl)
+    (λ c. rw (ne-eqb _ 1 (c .before .before .before .if1 .left), ne-eqb _ 2 (c .before .before .if2 .left), ne-eqb _ 3 (c .before .if3 .left), eq-eqb _ 4 (c .if4 .taken)) refl)
+    (λ c. rw (ne-eqb _ 1 (c .before .before .before .if1 .left), ne-eqb _ 2 (c .before .before .if2 .left), ne-eqb _ 3 (c .before .if3 .left), ne-eqb _ 4 (c .if4 .left)) (itself (eqb (c .before .before .before .before .args .tag) 5))))

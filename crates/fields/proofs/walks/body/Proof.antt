@@ -1,0 +1,38 @@
+use Prim.Native.Nat.{_-_}
+use native.Mathlib.Omega.{arith}
+use borrow.Author.Needs.{needs}
+use lib.ListN.{length}
+use Rattle.fields.proofs.Walking.{next}
+use Rattle.fields.proofs.Searching.{Sought, sought-none, sought-here, sought-one, sought-other, sought-cut, sought-all}
+use Rattle.fields.proofs.walks.body.Statement.{statement}
+use Rattle.fields.proofs.walks.body.Tie as tie
+
+abbrev Inv-loop : tie.InvT-loop
+Inv-loop sheet tag place n₀ at₀ n at = Sought sheet tag place at n
+
+abbrev μ-loop : tie.MeasureT-loop
+μ-loop sheet tag place n₀ at₀ n at = length sheet - at
+
+pub body-spec : {M : Type 1} → statement M
+body-spec =
+    tie.close
+    (tie.spec
+    Inv-loop
+    μ-loop
+    (λ c. sought-none _ _ _)
+    (λ c κs. c .loop-test .taken)
+    (λ c. search needs)
+    (λ c. sought-cut (c .before .before .before .before .loop .inv) (c .before .before .before .loop-test .taken) (c .before .before .field-end .ensures) (c .before .if1 .taken))
+    (λ c. omega arith)
+    (λ c. omega (arith, next (c .before .before .before .before .before .before .loop .inv .rest) (c .before .before .before .before .before .loop-test .taken) (c .before .before .before .before .field-end .ensures) (c .before .before .before .if1 .left) .past, next (c .before .before .before .before .before .before .loop .inv .rest) (c .before .before .before .before .before .loop-test .taken) (c .before .before .before .before .field-end .ensures) (c .before .before .before .if1 .left) .rest .inside))
+    (λ c. omega (arith, next (c .before .before .before .before .before .before .loop .inv .rest) (c .before .before .before .before .before .loop-test .taken) (c .before .before .before .before .field-end .ensures) (c .before .before .before .if1 .left) .past, next (c .before .before .before .before .before .before .loop .inv .rest) (c .before .before .before .before .before .loop-test .taken) (c .before .before .before .before .field-end .ensures) (c .before .before .before .if1 .left) .rest .inside))
+    (λ c. omega (arith, next (c .before .before .before .before .before .before .loop .inv .rest) (c .before .before .before .before .before .loop-test .taken) (c .before .before .before .before .field-end .ensures) (c .before .before .before .if1 .left) .past, next (c .before .before .before .before .before .before .loop .inv .rest) (c .before .before .before .before .before .loop-test .taken) (c .before .before .before .before .field-end .ensures) (c .before .before .before .if1 .left) .rest .inside))
+    (λ c. omega (arith, next (c .before .before .before .before .before .before .loop .inv .rest) (c .before .before .before .before .before .loop-test .taken) (c .before .before .before .before .field-end .ensures) (c .before .before .before .if1 .left) .past, next (c .before .before .before .before .before .before .loop .inv .rest) (c .before .before .before .before .before .loop-test .taken) (c .before .before .before .before .field-end .ensures) (c .before .before .before .if1 .left) .rest .inside))
+    (λ c. sought-here (c .before .before .before .before .before .before .before .loop .inv) (c .before .before .before .before .before .before .loop-test .taken) (c .before .before .before .before .before .field-end .ensures) (c .before .before .before .before .if1 .left) (c .before .before .if2 .taken) (c .before .if3 .taken))
+    (λ c. omega (arith, c .before .before .before .before .before .before .loop .inv .few))
+    (λ c. omega (arith, next (c .before .before .before .before .before .before .loop .inv .rest) (c .before .before .before .before .before .loop-test .taken) (c .before .before .before .before .field-end .ensures) (c .before .before .before .if1 .left) .past, next (c .before .before .before .before .before .before .loop .inv .rest) (c .before .before .before .before .before .loop-test .taken) (c .before .before .before .before .field-end .ensures) (c .before .before .before .if1 .left) .rest .inside))
+    (λ c. sought-one (c .before .before .before .before .before .before .loop .inv) (c .before .before .before .before .before .loop-test .taken) (c .before .before .before .before .field-end .ensures) (c .before .before .before .if1 .left) (c .before .if2 .taken) (c .if3 .left))
+    (λ c. omega (arith, next (c .before .before .before .before .before .loop .inv .rest) (c .before .before .before .before .loop-test .taken) (c .before .before .before .field-end .ensures) (c .before .before .if1 .left) .past, next (c .before .before .before .before .before .loop .inv .rest) (c .before .before .before .before .loop-test .taken) (c .before .before .before .field-end .ensures) (c .before .before .if1 .left) .rest .inside))
+    (λ c. sought-other (c .before .before .before .before .before .loop .inv) (c .before .before .before .before .loop-test .taken) (c .before .before .before .field-end .ensures) (c .before .before .if1 .left) (c .if2 .left))
+    (λ c. search needs)
+    (λ c. sought-all (c .before .before .loop .inv) (c .before .loop-test .left)))

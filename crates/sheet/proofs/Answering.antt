@@ -1,0 +1,89 @@
+-- The answers of the two calls.
+--
+--   read-number, marks-number    their numbers, as the code forms them
+--   read-stopped                 a reader's call that is refused
+--   room-for, same-size          the column of one that is not
+--   read-completed               such a call
+--   marks-stopped, marks-given   the marks call
+use mathlib.Core.Path.{_≡_, refl, sym, ap, _∙_}
+use mathlib.Core.Bool.{Bool, false}
+use mathlib.Core.List.{List, [], _++_}
+use Prim.Native.Nat.{ℕ, _/_, _≤_}
+use native.Mathlib.Omega.{arith}
+use borrow.Author.Tests.{ltb-false}
+use lib.Dec.{ltb}
+use lib.IntN.{ℤ}
+use lib.ListN.{length, drop, length-append, length-drop}
+use Rattle.plan.specs.declared.types.Plan.{Plan}
+use Rattle.plan.specs.Check.{runCount}
+use Rattle.plan.specs.Outcome.{Outcome, given, refused, outcome}
+use Rattle.plan.specs.Plan.{factorsOf, runsOf}
+use Rattle.plan.specs.Laws.Answers.{stopped, completed, unwritten, written-new}
+use Rattle.columns.specs.Laws.Admitted.{as-long}
+use Rattle.fields.specs.Fields.{fieldsOf, bodyAt}
+use Rattle.sheet.specs.Sheet.{planIn, readingsOf, readingsIn, marksIn, numberWith, readNumber, noPlan, readPlan, readColumn, marksNumber, marksOf}
+use Rattle.sheet.specs.Held.{held}
+use Rattle.sheet.specs.Laws.Admitted.{readings-long, Admitted, admitted}
+use Rattle.sheet.proofs.Holding.{held-all, held-with, narrow-by}
+
+module _ (sheet : List ℕ) {p : Plan} (is : p ≡ held (planIn (fieldsOf sheet))) where
+  pub marks-number : {n : ℕ} → n ≡ numberWith (fieldsOf sheet) p false → n ≡ marksNumber sheet
+  unfolding marksNumber
+  marks-number e = e ∙ ap (λ q. numberWith (fieldsOf sheet) q false) is ∙ held-with (fieldsOf sheet) (planIn (fieldsOf sheet)) false
+
+  pub read-number : (room : ℕ) {m n : ℕ} → m ≡ runCount p → n ≡ numberWith (fieldsOf sheet) p (ltb room m) → n ≡ readNumber sheet room
+  unfolding readNumber held factorsOf
+  read-number room r e =
+      e
+      ∙ ap (λ i. numberWith (fieldsOf sheet) p (ltb room i)) r
+      ∙ ap (λ q. numberWith (fieldsOf sheet) q (ltb room (runCount q))) is
+      ∙ narrow-by (fieldsOf sheet) (held (planIn (fieldsOf sheet))) room
+      ∙ held-with (fieldsOf sheet) (planIn (fieldsOf sheet)) (ltb room (runsOf (planIn (fieldsOf sheet))))
+
+-- ---- the reader
+
+module _ (sheet : List ℕ) (column : List ℤ) where
+  -- what the call promises of its answer, of the plan and of the column
+  abbrev Told : Outcome Unit → Plan → List ℤ → Type 0
+  Told answer plan after =
+      (answer ≡ outcome (readNumber sheet (length column)) tt)
+      × ((plan ≡ readPlan sheet (length column)) × (after ≡ readColumn sheet column))
+
+  pub read-stopped : {n : ℕ} → n ≡ readNumber sheet (length column) → (n ≡ 0 → ⊥) → {plan : Plan} → plan ≡ noPlan → Told (refused n) plan column
+  unfolding readPlan readColumn
+  read-stopped {n} e h q =
+      let s = stopped tt (readingsIn (fieldsOf sheet) ++ drop (length (readingsIn (fieldsOf sheet))) column) column e h in
+      (s .0, (q ∙ unwritten (readNumber sheet (length column)) (planIn (fieldsOf sheet)) noPlan (λ d. h (e ∙ d)), s .1))
+
+  module _ (z : readNumber sheet (length column) ≡ 0) where
+    as-asked : Admitted (fieldsOf sheet) (planIn (fieldsOf sheet)) (ltb (length column) (runsOf (planIn (fieldsOf sheet))))
+    unfolding readNumber
+    as-asked = admitted (fieldsOf sheet) (planIn (fieldsOf sheet)) (ltb (length column) (runsOf (planIn (fieldsOf sheet)))) z
+
+    module _ {body : List ℕ} (is : body ≡ bodyAt 4 0 (fieldsOf sheet)) where
+      pub room-for : length body / 4 ≤ length column
+      room-for =
+          let n : length (readingsOf body) ≡ runsOf (planIn (fieldsOf sheet)) = rw is (as-long (planIn (fieldsOf sheet)) (length (readingsIn (fieldsOf sheet))) (as-asked .readings)) in
+          rw (← (readings-long body), n) (ltb-false (length column) (runsOf (planIn (fieldsOf sheet))) (as-asked .wide))
+
+      pub same-size : {after : List ℤ} → after ≡ readingsOf body ++ drop (length body / 4) column → length after ≡ length column
+      same-size d = rw (d, length-append, readings-long, length-drop) (omega (arith, room-for))
+
+      pub read-completed : {plan : Plan} → plan ≡ held (planIn (fieldsOf sheet)) → {after : List ℤ} → after ≡ readingsOf body ++ drop (length body / 4) column
+          → Told (given tt) plan after
+      unfolding readPlan readColumn
+      read-completed q {after} d =
+          let made : after ≡ readingsIn (fieldsOf sheet) ++ drop (length (readingsIn (fieldsOf sheet))) column = d ∙ rw (← (readings-long body), is) refl in
+          let s = completed tt (readingsIn (fieldsOf sheet) ++ drop (length (readingsIn (fieldsOf sheet))) column) column z made in
+          (s .0, (q ∙ held-all (planIn (fieldsOf sheet)) (as-asked .plan) ∙ written-new (readNumber sheet (length column)) (planIn (fieldsOf sheet)) noPlan z, s .1))
+
+-- ---- the marks call
+
+module _ (sheet : List ℕ) {n : ℕ} (e : n ≡ marksNumber sheet) where
+  pub marks-stopped : (n ≡ 0 → ⊥) → [] ≡ marksOf sheet
+  unfolding marksOf
+  marks-stopped h = unwritten (marksNumber sheet) (marksIn (fieldsOf sheet)) [] (λ d. h (e ∙ d))
+
+  pub marks-given : n ≡ 0 → {part : List ℕ} → part ≡ bodyAt 5 0 (fieldsOf sheet) → part ≡ marksOf sheet
+  unfolding marksOf
+  marks-given z q = q ∙ written-new (marksNumber sheet) (marksIn (fieldsOf sheet)) [] (sym e ∙ z)

@@ -1,0 +1,17 @@
+-- The plan as the code holds it: a byte for each count.
+--
+--   held p    p, with counts of one more than a plan holds where they are more
+use Prim.Native.Nat.{min}
+use Rattle.plan.specs.declared.types.Plan.{Plan}
+
+-- "over 6 added, over 4 block words" stays so
+unfoldable pub held : Plan → Plan
+held p = record {
+  levels = p .levels;
+  k = p .k;
+  added = min (p .added) 7;
+  words = p .words;
+  signs = p .signs;
+  blocks = min (p .blocks) 5;
+  blockwords = p .blockwords;
+}

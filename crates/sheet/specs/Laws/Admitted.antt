@@ -1,0 +1,70 @@
+-- What is known of a sheet that is accepted.
+--
+--   Admitted fs p narrow    its fields, plan, readings and marks are as the rules ask, and the column is wide enough
+--   admitted                so they are where there is no number
+--   admits                  and this is all that is asked
+--   readings-long, reading-is    how many readings a body has, and each of them
+use mathlib.Core.Path.{_≡_, refl, _∙_}
+use mathlib.Core.Bool.{Bool, false, _||_}
+use mathlib.Core.List.{List}
+use Prim.Native.Nat.{ℕ, _/_, _<_}
+use native.Mathlib.Omega.{arith}
+use lib.IntN.{pos}
+use lib.ListN.{length}
+use Rattle.algebra.specs.Tab.{length-tab, getD-tab}
+use Rattle.algebra.specs.Tests.{neither}
+use Rattle.contrasts.specs.Columns.{read}
+use Rattle.contrasts.specs.Limits.{readingLimit}
+use Rattle.plan.specs.declared.types.Plan.{Plan}
+use Rattle.plan.specs.Check.{planNumber}
+use Rattle.plan.specs.Laws.Answers.{passed, plan-passed, after-plan}
+use Rattle.columns.specs.Lines.{wrongLength, anyBeyond}
+use Rattle.rows.specs.Kinds.{wrongRows, badMarks}
+use Rattle.fields.specs.Fields.{Fields}
+use Rattle.fields.specs.Rules.{badFields}
+use Rattle.sheet.specs.Sheet.{readingAt, readingsOf, readingsIn, marksIn, numberWith}
+
+pub readings-long : (body : List ℕ) → length (readingsOf body) ≡ length body / 4
+unfolding readingsOf
+readings-long body = length-tab (length body / 4) (readingAt body)
+
+pub reading-is : (body : List ℕ) (i : ℕ) → i < length body / 4 → read (readingsOf body) i ≡ readingAt body i
+unfolding readingsOf
+reading-is body i h = getD-tab (pos 0) (length body / 4) (readingAt body) i h
+
+pub record Admitted (fs : Fields) (p : Plan) (narrow : Bool) : Type 0 where
+  pub fields : badFields fs ≡ false
+  pub plan : planNumber p ≡ 0
+  pub wide : narrow ≡ false
+  pub readings : wrongLength p (length (readingsIn fs)) ≡ false
+  pub marks : wrongRows p (length (marksIn fs)) ≡ false
+  pub within : anyBeyond readingLimit (readingsIn fs) ≡ false
+  pub lawful : badMarks p (marksIn fs) ≡ false
+
+module _ (fs : Fields) (p : Plan) (narrow : Bool) where
+  abbrev lengths : Bool
+  lengths = wrongLength p (length (readingsIn fs)) || wrongRows p (length (marksIn fs))
+
+  pub admitted : numberWith fs p narrow ≡ 0 → Admitted fs p narrow
+  unfolding numberWith
+  admitted e =
+      let l1 = passed (badFields fs) 1 _ (omega arith) e in
+      let q = plan-passed p _ (l1 .1) in
+      let l11 = passed (narrow || lengths) 11 _ (omega arith) (q .1) in
+      let l12 = passed (anyBeyond readingLimit (readingsIn fs)) 12 _ (omega arith) (l11 .1) in
+      let l13 = passed (badMarks p (marksIn fs)) 13 _ (omega arith) (l12 .1) in
+      let a = neither narrow lengths (l11 .0) in
+      let b = neither (wrongLength p (length (readingsIn fs))) (wrongRows p (length (marksIn fs))) (a .1) in
+      record {
+        fields = l1 .0;
+        plan = q .0;
+        wide = a .0;
+        readings = b .0;
+        marks = b .1;
+        within = l12 .0;
+        lawful = l13 .0;
+      }
+
+  pub admits : Admitted fs p narrow → numberWith fs p narrow ≡ 0
+  unfolding numberWith
+  admits a = rw (a .fields) (after-plan p _ (a .plan) ∙ rw (a .wide, a .readings, a .marks, a .within, a .lawful) refl)

@@ -1,0 +1,14 @@
+// Sheets: the bytes of a plan, readings and marks that come from outside. Both calls take any bytes.
+//
+//   read(sheet, column)   the plan, and the readings in the column
+//   Sheet                 what it answers
+//   marks(sheet)          the part of the sheet that holds the marks
+mod calls;
+mod numbers;
+mod plans;
+mod readings;
+mod types;
+
+pub use calls::marks;
+pub use calls::read;
+pub use types::Sheet;
