@@ -29,14 +29,14 @@ use Rattle.plan.specs.declared.types.Plan.{Plan}
 use Rattle.plan.specs.Check.{runCount}
 use Rattle.plan.specs.Plan.{factorsOf, runsOf}
 use Rattle.plan.specs.Laws.Answers.{written-new}
-use Rattle.plan.specs.Laws.Sizes.{run-count}
+use Rattle.plan.specs.Laws.Sizes.{run-count, runs-few}
 use Rattle.columns.specs.Laws.Admitted.{admits}
 use Rattle.yates.specs.Calls.{totalsNumber, totalsColumn}
 use Rattle.effects.specs.Effects.{effectRows, effectDivisors}
 use Rattle.rows.specs.Kinds.{rowsIn, kindOf, kindsOf}
-use Rattle.rows.specs.Laws.{four-kinds}
+use Rattle.rows.specs.Laws.{four-kinds, rows-few}
 use Rattle.anova.specs.declared.walks.Sums.{Sums}
-use Rattle.anova.specs.Laws.Admitted.{rows-power, runs-few, rows-few, limit-fits, within-limit}
+use Rattle.anova.specs.Laws.Admitted.{rows-power, limit-fits, within-limit}
 use Rattle.anova.specs.Ready.{Walkable, TableReady}
 use Rattle.anova.specs.Table.{sourceOf, sumsOf, rowsOf}
 use Rattle.anova.specs.Walk.{walkNumerator, walkRow, walkKind, rowsAfter, numeratorsAfter, degreesAfter, zeros}
@@ -83,11 +83,11 @@ module _ {p : Plan} {readings : List ℤ} {marks : List ℕ} {totals : List ℤ}
 
       row-is : walkRow effects e ≡ rowOf (factorsOf p) e
       unfolding effectRows
-      row-is = rw (l .effects-are) (getD-tab 0 1024 _ e (omega (arith, (runs-few a))) ∙ rw in-plan refl)
+      row-is = rw (l .effects-are) (getD-tab 0 1024 _ e (omega (arith, (runs-few p (a .plan)))) ∙ rw in-plan refl)
 
       divisor-is : getD ds e 0 ≡ divisor* (factorsOf p) e
       unfolding effectDivisors
-      divisor-is = rw (l .divisors-are) (getD-tab 0 1024 _ e (omega (arith, (runs-few a))) ∙ rw in-plan refl)
+      divisor-is = rw (l .divisors-are) (getD-tab 0 1024 _ e (omega (arith, (runs-few p (a .plan)))) ∙ rw in-plan refl)
 
       weight-is : d / getD ds e 0 ≡ weight* (factorsOf p) e
       unfolding weight*
@@ -103,7 +103,7 @@ module _ {p : Plan} {readings : List ℤ} {marks : List ℕ} {totals : List ℤ}
       kind-is : walkKind effects kinds e ≡ kindOf p marks (rowOf (factorsOf p) e)
       unfolding kindsOf
       kind-is =
-          rw (row-is, l .kinds-are) (getD-tab 0 1024 (kindOf p marks) (rowOf (factorsOf p) e) (omega (arith, row-there, (rows-few a))))
+          rw (row-is, l .kinds-are) (getD-tab 0 1024 (kindOf p marks) (rowOf (factorsOf p) e) (omega (arith, row-there, (rows-few p (a .plan)))))
 
     -- the sum of all numerators is the total, which is within the limit of numerators
     all-numerators : Σℕ (length ts) (walkNumerator ts d ds) ≡ denominator (factorsOf p) * squared (factorsOf p) (read readings)
@@ -114,12 +114,12 @@ module _ {p : Plan} {readings : List ℤ} {marks : List ℕ} {totals : List ℤ}
     unfolding effectRows effectDivisors kindsOf
     walk-ready =
         record {
-          effects-long = rw (long, l .effects-are, length-tab 1024 (λ e. cond (ltb e (runCount p)) (rowOf (factorsOf p) e) 0)) (runs-few a);
-          divisors-long = rw (long, l .divisors-are, length-tab 1024 (λ e. cond (ltb e (runCount p)) (divisor* (factorsOf p) e) 1)) (runs-few a);
+          effects-long = rw (long, l .effects-are, length-tab 1024 (λ e. cond (ltb e (runCount p)) (rowOf (factorsOf p) e) 0)) (runs-few p (a .plan));
+          divisors-long = rw (long, l .divisors-are, length-tab 1024 (λ e. cond (ltb e (runCount p)) (divisor* (factorsOf p) e) 1)) (runs-few p (a .plan));
           divisors-some = λ e h. rw (divisor-is (rw long at h)) (divisor*-pos (factorsOf p) e);
           weights-some = λ e h. rw (weight-is (rw long at h)) (weight-pos (factorsOf p) e);
           row-there = λ e h. rw (row-is (rw long at h), rows-count) (row-there (rw long at h));
-          kinds-long = rw (rows-count, l .kinds-are, length-tab 1024 (kindOf p marks)) (rows-few a);
+          kinds-long = rw (rows-count, l .kinds-are, length-tab 1024 (kindOf p marks)) (rows-few p (a .plan));
           four-kinds = λ e h. rw (kind-is (rw long at h)) (four-kinds p marks (rowOf (factorsOf p) e));
           cleared = l .rows-are ∙ ap zeros (a .rows-long ∙ sym rows-count);
           sum-fits = rw all-numerators (omega (arith, (within-limit a), limit-fits));

@@ -31,14 +31,15 @@ use Rattle.contrasts.specs.Laws.TwoLevels.{denominator-two}
 use Rattle.plan.specs.declared.types.Plan.{Plan}
 use Rattle.plan.specs.Plan.{factorsOf, runsOf}
 use Rattle.plan.specs.Laws.Accepted.{accepted}
-use Rattle.plan.specs.Laws.Sizes.{as-power, plan-kind, factors-two, factors-three}
+use Rattle.plan.specs.Laws.Sizes.{as-power, plan-kind, factors-two, factors-three, runs-few}
 use Rattle.contrasts.specs.Limits.{mostThree}
 use Rattle.contrasts.specs.Laws.Kinds.{the-three}
 use Rattle.rows.specs.Kinds.{rowsIn, keptKind, errorKind, meanKind, blocksKind}
+use Rattle.rows.specs.Laws.{rows-few}
 use Rattle.anova.specs.declared.types.Source.{Source}
 use Rattle.anova.specs.declared.types.Figures.{Figures}
 use Rattle.anova.specs.declared.walks.Sums.{Sums}
-use Rattle.anova.specs.Laws.Admitted.{runs-few, rows-few, within-limit, limit-fits}
+use Rattle.anova.specs.Laws.Admitted.{within-limit, limit-fits}
 use Rattle.anova.specs.Ready.{SquaresFit, Checkable, TableReady}
 use Rattle.anova.specs.Table.{sourceOf, totalSource, checksOf, sumsOf, tableFigures}
 use Rattle.anova.specs.Walk.{squaresOf}
@@ -53,7 +54,7 @@ module _ {p : Plan} {readings : List ℤ} {marks : List ℕ} {totals : List ℤ}
       record {
         kind = plan-kind p (a .plan);
         most = λ h. at-most-six (p .k) (accepted p (a .plan) .factors .2 (the-three (p .levels) (plan-kind p (a .plan)) h));
-        few = rw (a .whole) (runs-few a);
+        few = rw (a .whole) (runs-few p (a .plan));
         whole = as-power p (a .plan) (a .whole);
         same = a .same ∙ sym (a .whole);
         within = a .within;
@@ -66,7 +67,7 @@ module _ {p : Plan} {readings : List ℤ} {marks : List ℕ} {totals : List ℤ}
 
   module _ {n : ℕ} (e : n ≡ length totals) where
     pub lengths-few : (n ≤ 1024) × (length rows ≤ 1024)
-    lengths-few = (rw (e ∙ a .same) (runs-few a), rw (a .rows-long) (rows-few a))
+    lengths-few = (rw (e ∙ a .same) (runs-few p (a .plan)), rw (a .rows-long) (rows-few p (a .plan)))
 
     pub denominator-is : {d : ℕ} → d ≡ cond (eqb (p .levels) 2) (n) (n * length rows) → d ≡ denominator (factorsOf p)
     denominator-is h = h ∙ rw (e ∙ a .same, a .rows-long) (by (ℕ-discrete (p .levels) 2))

@@ -1,4 +1,6 @@
 -- Laws on sheets that callers cite.
 --
 --   Admitted    what is known of a sheet that is accepted
+--   Marks       the marks of such a sheet
 pub mod Admitted
+pub mod Marks

@@ -2,18 +2,14 @@
 --
 --   table-admitted             lengths and bounds, from the number
 --   rows-power                 R is 2 to the power of the number of factors
---   runs-few, rows-few         neither runs nor rows are more than 1,024
 --   limit-fits                 the limit of numerators fits an i64
 --   within-limit               the total, by the sum of squares, is within that limit
-use mathlib.Core.Path.{_≡_, sym, _∙_, ap}
-use mathlib.Core.Bool.{false, _||_}
+use mathlib.Core.Path.{_≡_, ap}
+use mathlib.Core.Bool.{_||_}
 use mathlib.Core.List.{List}
-use mathlib.Core.Logic.{_⊎_, inl, inr}
 use Prim.Native.Nat.{ℕ, _*_, _^_, _<_, _≤_}
-use native.Mathlib.Nat.{pow-le-pow-right}
 use native.Mathlib.Omega.{arith}
-use borrow.Author.Tests.{eqb-true, not-false}
-use lib.Dec.{eqb, lit<}
+use lib.Dec.{lit<}
 use lib.IntN.{ℤ}
 use lib.ListN.{length, length-replicate}
 use Rattle.algebra.specs.Tests.{neither}
@@ -23,11 +19,9 @@ use Rattle.contrasts.specs.Tables.{ofLevels}
 use Rattle.contrasts.specs.Totals.{denominator, squared}
 use Rattle.contrasts.specs.Laws.Limits.{total-fits}
 use Rattle.plan.specs.declared.types.Plan.{Plan}
-use Rattle.plan.specs.Check.{runCount}
-use Rattle.plan.specs.Plan.{factorsOf, runsOf}
-use Rattle.plan.specs.Laws.Accepted.{sizes}
+use Rattle.plan.specs.Plan.{factorsOf}
 use Rattle.plan.specs.Laws.Answers.{passed, plan-passed}
-use Rattle.plan.specs.Laws.Sizes.{RunsTwo, RunsThree, runs-known, run-count, plan-within}
+use Rattle.plan.specs.Laws.Sizes.{plan-within}
 use Rattle.columns.specs.Lines.{wrongLength, anyBeyond}
 use Rattle.columns.specs.Laws.Admitted.{all-within, as-long}
 use Rattle.rows.specs.Kinds.{rowsIn, wrongRows}
@@ -66,22 +60,6 @@ module _ {p : Plan} {readings : List ℤ} {marks : List ℕ} {totals : List ℤ}
 
   pub rows-power : 2 ^ length (factorsOf p) ≡ rowsIn p
   rows-power = ap (λ n. 2 ^ n) factors-count
-
-  pub runs-few : runsOf p ≤ 1024
-  runs-few = by (runs-known p)
-    where
-      c : runsOf p ≡ runCount p
-      c = sym (run-count p (a .plan))
-
-      by : (runCount p ≡ 0) ⊎ (RunsTwo p ⊎ RunsThree p) → runsOf p ≤ 1024
-      by (inl z) = omega (arith, c, z)
-      by (inr (inl t)) = rw (c ∙ t .count) (pow-le-pow-right {n = 2} (lit< tt) {i = p .k} {j = 10} (t .most))
-      by (inr (inr t)) =
-          let s : 3 ^ p .k ≤ 729 = pow-le-pow-right {n = 3} (lit< tt) {i = p .k} {j = 6} (t .most) in
-          rw (c ∙ t .count) (omega (arith, s))
-
-  pub rows-few : rowsIn p ≤ 1024
-  rows-few = pow-le-pow-right {n = 2} (lit< tt) {i = p .k} {j = 10} (sizes p (a .plan) .0)
 
   pub within-limit : denominator (factorsOf p) * squared (factorsOf p) (read readings) ≤ numeratorLimit
   unfolding factorsOf

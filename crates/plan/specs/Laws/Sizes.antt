@@ -7,9 +7,10 @@
 --   plan-within                   its totals, and all values on the way, are within the limits
 --   spacing-power                 the values of the factor at position f lie levels to the power f apart
 --   RunsTwo, RunsThree, runs-known    what `runs` gives of any plan: 0, or the number of runs at two or at three levels
+--   runs-few                      there are at most 1,024 runs
 --   run-count, spacing-is, confounded-is    what `runs`, `spacing` and `confounded` give of an accepted plan
 --   power-room, power-more        the loop that multiplies
-use mathlib.Core.Path.{_≡_, refl, _∙_}
+use mathlib.Core.Path.{_≡_, refl, sym, _∙_}
 use mathlib.Core.Logic.{_⊎_, inl, inr}
 use mathlib.Core.Bool.{Bool, true, false}
 use Prim.Native.Nat.{ℕ, _+_, _*_, _^_, _<_, _≤_}
@@ -103,6 +104,19 @@ runs-known p = by (badLevels (p .levels)) (badFactors (p .levels) (p .k)) refl r
 pub run-count : (p : Plan) → planNumber p ≡ 0 → runCount p ≡ runsOf p
 unfolding runCount
 run-count p e = let a = accepted p e in rw (levels-right a, factors-right a) refl
+
+pub runs-few : (p : Plan) → planNumber p ≡ 0 → runsOf p ≤ 1024
+runs-few p ok = by (runs-known p)
+  where
+    c : runsOf p ≡ runCount p
+    c = sym (run-count p ok)
+
+    by : (runCount p ≡ 0) ⊎ (RunsTwo p ⊎ RunsThree p) → runsOf p ≤ 1024
+    by (inl z) = omega (arith, c, z)
+    by (inr (inl t)) = rw (c ∙ t .count) (pow-le-pow-right {n = 2} (omega arith) {i = p .k} {j = 10} (t .most))
+    by (inr (inr t)) =
+        let s : 3 ^ p .k ≤ 729 = pow-le-pow-right {n = 3} (omega arith) {i = p .k} {j = 6} (t .most) in
+        rw (c ∙ t .count) (omega (arith, s))
 
 pub spacing-is : (p : Plan) (f : ℕ) → planNumber p ≡ 0 → f < p .k → spacingAt p f ≡ spacing (factorsOf p) f
 unfolding spacingAt
