@@ -6,6 +6,7 @@
 --   Each         fields of one tag, one after the other
 --   Plans        the plan that is read back
 --   Readings     the readings that are read back
+--   Plain        what is written are bytes
 --   RoundTrip    the law on the whole sheet
 pub mod Writer
 pub mod Bytes
@@ -13,4 +14,5 @@ pub mod Back
 pub mod Each
 pub mod Plans
 pub mod Readings
+pub mod Plain
 pub mod RoundTrip

@@ -4,22 +4,25 @@
 --   ReadBack                what both calls give of the sheet that is written from them
 --   round-trip              they give the plan with 0 beyond its counts, the readings and the marks
 --   same-back               and the plan itself where it has 0 there
+--   all-bytes               the sheet that is written has bytes only
 use mathlib.Core.Path.{_≡_, refl, sym, ap, _∙_}
 use mathlib.Core.Bool.{Bool, false, not}
-use mathlib.Core.List.{List, [], _++_}
+use mathlib.Core.List.{List, [], _∷_, _++_}
+use mathlib.Core.Logic.{_⊎_, inl, inr}
 use Prim.Native.Nat.{ℕ, _*_, _%_, _^_, _≤_, _<_}
 use native.Mathlib.Omega.{arith}
 use borrow.Author.Tests.{eq-eqb, le-ltb}
 use lib.Dec.{ltb}
 use lib.IntN.{ℤ, natAbs}
 use lib.ListN.{length, getD, drop}
+use lib.Seq.{length-take-le, getD-take}
 use Rattle.algebra.specs.Tests.{none}
 use Rattle.contrasts.specs.Columns.{read}
 use Rattle.contrasts.specs.Limits.{readingLimit}
 use Rattle.plan.specs.declared.types.Plan.{Plan}
 use Rattle.plan.specs.Check.{planNumber}
-use Rattle.plan.specs.Plan.{factorsOf, runsOf}
-use Rattle.plan.specs.Laws.Accepted.{sizes}
+use Rattle.plan.specs.Plan.{addedSigns, factorsOf, runsOf}
+use Rattle.plan.specs.Laws.Accepted.{accepted as accepted-plan, sizes}
 use Rattle.plan.specs.Laws.Alike.{Alike, same-number, same-factors}
 use Rattle.plan.specs.Laws.Answers.{written-new}
 use Rattle.plan.specs.Laws.Sizes.{runs-few}
@@ -31,11 +34,12 @@ use Rattle.fields.specs.Fields.{Fields, end, field, fieldsOf, bodyAt}
 use Rattle.fields.specs.Rules.{rules, badFrom, anyNotOnce, badFields}
 use Rattle.sheet.specs.Sheet.{planIn, readingsOf, readingsIn, marksIn, sheetNumber, readNumber, noPlan, readPlan, readColumn, marksNumber, marksOf}
 use Rattle.sheet.specs.Laws.Admitted.{Admitted, admits}
-use Rattle.sheet.specs.Laws.Marks.{accepted-without}
+use Rattle.sheet.specs.Laws.Marks.{small-marks, accepted-without}
 use Rattle.writing.specs.Writer.{bytes, readingBytes, addedBody, blockBody, sheetFields, sheetOf, settled}
 use Rattle.writing.specs.Back.{read-back}
 use Rattle.writing.specs.Each.{each-whole, each-fine}
 use Rattle.writing.specs.Plans.{Shaped, settled-alike, Clean, settled-same, Bodies, the-bodies, plan-back}
+use Rattle.writing.specs.Plain.{AllBytes, plain-append, plain-list, plain-bytes, plain-readings, plain-fields, plain-each}
 use Rattle.writing.specs.Readings.{reading-bytes-length, readings-back}
 
 pub record Sheetable (p : Plan) (xs : List ℤ) (marks : List ℕ) : Type 0 where
@@ -160,3 +164,31 @@ module _ {p : Plan} {xs : List ℤ} {marks : List ℕ} (g : Sheetable p xs marks
 
   pub same-back : Clean p → (column : List ℤ) → runsOf p ≤ length column → readPlan (sheetOf p xs marks) (length column) ≡ p
   same-back c column room = round-trip column room .plan-read ∙ settled-same p (g .shaped) c
+
+  -- ---- bytes only
+
+  sign-small : (i : ℕ) → i < p .added → getD (p .signs) i 0 < 256
+  sign-small i h =
+      let s = sizes p (g .accepted) in
+      let l : length (addedSigns p) ≡ p .added = length-take-le (p .added) (p .signs) (rw (g .shaped .signs-long) (s .1)) in
+      let e : getD (addedSigns p) i 0 ≡ getD (p .signs) i 0 = getD-take (p .added) (p .signs) i 0 h in
+      omega (arith, e, accepted-plan p (g .accepted) .signs i (rw l h))
+
+  levels-small : p .levels < 256
+  levels-small = by (accepted-plan p (g .accepted) .levels)
+    where
+      by : (p .levels ≡ 2) ⊎ (p .levels ≡ 3) → p .levels < 256
+      by (inl e) = omega (arith, e)
+      by (inr e) = omega (arith, e)
+
+  pub all-bytes : AllBytes (sheetOf p xs marks)
+  unfolding sheetOf sheetFields
+  all-bytes =
+      plain-fields fs (
+        omega arith,
+        (levels-small, (omega (arith, sizes p (g .accepted) .0), tt)),
+        plain-each 2 (p .added) (addedBody p) _ (omega arith)
+            (λ i h. plain-append (bytes 2 (getD (p .words) i 0)) (getD (p .signs) i 0 ∷ []) (plain-bytes 2 (getD (p .words) i 0)) (sign-small i h, tt))
+            (plain-each 3 (p .blocks) (blockBody p) _ (omega arith) (λ i h. plain-bytes 2 (getD (p .blockwords) i 0))
+            (omega arith, plain-readings xs, (omega arith, plain-list marks (λ w h. omega (arith, small-marks p marks (g .lawful) w h)), tt))),
+      )

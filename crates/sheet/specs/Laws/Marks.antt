@@ -1,6 +1,7 @@
 -- What the reader accepts, the marks call hands back: R bytes, each 0 or 1.
 --
 --   accepted-without    a sheet that the reader accepts is accepted without the column too
+--   small-marks         marks to which line 13 does not apply are 0 or 1
 --   Lawful p marks      so many marks as the plan has rows, each 0 or 1
 --   marks-lawful        the marks of a sheet that the reader accepts
 use mathlib.Core.Path.{_≡_, refl, sym, _∙_}
@@ -25,7 +26,7 @@ pub record Lawful (p : Plan) (marks : List ℕ) : Type 0 where
   pub long : length marks ≡ rowsIn p
   pub small : (w : ℕ) → w < length marks → getD marks w 0 ≤ 1
 
-small-marks : (p : Plan) (marks : List ℕ) → badMarks p marks ≡ false → (w : ℕ) → w < length marks → getD marks w 0 ≤ 1
+pub small-marks : (p : Plan) (marks : List ℕ) → badMarks p marks ≡ false → (w : ℕ) → w < length marks → getD marks w 0 ≤ 1
 unfolding badMarks badMark
 small-marks p marks e w h =
     let m = getD marks w 0 in
