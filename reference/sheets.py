@@ -1,0 +1,553 @@
+# Sheets for the two calls that take one, and the expected text of the program that tries them: sheets with a name, whose
+# numbers are listed here, and 600 sheets that are made and damaged by numbers from a fixed seed. sheet.py answers them.
+#
+# The program reads records, one for each sheet in this order: room, the number of places of the column that it lends, and
+# length, two bytes each and big-endian; then so many bytes of a sheet. Before each call every place of the column holds a
+# number that no reading may be. The program writes a line for each record: `done` or the refusal; levels and k; the added
+# factors; the block words; the readings, which are the places before the first that kept its number; how many places kept
+# theirs; and the marks. A list is how many there are and then each of them, an added factor as word/sign, the marks with no
+# space between them. Of over 40 readings one number is written (tables.py, counted). Words and signs that are not 0 beyond
+# a plan's counts would be written too, so a refusal with a plan or a column that is not as it should be shows.
+#
+# Defined here:
+#   Case                 a sheet with the room of its column; number is the answer that the rules give, None if not listed
+#   CASES                the sheets with a name
+#   Numbers              numbers that are spread out, from a seed
+#   DAMAGES              ways to damage the fields of a sheet
+#   made, MADE           a sheet that is made and, four times of five, damaged; the 600 of them
+#   check                list of complaints, empty if all is well
+#   expected_text        the expected text
+#   inputs               the input of the program (sheets.py inputs)
+#   list_text            a line for each sheet, with its number, answer and name (sheets.py list)
+
+import sys
+from collections import Counter, namedtuple
+
+import anova
+import answers
+import factab
+import sheet
+import tables
+from anova import row_number
+from answers import AB, ABC, BC, EIGHT, FOUR, FOUR_BLOCKS, SIX_ADDED, TEN
+from factab import DONE, Plan
+from sheet import ADDED, BLOCK, MARKS, PLAN, READINGS, field
+
+# contents: what the sheet was made from, where nothing is damaged.
+Case = namedtuple("Case", "number why sheet room contents", defaults=(None,))
+
+MOST_SHEET = 5_187
+MOST_ROOM = 1_100
+MOST_INPUT = 131_072
+MOST_SHOWN = 40
+ANSWERS = (DONE, 1, 2, 3, 4, 5, 6, 7, 8, 11, 12, 13)
+
+
+# ---- sheets with a name: accepted ----
+
+TWO, THREE, ONE = Plan(2, 2), Plan(2, 3), Plan(2, 1)
+LAST = [0, 0, 0, 1]
+SPREAD = (0, 1, -1, 127, -128, 128, 255, -256, 256, 32767, -32768, 65535, 65536, -65537, 99999, -99999)
+RULES = sheet.write(TWO, FOUR, LAST)
+
+
+def lent(number, why, plan, readings, marks=None, room=None):
+    """The sheet of a plan; what is not said: marks 0, and a column as long as the readings."""
+    rows = [0] * anova.row_count(plan.k) if marks is None else marks
+    return Case(number, why, sheet.write(plan, readings, rows), len(readings) if room is None else room)
+
+
+def spread(count):
+    """So many readings within the limits, all different."""
+    return [(position * 9973 + 12345) % 200001 - 100000 for position in range(count)]
+
+
+def every_third(plan):
+    """Marks of an accepted plan: 1 on every third row that may have it."""
+    kinds = anova.row_kinds(plan, [0] * anova.row_count(plan.k))
+    return [int(row % 3 == 1 and kind == anova.KEPT) for row, kind in enumerate(kinds)]
+
+
+MOST = Plan(2, 10, SIX_ADDED, FOUR_BLOCKS)
+ACCEPTED = [
+    lent(DONE, "3, 5, 4, 8 with marks 0, 0, 0, 1", TWO, FOUR, LAST),
+    lent(DONE, "column one place longer", TWO, FOUR, LAST, 5),
+    lent(DONE, "column of 1,100 places", TWO, FOUR, LAST, 1100),
+    lent(DONE, "marks 0, 1, 1, 1", TWO, FOUR, [0, 1, 1, 1]),
+    lent(DONE, "readings at both limits", ONE, [-100000, 100000]),
+    lent(DONE, "readings of many signs and sizes", Plan(2, 4), SPREAD),
+    lent(DONE, "block word ABC", Plan(2, 3, (), (ABC,)), EIGHT),
+    lent(DONE, "D = ABC", Plan(2, 3, ((ABC, 0),)), EIGHT),
+    lent(DONE, "D = ABC with sign 1", Plan(2, 3, ((ABC, 1),)), EIGHT, [0, 0, 1, 0, 0, 1, 0, 1], 9),
+    lent(DONE, "added BC, AB, block word ABC", Plan(2, 3, ((BC, 1), (AB, 0)), (ABC,)), EIGHT, [0, 1, 1, 0, 1, 0, 0, 0]),
+    lent(DONE, "block words AD, ABC", Plan(2, 4, (), (row_number("AD"), ABC)), range(16)),
+    lent(DONE, "three levels, k = 1", Plan(3, 1), [2, 5, 3], [0, 1], 3),
+    lent(DONE, "three levels, k = 1, column one place longer", Plan(3, 1), [-2, 5, -3], [0, 0], 4),
+    lent(DONE, "three levels, k = 2", Plan(3, 2), range(-4, 5), LAST),
+    lent(DONE, "three levels, k = 6", Plan(3, 6), spread(729), every_third(Plan(3, 6)), 730),
+    lent(DONE, "two levels, k = 10", TEN, spread(1024), every_third(TEN)),
+    lent(DONE, "the longest sheet", MOST, spread(1024), every_third(MOST)),
+    lent(DONE, "the longest sheet, column longer", MOST, [-100000] * 1023 + [100000], room=1100),
+]
+
+
+# ---- line 1 ----
+
+# The fields 1, 4 and 5 of the rules' example, and a field 2 and a field 3.
+P, R, M = sheet.fields_written(TWO, FOUR, LAST)
+A, B = field(ADDED, bytes([0, 3, 0])), field(BLOCK, bytes([0, 3]))
+NOTHING = b""
+
+
+def bare(why, *parts, number=1, room=4):
+    """The sheet of these parts."""
+    return Case(number, why, b"".join(parts), room)
+
+
+LINE_1 = [bare("cut after %d bytes" % count, RULES[:count]) for count in range(len(RULES))] + [
+    bare("one byte more", RULES, bytes([5])),
+    bare("two bytes more", RULES, bytes([5, 0])),
+    bare("a zero byte more", RULES, bytes([0])),
+    bare("field 5 longer than the sheet by 1", P, R, bytes([5, 0, 5]) + M[3:]),
+    bare("field 5 of length 65,535", P, R, bytes([5, 255, 255]) + M[3:]),
+    bare("field 1 of length 65,535", bytes([1, 255, 255]) + P[3:], R, M),
+    bare("field 5 shorter by 1, and so a byte left", P, R, bytes([5, 0, 3]) + M[3:]),
+    bare("field 4 longer by 7, and so over field 5", P, bytes([4, 0, 23]) + R[3:], M),
+    bare("lengths with the low byte first", P[:1] + bytes([2, 0]) + P[3:], R[:1] + bytes([16, 0]) + R[3:], M),
+    bare("tag 0 first", field(0, NOTHING), P, R, M),
+    bare("tag 0 last", P, R, M, field(0, NOTHING)),
+    bare("tag 0 alone", field(0, NOTHING)),
+    bare("tag 6", P, R, M, field(6, NOTHING)),
+    bare("tag 6 with a body", P, R, M, field(6, M[3:])),
+    bare("tag 255", P, R, M, field(255, NOTHING)),
+    bare("tag 6 in place of 5", P, R, field(6, M[3:])),
+    bare("tag 129 in place of 1", field(129, P[3:]), R, M),
+    bare("falling: 4, 1, 5", R, P, M),
+    bare("falling: 1, 5, 4", P, M, R),
+    bare("falling: 2, 1, 4, 5", A, P, R, M),
+    bare("falling: 1, 4, 2, 5", P, R, A, M),
+    bare("falling: 1, 4, 3, 5", P, R, B, M),
+    bare("falling: 1, 4, 5, 3", P, R, M, B),
+    bare("falling: 1, 3, 2, 4, 5", P, B, field(ADDED, bytes([0, 7, 0])), R, M),
+    bare("tag 1 absent", R, M),
+    bare("tag 4 absent", P, M),
+    bare("tag 5 absent", P, R),
+    bare("tags 4 and 5 absent, a field 2 last", P, A),
+    bare("tag 1 twice", P, P, R, M),
+    bare("tag 4 twice", P, R, R, M),
+    bare("tag 4 twice, the second time empty", P, R, field(READINGS, NOTHING), M),
+    bare("tag 5 twice", P, R, M, M),
+    bare("tag 5 twice, the second time empty", P, R, M, field(MARKS, NOTHING)),
+    bare("tag 4 twice, two readings in each", P, field(READINGS, R[3:11]), field(READINGS, R[11:]), M),
+] + [
+    bare("field 1 of %d bytes" % count, field(PLAN, bytes([2, 2, 0, 0][:count])), R, M) for count in (0, 1, 3, 4)
+] + [
+    bare("field 2 of %d bytes" % count, P, field(ADDED, bytes([0, 3, 0, 0, 3, 0][:count])), R, M)
+    for count in (0, 1, 2, 4, 6)
+] + [
+    bare("field 3 of %d bytes" % count, P, field(BLOCK, bytes([0, 3, 0, 3][:count])), R, M) for count in (0, 1, 3, 4)
+] + [
+    bare("field 4 of %d bytes" % count, P, field(READINGS, (R[3:] + R[3:])[:count]), M)
+    for count in (1, 2, 3, 13, 14, 15, 17, 18, 19)
+]
+
+
+# ---- the other lines ----
+
+def shown_by_sheet(own):
+    """Whether the number of a refused table comes from plan, readings and marks, and not from how long totals and rows are."""
+    runs, rows = factab.run_count(own.plan.levels, own.plan.k), anova.row_count(own.plan.k)
+    return anova.table_answer(own.plan, own.readings, own.marks, runs, rows) == own.number
+
+
+LOW, HIGH = -2 ** 31, 2 ** 31 - 1
+TABLE_REFUSALS = [lent(own.number, own.why, own.plan, own.readings, own.marks, own.totals_length)
+                  for own in answers.REFUSALS if shown_by_sheet(own)]
+REFUSED = [
+    lent(2, "levels 255, k = 255", Plan(255, 255), FOUR, LAST),
+    lent(3, "two levels, k = 255", Plan(2, 255), FOUR, LAST),
+    lent(4, "7 added factors, all different", Plan(2, 4, tuple((word, 0) for word in (3, 5, 6, 7, 9, 10, 11))), range(16)),
+    lent(4, "5 block words", Plan(2, 10, (), FOUR_BLOCKS + (ABC,)), FOUR, LAST),
+    lent(4, "256 added factors", Plan(2, 2, ((AB, 0),) * 256), FOUR, LAST),
+    lent(4, "256 block words", Plan(2, 2, (), (AB,) * 256), FOUR, LAST),
+    lent(4, "300 added factors", Plan(2, 2, ((AB, 0),) * 300), FOUR, LAST),
+    lent(4, "300 block words", Plan(2, 2, (), (AB,) * 300), FOUR, LAST),
+    lent(4, "300 of each", Plan(2, 2, ((AB, 0),) * 300, (AB,) * 300), FOUR, LAST),
+    lent(4, "7 added factors at three levels", Plan(3, 1, ((1, 0),) * 7), [2, 5, 3]),
+    lent(5, "added word 32768", Plan(2, 2, ((32768 + AB, 0),)), FOUR, LAST),
+    lent(5, "block word 768, the bytes of AB the other way round", Plan(2, 2, (), (256 * AB,)), FOUR, LAST),
+    lent(5, "sign 255", Plan(2, 2, ((AB, 255),)), FOUR, LAST),
+    lent(5, "the sixth added word alone has a letter beyond k", MOST._replace(k=9, blocks=()), FOUR, LAST),
+    lent(6, "the fifth and sixth of six added words", TEN._replace(added=SIX_ADDED[:5] + SIX_ADDED[4:5]), FOUR, LAST),
+    lent(7, "the fourth block word is the combination of the first three",
+         TEN._replace(blocks=FOUR_BLOCKS[:3] + (factab.combine(FOUR_BLOCKS[:3]),)), FOUR, LAST),
+    lent(8, "the sixth added word is the combination of the four block words",
+         MOST._replace(added=SIX_ADDED[:5] + ((1023, 0),)), FOUR, LAST),
+    lent(11, "column one place short", TWO, FOUR, LAST, 3),
+    lent(11, "column of no place", TWO, FOUR, LAST, 0),
+    lent(11, "three levels, column one place short", Plan(3, 1), [2, 5, 3], [0, 1], 2),
+    lent(11, "two levels, k = 10, column one place short", TEN, spread(1024), every_third(TEN), 1023),
+    lent(11, "no readings, column of 4 places", TWO, [], LAST, 4),
+    lent(11, "no marks", TWO, FOUR, []),
+    lent(11, "no readings and no marks", TWO, [], [], 4),
+    lent(11, "2 marks", TWO, FOUR, [0, 0]),
+    lent(11, "k = 3, 4 readings, 8 marks", THREE, FOUR, [0] * 8, 8),
+    lent(11, "k = 3, 16 readings", THREE, range(16), [0] * 8),
+    lent(11, "three levels, 4 readings", Plan(3, 1), FOUR, [0, 1]),
+    lent(11, "three levels, k = 2, 9 marks", Plan(3, 2), range(9), [0] * 9),
+    lent(12, "the largest i32", TWO, [3, 5, HIGH, 8], LAST),
+    lent(12, "both extremes of i32", ONE, [LOW, HIGH]),
+    lent(12, "the last reading -100,001, column longer", TWO, [3, 5, 4, -100001], LAST, 6),
+    lent(12, "reading 100,001 in the last of 1,024", TEN, spread(1023) + [100001], every_third(TEN)),
+    lent(12, "three levels, reading 100,001", Plan(3, 1), [2, 100001, 3]),
+    lent(13, "mark 3 on the last row", TWO, FOUR, [0, 0, 0, 3]),
+    lent(13, "mark 255 on row 0", TWO, FOUR, [255, 0, 0, 0]),
+    lent(13, "mark 1 on the combination of four block words", MOST, spread(1024), [0] * 1023 + [1]),
+    lent(13, "three levels, mark 2", Plan(3, 2), range(9), [0, 0, 2, 0]),
+]
+
+
+# ---- two lines at once, of which the lower counts; TABLE_REFUSALS has others ----
+
+def cut(own, why, count=1):
+    """The sheet without its last bytes, and so refused with 1."""
+    return Case(1, why, own.sheet[:-count], own.room)
+
+
+SEVEN = Plan(2, 2, ((1, 9),) * 7)
+TWO_LINES = [
+    cut(lent(2, "", Plan(4, 2), FOUR, LAST), "1 and 2: levels 4, last byte cut"),
+    cut(lent(3, "", Plan(2, 11), FOUR, LAST), "1 and 3: k = 11, last byte cut"),
+    cut(lent(4, "", Plan(2, 2, ((AB, 0),) * 300), FOUR, LAST), "1 and 4: 300 added factors, last byte cut"),
+    cut(lent(4, "", Plan(2, 2, (), (AB,) * 5), FOUR, LAST), "1 and 4: 5 block words, tag 5 absent", 7),
+    cut(lent(8, "", Plan(2, 2, (), (1,)), FOUR, LAST), "1 and 8: block word A, last byte cut"),
+    cut(lent(11, "", TWO, FOUR, LAST, 3), "1 and 11: column one place short, last byte cut"),
+    bare("1 and 2: levels 4, tag 6 last", field(PLAN, bytes([4, 2])), R, M, field(6, NOTHING)),
+    bare("1 and 2: levels 4, tag 4 absent", field(PLAN, bytes([4, 2])), M),
+    bare("1 and 2: field 1 of 1 byte, levels 4", field(PLAN, bytes([4])), R, M),
+    bare("1 and 4: seven fields 2, the last of wrong length", P, A * 6, field(ADDED, bytes([0, 3])), R, M),
+    bare("1 and 11: field 4 of 15 bytes, no marks", P, field(READINGS, R[3:18]), field(MARKS, NOTHING)),
+    bare("1 and 12: reading 2^31 - 1, tag 5 twice", P, field(READINGS, bytes([127, 255, 255, 255])), M, M),
+    bare("1 and 13: mark 2, tag 6 last", P, R, field(MARKS, bytes([0, 2, 0, 0])), field(6, NOTHING)),
+    lent(2, "2 and 4: levels 4, 7 added factors", SEVEN._replace(levels=4), FOUR, LAST),
+    lent(2, "2 and 4: levels 4, 300 block words", Plan(4, 2, (), (AB,) * 300), FOUR, LAST),
+    lent(2, "2 and 11: levels 4, no readings, no marks, no column", Plan(4, 2), [], []),
+    lent(3, "3 and 4: k = 0, 7 added factors", SEVEN._replace(k=0), FOUR, LAST),
+    lent(3, "3 and 5: k = 0, block word A", Plan(2, 0, (), (1,)), FOUR, LAST),
+    lent(4, "4 and 5: 7 added factors, words A and signs 9", SEVEN, FOUR, LAST),
+    lent(4, "4 and 5: 5 empty block words", Plan(2, 2, (), (0,) * 5), FOUR, LAST),
+    lent(4, "4 and 11: 7 added factors, 3 readings", SEVEN, [3, 5, 4], LAST),
+    lent(5, "5 and 7: block words C, C", Plan(2, 2, (), (4, 4)), FOUR, LAST),
+    lent(5, "5 and 13: sign 2, mark 1 on row 0", Plan(2, 2, ((AB, 2),)), FOUR, [1, 0, 0, 0]),
+    lent(6, "6 and 8: added AB, AB, block word A", Plan(2, 2, ((AB, 0), (AB, 1)), (1,)), FOUR, LAST),
+    lent(6, "6 and 12: added AB, AB, the least i32", Plan(2, 2, ((AB, 0), (AB, 0))), [3, 5, 4, LOW], LAST),
+    lent(7, "7 and 11: block words AB, AB, no column", Plan(2, 2, (), (AB, AB)), FOUR, LAST, 0),
+    lent(8, "8 and 11: block word A, column one place short", Plan(2, 2, (), (1,)), FOUR, LAST, 3),
+    lent(8, "8 and 12: block word A, reading 100,001", Plan(2, 2, (), (1,)), [3, 5, 100001, 8], LAST),
+    lent(11, "11 and 12: 3 readings, one of them the least i32", TWO, [3, LOW, 4], LAST, 4),
+    lent(11, "11 and 12: 3 marks, reading 100,001", TWO, [3, 100001, 4, 8], [0, 0, 0]),
+    lent(11, "11 and 12: column one place short, reading 100,001", TWO, [3, 100001, 4, 8], LAST, 3),
+    lent(11, "11 and 13: column one place short, mark 1 on row 0", TWO, FOUR, [1, 0, 0, 0], 3),
+    lent(11, "11 and 13: 3 marks, one of them 2", TWO, FOUR, [0, 2, 0]),
+    lent(11, "11 and 13: 3 readings, mark 2", TWO, [3, 5, 4], [0, 2, 0, 0], 4),
+    lent(12, "12 and 13: the last reading 100,001, mark 1 on row 0", TWO, [3, 5, 4, 100001], [1, 0, 0, 0]),
+    lent(12, "12 and 13: three levels, the least i32, mark 2", Plan(3, 1), [LOW, 5, 3], [0, 2]),
+]
+
+CASES = ACCEPTED + LINE_1 + TABLE_REFUSALS + REFUSED + TWO_LINES
+
+
+# ---- sheets that are made ----
+
+SEED = 3950
+MADE_COUNT = 600
+LIMITS = (-100000, 100000) + SPREAD
+
+
+class Numbers:
+    """Numbers that are spread out: each state is a fixed multiple of the one before and a fixed number, modulo 2^64."""
+
+    def __init__(self, seed):
+        self.state = seed
+
+    def below(self, limit):
+        """The next number, below a limit, from the upper half of the state."""
+        self.state = (self.state * 6364136223846793005 + 1442695040888963407) % 2 ** 64
+        return (self.state >> 32) % limit
+
+    def choose(self, items):
+        """One of a list."""
+        return items[self.below(len(items))]
+
+
+def made_plan(numbers):
+    """An accepted plan: three levels and one or two factors, or two levels and one to four, with words or without."""
+    if numbers.below(6) == 0:
+        return Plan(3, 1 + numbers.below(2))
+    k = 1 + numbers.below(4)
+    words = [word for word in range(2 ** k) if factab.letter_count(word) > 1]
+    while True:
+        added = tuple((numbers.choose(words), numbers.below(2)) for _ in range(numbers.below(5))) if words else ()
+        blocks = tuple(numbers.choose(words) for _ in range(numbers.below(3))) if words else ()
+        if factab.plan_answer(Plan(2, k, added, blocks)) == DONE:
+            return Plan(2, k, added, blocks)
+
+
+def made_contents(numbers):
+    """A plan, readings and marks that are accepted."""
+    plan = made_plan(numbers)
+    readings = [numbers.choose(LIMITS) if numbers.below(3) == 0 else numbers.below(200001) - 100000
+                for _ in range(factab.run_count(plan.levels, plan.k))]
+    kinds = anova.row_kinds(plan, [0] * anova.row_count(plan.k))
+    return sheet.Contents(plan, readings, bytes(numbers.below(2) if kind == anova.KEPT else 0 for kind in kinds))
+
+
+def made_room(numbers, runs):
+    """The room of a column: N places, up to three more, or too few."""
+    way = numbers.below(8)
+    if way == 0:
+        return runs - 1 - numbers.below(2)
+    return runs if way < 5 else runs + 1 + numbers.below(3)
+
+
+# ---- damage ----
+#
+# A sheet is damaged as the list of its parts, which are its fields; parts stay in the list after a first damage, so that a
+# second may follow. Each way takes numbers and parts and gives new parts.
+
+def damage_cut(numbers, parts):
+    """All from a byte on is lost."""
+    left = numbers.below(max(sum(len(part) for part in parts), 1))
+    found = []
+    for part in parts:
+        found.append(part[:left])
+        left -= len(found[-1])
+    return [part for part in found if part]
+
+
+def damage_byte(numbers, parts):
+    """A byte of a field is another: one bit of it turned, a small number, or any."""
+    at = numbers.below(len(parts))
+    place = numbers.below(len(parts[at]))
+    before = parts[at][place]
+    after = numbers.choose((before ^ 1 << numbers.below(8), numbers.below(8), numbers.below(256)))
+    changed = parts[at][:place] + bytes([after if after != before else before ^ 1]) + parts[at][place + 1:]
+    return parts[:at] + [changed] + parts[at + 1:]
+
+
+def damage_swap(numbers, parts):
+    """Two fields change places."""
+    first, second = numbers.below(len(parts)), numbers.below(len(parts))
+    found = list(parts)
+    found[first], found[second] = parts[second], parts[first]
+    return found
+
+
+def damage_repeat(numbers, parts):
+    """A field comes twice."""
+    at = numbers.below(len(parts))
+    return parts[:at] + [parts[at]] + parts[at:]
+
+
+def damage_drop(numbers, parts):
+    """A field is lost."""
+    at = numbers.below(len(parts))
+    return parts[:at] + parts[at + 1:]
+
+
+def damage_length(numbers, parts):
+    """The length of a field is off by one, and its body as it was."""
+    at = numbers.below(len(parts))
+    length = sheet.number_of(parts[at][1:3]) + numbers.choose((-1, 1))
+    changed = parts[at][:1] + (length % 2 ** 16).to_bytes(2, "big") + parts[at][3:]
+    return parts[:at] + [changed] + parts[at + 1:]
+
+
+def damage_count(numbers, parts):
+    """A reading or a mark too many or too few; the length of the field says so."""
+    tag, size = numbers.choose(((READINGS, sheet.READING_LENGTH), (MARKS, 1)))
+    more = numbers.below(2)
+    return [field(tag, part[3:] + part[3:3 + size] if more else part[3:-size]) if part[0] == tag else part for part in parts]
+
+
+def damage_words(numbers, parts):
+    """One, two or seven fields 2 or 3 more, before the fields of higher tags."""
+    tag, count = numbers.choose((ADDED, BLOCK)), numbers.choose((1, 1, 2, 7))
+    bodies = [bytes([0, numbers.below(8), numbers.below(2)])[:sheet.BODY_LENGTHS[tag]] for _ in range(count)]
+    at = next((place for place, part in enumerate(parts) if part[0] > tag), len(parts))
+    return parts[:at] + [field(tag, body) for body in bodies] + parts[at:]
+
+
+def damage_append(numbers, parts):
+    """A few bytes more at the end, or a field of any tag up to 7."""
+    some = bytes(numbers.below(8) for _ in range(1 + numbers.below(4)))
+    return parts + [some if numbers.below(2) else field(numbers.below(8), some)]
+
+
+def damage_body(numbers, parts):
+    """A byte of a field's body is another, small number."""
+    at = numbers.below(len(parts))
+    place = min(3 + numbers.below(max(len(parts[at]) - 3, 1)), len(parts[at]) - 1)
+    return parts[:at] + [parts[at][:place] + bytes([numbers.below(8)]) + parts[at][place + 1:]] + parts[at + 1:]
+
+
+DAMAGES = {
+    "cut": damage_cut,
+    "byte changed": damage_byte,
+    "fields swapped": damage_swap,
+    "field repeated": damage_repeat,
+    "field dropped": damage_drop,
+    "length off by one": damage_length,
+    "wrong count": damage_count,
+    "more words": damage_words,
+    "bytes appended": damage_append,
+    "byte of a body changed": damage_body,
+}
+
+# Most ways lead to line 1; the last is chosen more often than others.
+WAYS = list(DAMAGES) + ["byte of a body changed"] * 6
+UNDAMAGED = "undamaged"
+
+
+def damaged(numbers, parts, way):
+    """The parts damaged in a way. Parts of which nothing is left stay so."""
+    return DAMAGES[way](numbers, parts) if parts else parts
+
+
+def made(numbers):
+    """A sheet that is made: a fifth of all undamaged, a sixth of the others damaged twice."""
+    contents = made_contents(numbers)
+    room = made_room(numbers, len(contents.readings))
+    parts = sheet.fields_written(*contents)
+    if numbers.below(5) == 0:
+        return Case(None, UNDAMAGED, b"".join(parts), room, contents)
+    ways = [numbers.choose(WAYS) for _ in range(2 if numbers.below(6) == 0 else 1)]
+    for way in ways:
+        parts = damaged(numbers, parts, way)
+    return Case(None, ", ".join(ways), b"".join(parts), room)
+
+
+NUMBERS = Numbers(SEED)
+MADE = [made(NUMBERS) for _ in range(MADE_COUNT)]
+SHEETS = CASES + MADE
+
+
+# ---- checks ----
+
+def check_case(own):
+    """Complaints about a sheet with a name: the number that is listed, and marks as the number without the column says."""
+    complaints = []
+    number = sheet.read(own.sheet, own.room).number
+    if number != own.number:
+        complaints.append("%d, listed %d" % (number, own.number))
+    if bool(sheet.marks_part(own.sheet)) != (sheet.sheet_answer(own.sheet, MOST_ROOM) == DONE):
+        complaints.append("marks")
+    return ["%s: %s" % (own.why, complaint) for complaint in complaints]
+
+
+def check_table(own):
+    """The column aside, a sheet to which number 1 does not apply is refused as the table of what it holds would be."""
+    fields = sheet.fields_of(own.sheet)
+    if fields is None or sheet.bad_fields(fields):
+        return []
+    plan, readings, marks = sheet.contents_of(fields)
+    lengths = factab.run_count(plan.levels, plan.k), anova.row_count(plan.k)
+    same = anova.table_answer(plan, readings, marks, *lengths) == sheet.sheet_answer(own.sheet)
+    return [] if same else ["%s: another number than of the table" % own.why]
+
+
+def check_longest():
+    """The longest sheet that is accepted has the length that the rules give."""
+    longest = max(len(own.sheet) for own in SHEETS if sheet.read(own.sheet, own.room).number == DONE)
+    return [] if longest == MOST_SHEET else ["longest sheet: %d bytes" % longest]
+
+
+def check_undamaged(own):
+    """Complaints about a sheet that is made and not damaged: it is read as what it was made from, if the column has room."""
+    plan, readings, marks = own.contents
+    meant = sheet.Sheet(DONE, plan, readings) if own.room >= len(readings) else sheet.Sheet(11, sheet.NO_PLAN, [])
+    return [] if (sheet.read(own.sheet, own.room), sheet.marks_part(own.sheet)) == (meant, marks) else ["undamaged sheet"]
+
+
+def check_spread():
+    """Every answer, every way of damage and every kind of plan occurs among the sheets that are made."""
+    numbers = Counter(sheet.read(own.sheet, own.room).number for own in MADE)
+    ways = Counter(way for own in MADE for way in own.why.split(", "))
+    sizes = Counter((own.contents.plan.levels, own.contents.plan.k) for own in MADE if own.contents)
+    complaints = ["made sheets: answer %d %d times" % (number, numbers[number]) for number in ANSWERS if numbers[number] < 4]
+    complaints += ["made sheets: %s %d times" % (way, ways[way]) for way in DAMAGES if ways[way] < 25]
+    if not MADE_COUNT / 6 < ways[UNDAMAGED] < MADE_COUNT / 4:
+        complaints.append("made sheets: %d undamaged" % ways[UNDAMAGED])
+    return complaints + ["made sheets: none of %r" % (size,) for size in ((2, 1), (2, 2), (2, 3), (2, 4), (3, 1), (3, 2))
+                         if not sizes[size]]
+
+
+def check():
+    """List of all complaints about the sheets."""
+    complaints = check_longest() + check_spread()
+    for own in CASES:
+        complaints += check_case(own)
+    for own in SHEETS:
+        complaints += check_table(own) + (check_undamaged(own) if own.contents else [])
+    titles = [own.why for own in CASES]
+    complaints += ["two sheets named %s" % why for why in sorted({why for why in titles if titles.count(why) > 1})]
+    if any(own.room > MOST_ROOM or len(own.sheet) >= 2 ** 16 for own in SHEETS):
+        complaints.append("a record does not hold its sheet or room")
+    if len(inputs()) > MOST_INPUT:
+        complaints.append("the program does not read all of its input")
+    return complaints
+
+
+# ---- expected text ----
+
+def list_of(texts):
+    """How many there are, and each of them, after a space."""
+    return "".join(" " + text for text in [str(len(texts))] + texts)
+
+
+def values_of(readings):
+    """The readings, and of over 40 how many they are and one number."""
+    if len(readings) > MOST_SHOWN:
+        return " %d %d" % (len(readings), tables.counted(readings))
+    return list_of([str(reading) for reading in readings])
+
+
+def marks_of(marks):
+    """How many marks there are, and all of them with no space between."""
+    return " %d" % len(marks) + (" " + "".join(str(mark) for mark in marks) if marks else "")
+
+
+def sheet_line(number, own):
+    """The line of a sheet."""
+    found = sheet.read(own.sheet, own.room)
+    plan = found.plan
+    return "%d: %s, plan %d %d, added%s, blocks%s, readings%s, kept %d, marks%s" % (
+        number, "refused %d" % found.number if found.number else "done", plan.levels, plan.k,
+        list_of(["%d/%d" % pair for pair in plan.added]), list_of([str(word) for word in plan.blocks]),
+        values_of(found.readings), own.room - len(found.readings), marks_of(sheet.marks_part(own.sheet)))
+
+
+def expected_text():
+    """What the program that tries the sheets must write."""
+    return "".join(sheet_line(number, own) + "\n" for number, own in enumerate(SHEETS, 1))
+
+
+def inputs():
+    """The input of the program: for each sheet room and length, two bytes each, and the sheet."""
+    return b"".join(own.room.to_bytes(2, "big") + len(own.sheet).to_bytes(2, "big") + own.sheet for own in SHEETS)
+
+
+def list_text():
+    """A line for each sheet: its number, what the reader answers, and its name or how it is damaged."""
+    return "".join("%d: %d, %s\n" % (number, sheet.read(own.sheet, own.room).number, own.why)
+                   for number, own in enumerate(SHEETS, 1))
+
+
+if __name__ == "__main__":
+    found = check()
+    if found:
+        sys.exit("\n".join(found))
+    if "inputs" in sys.argv[1:]:
+        sys.stdout.buffer.write(inputs())
+    else:
+        sys.stdout.write(list_text() if "list" in sys.argv[1:] else expected_text())
