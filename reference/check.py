@@ -4,12 +4,15 @@
 #   crates/worked_totals/stdout   steps, totals and passes of the published examples: published.py, by factab.py
 #   crates/worked_tables/stdout   tables, refusals and estimates: tables.py and answers.py, by anova.py
 #   crates/worked_tables/stdin    the inputs of these, which that program reads
+#   crates/worked_sheets/stdout   answers of the two calls that take a sheet: sheets.py, by sheet.py
+#   crates/worked_sheets/stdin    the sheets, which that program reads
 
 import sys
 from pathlib import Path
 
 import amcp
 import published
+import sheets
 import tables
 
 ROOT = Path(__file__).resolve().parent.parent
@@ -19,13 +22,22 @@ PROGRAMS = [
     ("worked_plans", amcp),
     ("worked_totals", published),
     ("worked_tables", tables),
+    ("worked_sheets", sheets),
+]
+
+# Each program that reads an input with what makes it.
+INPUTS = [
+    ("worked_tables", tables, lambda: tables.inputs_text().encode()),
+    ("worked_sheets", sheets, sheets.inputs),
 ]
 
 
-def stored_text(crate, name):
-    """What is stored beside a program's sources under a name; None if nothing is."""
+def differs(crate, name, module, meant):
+    """The complaint that what is stored beside a program's sources under a name is not what a reference file makes."""
     stored = ROOT / "crates" / crate / name
-    return stored.read_text() if stored.exists() else None
+    if stored.exists() and stored.read_bytes() == meant:
+        return []
+    return ["crates/%s/%s differs from what reference/%s.py makes" % (crate, name, module.__name__)]
 
 
 def complaints():
@@ -33,10 +45,9 @@ def complaints():
     found = []
     for crate, module in PROGRAMS:
         found += ["reference/%s.py: %s" % (module.__name__, complaint) for complaint in module.check()]
-        if stored_text(crate, "stdout") != module.expected_text():
-            found.append("crates/%s/stdout differs from what reference/%s.py makes" % (crate, module.__name__))
-    if stored_text("worked_tables", "stdin") != tables.inputs_text():
-        found.append("crates/worked_tables/stdin differs from what reference/tables.py makes")
+        found += differs(crate, "stdout", module, module.expected_text().encode())
+    for crate, module, inputs in INPUTS:
+        found += differs(crate, "stdin", module, inputs())
     return found
 
 
