@@ -35,6 +35,5 @@ fn signed(x: u32) -> i32
 pub fn reading(a: u8, b: u8, c: u8, d: u8) -> i32
     ensures { λ r. ⌜ r ≡ twos 32 (big (a ∷ b ∷ c ∷ d ∷ [])) ⌝ }
 {
-    let high = pair(a, b) as u32;
-    signed(high * 65_536 + (pair(c, d) as u32))
+    signed((pair(a, b) as u32) * 65_536 + (pair(c, d) as u32))
 }

@@ -35,10 +35,11 @@ pub fn read(sheet: &[u8], column: &mut [i32]) -> Sheet
 {
     let p = plan_in(sheet);
     let n = number(sheet, p, column.len() < runs(p));
+    let none = no_plan();
     if n != 0 {
         return Sheet {
             answer: Answer::Refused(n),
-            plan: no_plan(),
+            plan: none,
         };
     }
     let readings = body(sheet, 4, 0);

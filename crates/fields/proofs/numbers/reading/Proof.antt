@@ -19,4 +19,4 @@ reading-spec =
     (λ c. search needs)
     (λ c. omega (arith, c .before .pair .ok, c .pair2 .ok))
     (λ c κs. tt)
-    (λ c. toZ-ofZ w32 (c .signed .result) (record { sfits = c .signed .ok }) ∙ c .signed .ensures ∙ ap (twos 32) (rw (c .before .before .pair .ensures, c .before .pair2 .ensures) (four (c .before .before .before .args .a) (c .before .before .before .args .b) (c .before .before .before .args .c) (c .before .before .before .args .d)))))
+    (λ c. toZ-ofZ w32 (c .signed .result) (record { sfits = c .signed .ok }) ∙ c .signed .ensures ∙ ap (twos 32) (rw (c .before .before .pair .ensures, c .before .pair2 .ensures) (search (four)))))

@@ -1,6 +1,5 @@
 use mathlib.Core.Path.{refl}
 use borrow.Author.Tests.{eq-eqb, ne-eqb}
-use lib.Dec.{eqb}
 use Rattle.fields.proofs.Judging.{itself}
 use Rattle.fields.proofs.rules.is_bad.Statement.{statement}
 use Rattle.fields.proofs.rules.is_bad.Tie as tie
@@ -13,4 +12,4 @@ is-bad-spec =
     (λ c. rw (ne-eqb _ 1 (c .before .if1 .left), eq-eqb _ 2 (c .if2 .taken)) refl)
     (λ c. rw (ne-eqb _ 1 (c .before .before .if1 .left), ne-eqb _ 2 (c .before .if2 .left), eq-eqb _ 3 (c .if3 .taken)) refl)
     (λ c. rw (ne-eqb _ 1 (c .before .before .before .if1 .left), ne-eqb _ 2 (c .before .before .if2 .left), ne-eqb _ 3 (c .before .if3 .left), eq-eqb _ 4 (c .if4 .taken)) refl)
-    (λ c. rw (ne-eqb _ 1 (c .before .before .before .if1 .left), ne-eqb _ 2 (c .before .before .if2 .left), ne-eqb _ 3 (c .before .if3 .left), ne-eqb _ 4 (c .if4 .left)) (itself (eqb (c .before .before .before .before .args .tag) 5))))
+    (λ c. rw (ne-eqb _ 1 (c .before .before .before .if1 .left), ne-eqb _ 2 (c .before .before .if2 .left), ne-eqb _ 3 (c .before .if3 .left), ne-eqb _ 4 (c .if4 .left)) (search (itself))))

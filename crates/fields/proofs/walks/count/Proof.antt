@@ -20,7 +20,7 @@ count-spec =
     μ-loop
     (λ c. counted-none _ _)
     (λ c κs. c .loop-test .taken)
-    (λ c. counted-cut (c .before .before .before .loop .inv) (c .before .before .loop-test .taken) (c .before .field-end .ensures) (c .if1 .taken))
+    (λ c. search (counted-cut (c .before .before .before .loop .inv) (c .before .before .loop-test .taken) (c .before .field-end .ensures) (c .if1 .taken)))
     (λ c. omega arith)
     (λ c. omega (arith, c .before .before .before .before .before .loop .inv .few))
     (λ c. omega (arith, next (c .before .before .before .before .before .loop .inv .rest) (c .before .before .before .before .loop-test .taken) (c .before .before .before .field-end .ensures) (c .before .before .if1 .left) .past))

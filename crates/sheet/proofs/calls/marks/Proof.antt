@@ -1,3 +1,4 @@
+use native.Mathlib.Omega.{arith}
 use borrow.Author.Needs.{needs}
 use Rattle.sheet.proofs.Answering.{marks-number, marks-stopped, marks-given}
 use Rattle.sheet.proofs.calls.marks.Statement.{statement}
@@ -10,6 +11,6 @@ marks-spec =
     (λ c κs. tt)
     (λ c κs. tt)
     (λ c. search needs)
-    (λ c. marks-stopped _ (marks-number _ (c .before .before .before .plan-in .ensures) (c .before .before .number .ensures)) (c .before .if1 .taken))
+    (λ c. marks-stopped _ (marks-number _ (c .before .before .before .plan-in .ensures) (c .before .before .number .ensures)) (λ z. omega (arith, z, c .before .if1 .taken)))
     (λ c κs. tt)
-    (λ c. marks-given _ (marks-number _ (c .before .before .before .plan-in .ensures) (c .before .before .number .ensures)) (c .before .if1 .left) (c .body .ensures)))
+    (λ c. marks-given _ (marks-number _ (c .before .before .before .plan-in .ensures) (c .before .before .number .ensures)) (omega (arith, c .before .if1 .left)) (search (c .body .ensures))))

@@ -1,6 +1,7 @@
 use mathlib.Core.Path.{sym, ap, _∙_}
 use mathlib.Core.List.{_++_}
 use Prim.Native.Nat.{_/_}
+use native.Mathlib.Omega.{arith}
 use lib.ListN.{length, drop}
 use lib.Seq.{length-take-le}
 use Rattle.sheet.proofs.Answering.{read-number, read-stopped, room-for, same-size, read-completed}
@@ -15,10 +16,10 @@ read-spec =
     (λ c κs. tt)
     (λ c κs. tt)
     (λ c κs. tt)
-    (λ c. read-stopped _ _ (read-number _ (c .before .before .before .before .plan-in .ensures) _ (c .before .before .before .runs .ensures) (c .before .before .number .ensures)) (c .before .if1 .taken) (c .no-plan .ensures))
+    (λ c. read-stopped _ _ (read-number _ (c .before .before .before .before .plan-in .ensures) _ (c .before .before .before .runs .ensures) (c .before .before .number .ensures)) (λ z. omega (arith, z, c .if1 .taken)) (search (c .before .no-plan .ensures)))
     (λ c κs. tt)
-    (λ c. room-for (c .before .before .before .before .before .before .args .sheet .now) (c .before .before .before .before .before .before .args .column .now) (sym (read-number _ (c .before .before .before .before .plan-in .ensures) _ (c .before .before .before .runs .ensures) (c .before .before .number .ensures)) ∙ c .before .if1 .left) (c .body .ensures))
-    (λ c. sym (length-take-le _ _ (room-for (c .before .before .before .before .before .before .before .args .sheet .now) (c .before .before .before .before .before .before .before .args .column .now) (sym (read-number _ (c .before .before .before .before .before .plan-in .ensures) _ (c .before .before .before .before .runs .ensures) (c .before .before .before .number .ensures)) ∙ c .before .before .if1 .left) (c .before .body .ensures))))
-    (λ c κs. length-take-le _ _ (room-for (c .before .before .before .before .before .before .before .args .sheet .now) (c .before .before .before .before .before .before .before .args .column .now) (sym (read-number _ (c .before .before .before .before .before .plan-in .ensures) _ (c .before .before .before .before .runs .ensures) (c .before .before .before .number .ensures)) ∙ c .before .before .if1 .left) (c .before .body .ensures)))
-    (λ c. same-size (c .before .before .before .before .before .before .before .before .before .args .sheet .now) (c .before .before .before .before .before .before .before .before .before .args .column .now) (sym (read-number _ (c .before .before .before .before .before .before .before .plan-in .ensures) _ (c .before .before .before .before .before .before .runs .ensures) (c .before .before .before .before .before .number .ensures)) ∙ c .before .before .before .before .if1 .left) (c .before .before .before .body .ensures) (ap (λ l. l ++ drop (length (c .before .before .before .body .result .now) / 4) (c .before .before .before .before .before .before .before .before .before .args .column .now)) (c .before .fill .ensures)))
-    (λ c. read-completed (c .before .before .before .before .before .before .before .before .before .args .sheet .now) (c .before .before .before .before .before .before .before .before .before .args .column .now) (sym (read-number _ (c .before .before .before .before .before .before .before .plan-in .ensures) _ (c .before .before .before .before .before .before .runs .ensures) (c .before .before .before .before .before .number .ensures)) ∙ c .before .before .before .before .if1 .left) (c .before .before .before .body .ensures) (c .before .before .before .before .before .before .before .plan-in .ensures) (ap (λ l. l ++ drop (length (c .before .before .before .body .result .now) / 4) (c .before .before .before .before .before .before .before .before .before .args .column .now)) (c .before .fill .ensures))))
+    (λ c. room-for (c .before .before .before .before .before .before .before .args .sheet .now) (c .before .before .before .before .before .before .before .args .column .now) (sym (read-number _ (c .before .before .before .before .before .plan-in .ensures) _ (c .before .before .before .before .runs .ensures) (c .before .before .before .number .ensures)) ∙ omega (arith, c .before .if1 .left)) (c .body .ensures))
+    (λ c. sym (length-take-le _ _ (room-for (c .before .before .before .before .before .before .before .before .args .sheet .now) (c .before .before .before .before .before .before .before .before .args .column .now) (sym (read-number _ (c .before .before .before .before .before .before .plan-in .ensures) _ (c .before .before .before .before .before .runs .ensures) (c .before .before .before .before .number .ensures)) ∙ omega (arith, c .before .before .if1 .left)) (c .before .body .ensures))))
+    (λ c κs. length-take-le _ _ (room-for (c .before .before .before .before .before .before .before .before .args .sheet .now) (c .before .before .before .before .before .before .before .before .args .column .now) (sym (read-number _ (c .before .before .before .before .before .before .plan-in .ensures) _ (c .before .before .before .before .before .runs .ensures) (c .before .before .before .before .number .ensures)) ∙ omega (arith, c .before .before .if1 .left)) (c .before .body .ensures)))
+    (λ c. same-size (c .before .before .before .before .before .before .before .before .before .before .args .sheet .now) (c .before .before .before .before .before .before .before .before .before .before .args .column .now) (sym (read-number _ (c .before .before .before .before .before .before .before .before .plan-in .ensures) _ (c .before .before .before .before .before .before .before .runs .ensures) (c .before .before .before .before .before .before .number .ensures)) ∙ omega (arith, c .before .before .before .before .if1 .left)) (c .before .before .before .body .ensures) (ap (λ l. l ++ drop (length (c .before .before .before .body .result .now) / 4) (c .before .before .before .before .before .before .before .before .before .before .args .column .now)) (c .before .fill .ensures)))
+    (λ c. read-completed (c .before .before .before .before .before .before .before .before .before .before .args .sheet .now) (c .before .before .before .before .before .before .before .before .before .before .args .column .now) (sym (read-number _ (c .before .before .before .before .before .before .before .before .plan-in .ensures) _ (c .before .before .before .before .before .before .before .runs .ensures) (c .before .before .before .before .before .before .number .ensures)) ∙ omega (arith, c .before .before .before .before .if1 .left)) (c .before .before .before .body .ensures) (c .before .before .before .before .before .before .before .before .plan-in .ensures) (ap (λ l. l ++ drop (length (c .before .before .before .body .result .now) / 4) (c .before .before .before .before .before .before .before .before .before .before .args .column .now)) (c .before .fill .ensures))))

@@ -18,7 +18,7 @@ number-spec =
     (λ c κs. sym (c .before .before .before .before .lowest .ensures) ∙ c .before .before .before .if2 .left)
     (λ c. lengths-wrong _ _ _ (is (c .before .before .before .before .before .before .before .before .bad-fields .ensures) (c .before .before .before .before .before .before .before .if1 .left)) (sym (c .before .before .before .before .before .before .lowest .ensures) ∙ c .before .before .before .before .before .if2 .left) (c .before .before .before .before .if3 .left) (c .before .before .before .body .ensures) (c .before .before .body2 .ensures) (is (c .before .wrong-lengths .ensures) (c .if4 .taken)))
     (λ c κs. tt)
-    (λ c. beyond _ _ _ (is (c .before .before .before .before .before .before .before .before .before .before .bad-fields .ensures) (c .before .before .before .before .before .before .before .before .before .if1 .left)) (sym (c .before .before .before .before .before .before .before .before .lowest .ensures) ∙ c .before .before .before .before .before .before .before .if2 .left) (c .before .before .before .before .before .before .if3 .left) (c .before .before .before .before .before .body .ensures) (c .before .before .before .before .body2 .ensures) (is (c .before .before .before .wrong-lengths .ensures) (c .before .before .if4 .left)) (is (c .before .any-beyond .ensures) (c .if5 .taken)))
+    (λ c. search (beyond _ _ _ (is (c .before .before .before .before .before .before .before .before .before .before .bad-fields .ensures) (c .before .before .before .before .before .before .before .before .before .if1 .left)) (sym (c .before .before .before .before .before .before .before .before .lowest .ensures) ∙ c .before .before .before .before .before .before .before .if2 .left) (c .before .before .before .before .before .before .if3 .left) (c .before .before .before .before .before .body .ensures) (c .before .before .before .before .body2 .ensures) (is (c .before .before .before .wrong-lengths .ensures) (c .before .before .if4 .left)) (is (c .before .any-beyond .ensures) (c .if5 .taken))))
     (λ c κs. tt)
     (λ c. marked _ _ _ (is (c .before .before .before .before .before .before .before .before .before .before .before .before .bad-fields .ensures) (c .before .before .before .before .before .before .before .before .before .before .before .if1 .left)) (sym (c .before .before .before .before .before .before .before .before .before .before .lowest .ensures) ∙ c .before .before .before .before .before .before .before .before .before .if2 .left) (c .before .before .before .before .before .before .before .before .if3 .left) (c .before .before .before .before .before .before .before .body .ensures) (c .before .before .before .before .before .before .body2 .ensures) (is (c .before .before .before .before .before .wrong-lengths .ensures) (c .before .before .before .before .if4 .left)) (is (c .before .before .before .any-beyond .ensures) (c .before .before .if5 .left)) (is (c .before .bad-marks .ensures) (c .if6 .taken)))
     (λ c. accepted _ _ _ (is (c .before .before .before .before .before .before .before .before .before .before .before .before .bad-fields .ensures) (c .before .before .before .before .before .before .before .before .before .before .before .if1 .left)) (sym (c .before .before .before .before .before .before .before .before .before .before .lowest .ensures) ∙ c .before .before .before .before .before .before .before .before .before .if2 .left) (c .before .before .before .before .before .before .before .before .if3 .left) (c .before .before .before .before .before .before .before .body .ensures) (c .before .before .before .before .before .before .body2 .ensures) (is (c .before .before .before .before .before .wrong-lengths .ensures) (c .before .before .before .before .if4 .left)) (is (c .before .before .before .any-beyond .ensures) (c .before .before .if5 .left)) (is (c .before .bad-marks .ensures) (c .if6 .left))))

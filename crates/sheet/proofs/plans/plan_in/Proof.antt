@@ -20,4 +20,4 @@ plan-in-spec =
     (λ c κs. tt)
     (λ c κs. tt)
     (λ c κs. tt)
-    (λ c. λ i. record { levels = (c .before .before .before .before .before .before .before .before .byte .ensures ∙ ap (byteAt 0) (c .before .before .before .before .before .before .before .before .before .body .ensures)) i; k = (c .before .before .before .before .before .before .before .byte2 .ensures ∙ ap (byteAt 1) (c .before .before .before .before .before .before .before .before .before .body .ensures)) i; added = (c .before .before .before .before .before .at-most .ensures ∙ ap (λ n. min n 7) (c .before .before .before .before .before .before .count .ensures)) i; words = (c .before .before .before .before .added-words .ensures) i; signs = (c .before .before .before .added-signs .ensures) i; blocks = (c .before .at-most2 .ensures ∙ ap (λ n. min n 5) (c .before .before .count2 .ensures)) i; blockwords = (c .block-words .ensures) i }))
+    (λ c. λ i. record { levels = (c .before .before .before .before .before .before .before .before .byte .ensures ∙ ap (byteAt 0) (c .before .before .before .before .before .before .before .before .before .body .ensures)) i; k = (c .before .before .before .before .before .before .before .byte2 .ensures ∙ ap (byteAt 1) (c .before .before .before .before .before .before .before .before .before .body .ensures)) i; added = (c .before .before .before .before .before .at-most .ensures ∙ ap (λ n. min n 7) (c .before .before .before .before .before .before .count .ensures)) i; words = (c .before .before .before .before .added-words .ensures) i; signs = (c .before .before .before .added-signs .ensures) i; blocks = (c .before .at-most2 .ensures ∙ ap (λ n. min n 5) (c .before .before .count2 .ensures)) i; blockwords = (c .block-words .ensures) i; }))
