@@ -4,6 +4,7 @@
 --   held-number    the number of a plan that is held
 --   held-with      and of its sheet
 --   held-all       a plan that is accepted is held as it is
+--   made           the plan that is held, part by part
 --   narrow-by      the column beside the number of runs, as the code compares
 use mathlib.Core.Path.{_≡_, refl, sym, ap, _∙_}
 use mathlib.Core.Bool.{Bool, true, cond, _||_, or-true}
@@ -12,15 +13,17 @@ use native.Mathlib.Decide.{ℕ-discrete, decLe}
 use native.Mathlib.Omega.{arith}
 use borrow.Author.Tests.{lt-ltb}
 use lib.Dec.{ltb}
+use lib.ListN.{length}
+use Rattle.algebra.specs.Tab.{tab}
 use Rattle.plan.specs.declared.types.Plan.{Plan}
 use Rattle.plan.specs.Check.{badCounts, planNumber, withPlan, runCount}
 use Rattle.plan.specs.Plan.{runsOf}
 use Rattle.plan.specs.Laws.Accepted.{sizes}
 use Rattle.plan.specs.Laws.Answers.{plan-first}
 use Rattle.plan.specs.Laws.Sizes.{run-count}
-use Rattle.fields.specs.Fields.{Fields}
+use Rattle.fields.specs.Fields.{Fields, bodies, bodyAt}
 use Rattle.fields.specs.Rules.{badFields}
-use Rattle.sheet.specs.Sheet.{numberWith}
+use Rattle.sheet.specs.Sheet.{byteAt, wordIn, planIn, numberWith}
 use Rattle.sheet.specs.Held.{held}
 
 min-small : (n m : ℕ) → n ≤ m → min n m ≡ n
@@ -61,6 +64,12 @@ held-number p = by (decLe (p .added) 6) (decLe (p .blocks) 4)
 
 pub held-all : (p : Plan) → planNumber p ≡ 0 → held p ≡ p
 held-all p z = let s = sizes p z in held-same p (s .1) (s .2)
+
+pub made : (fs : Fields) (p : Plan) → p .levels ≡ byteAt 0 (bodyAt 1 0 fs) → p .k ≡ byteAt 1 (bodyAt 1 0 fs) → p .added ≡ min (length (bodies 2 fs)) 7
+    → p .words ≡ tab 6 (λ i. wordIn (bodyAt 2 i fs)) → p .signs ≡ tab 6 (λ i. byteAt 2 (bodyAt 2 i fs)) → p .blocks ≡ min (length (bodies 3 fs)) 5
+    → p .blockwords ≡ tab 4 (λ i. wordIn (bodyAt 3 i fs)) → p ≡ held (planIn fs)
+unfolding held planIn
+made fs p l k a w s b v = λ i. record { levels = l i; k = k i; added = a i; words = w i; signs = s i; blocks = b i; blockwords = v i }
 
 -- a plan's own number comes before the lines that name the readings and the marks
 own : (fs : Fields) (p : Plan) (narrow : Bool) → (planNumber p ≡ 0 → ⊥) → numberWith fs p narrow ≡ cond (badFields fs) 1 (planNumber p)

@@ -10,6 +10,6 @@ pub byte-spec : {M : Type 1} → statement M
 byte-spec =
     tie.close
     (tie.spec
-    (λ c. sym (getD-past {A = ℕ} 0 (now (c .before .args .body)) (c .before .args .place) (c .if1 .taken)))
+    (λ c. sym (getD-past {A = ℕ} 0 (now (c .before .args .body)) (c .before .args .place) (omega (arith, c .if1 .taken))))
     (λ c. omega arith)
     (λ c. refl))

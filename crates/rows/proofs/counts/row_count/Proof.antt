@@ -13,7 +13,7 @@ unfolding rowCount mostTwo
 row-count-spec =
     tie.close
     (tie.spec
-    (λ c. rw (lt-ltb 10 _ (c .if1 .taken)) refl)
+    (λ c. rw (lt-ltb 10 (c .before .before .args .p .k) (omega (arith, c .if1 .taken))) refl)
     (λ c. search needs)
     (λ c. search needs)
-    (λ c. one-shifted (c .before .before .before .args .p .k) 64 (omega arith) ∙ rw (le-ltb 10 _ (c .before .if1 .left)) refl))
+    (λ c. one-shifted (c .before .before .before .args .p .k) 64 (omega arith) ∙ rw (le-ltb 10 (c .before .before .before .args .p .k) (omega (arith, c .before .if1 .left))) refl))

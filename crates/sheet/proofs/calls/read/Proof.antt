@@ -16,7 +16,7 @@ read-spec =
     (λ c κs. tt)
     (λ c κs. tt)
     (λ c κs. tt)
-    (λ c. read-stopped _ _ (read-number _ (c .before .before .before .before .plan-in .ensures) _ (c .before .before .before .runs .ensures) (c .before .before .number .ensures)) (λ z. omega (arith, z, c .if1 .taken)) (search (c .before .no-plan .ensures)))
+    (λ c. read-stopped _ _ (read-number _ (c .before .before .before .before .plan-in .ensures) _ (c .before .before .before .runs .ensures) (search (c .before .before .number .ensures))) (λ z. omega (arith, z, c .if1 .taken)) (search (c .before .no-plan .ensures)))
     (λ c κs. tt)
     (λ c. room-for (c .before .before .before .before .before .before .before .args .sheet .now) (c .before .before .before .before .before .before .before .args .column .now) (sym (read-number _ (c .before .before .before .before .before .plan-in .ensures) _ (c .before .before .before .before .runs .ensures) (c .before .before .before .number .ensures)) ∙ omega (arith, c .before .if1 .left)) (c .body .ensures))
     (λ c. sym (length-take-le _ _ (room-for (c .before .before .before .before .before .before .before .before .args .sheet .now) (c .before .before .before .before .before .before .before .before .args .column .now) (sym (read-number _ (c .before .before .before .before .before .before .plan-in .ensures) _ (c .before .before .before .before .before .runs .ensures) (c .before .before .before .before .number .ensures)) ∙ omega (arith, c .before .before .if1 .left)) (c .before .body .ensures))))
