@@ -8,6 +8,7 @@
 --   Readings     the readings that are read back
 --   Plain        what is written are bytes
 --   RoundTrip    the law on the whole sheet
+--   Examples     small sheets
 pub mod Writer
 pub mod Bytes
 pub mod Back
@@ -16,3 +17,4 @@ pub mod Plans
 pub mod Readings
 pub mod Plain
 pub mod RoundTrip
+pub mod Examples

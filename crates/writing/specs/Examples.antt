@@ -1,0 +1,79 @@
+-- Sheets, computed over the definitions of the reader, the marks call and the writer.
+--
+--   sample          the sheet of 01's run: readings 3, 5, 4, 8 and marks 0, 0, 0, 1, byte by byte
+--   small-inputs    the small input of each line that a sheet can show
+use mathlib.Core.Path.{_≡_, refl}
+use mathlib.Core.List.{List, [], _∷_, map}
+use Prim.Native.Nat.{ℕ}
+use lib.IntN.{ℤ, pos}
+use lib.ListN.{replicate}
+use Rattle.algebra.specs.Bits.{bits}
+use Rattle.algebra.specs.Naturals.{Σℕ}
+use Rattle.algebra.specs.Search.{some}
+use Rattle.algebra.specs.Tab.{tabFrom}
+use Rattle.contrasts.specs.Limits.{readingLimit, mostTwo, mostThree}
+use Rattle.contrasts.specs.Tables.{two, three}
+use Rattle.contrasts.specs.Totals.{size}
+use Rattle.words.specs.Words.{letters, beyond, times, combined, any, among, repeated}
+use Rattle.plan.specs.Check.{badLevels, badFactors, badCounts, badWord, badSign, badWords, dependent, factorWord, losesFactor, planNumber, withPlan}
+use Rattle.plan.specs.Examples.{AB, ABC, C, plan}
+use Rattle.plan.specs.Plan.{factorsOf, someCombination, combinesTo}
+use Rattle.columns.specs.Lines.{wrongLength, isBeyond, anyBeyond}
+use Rattle.rows.specs.Kinds.{wrongRows, badMark, badMarks}
+use Rattle.fields.specs.Fields.{big, parse, fieldsOf, bodies, bodyAt}
+use Rattle.fields.specs.Numbers.{twos}
+use Rattle.fields.specs.Rules.{badFrom, badFields}
+use Rattle.sheet.specs.Sheet.{planIn, readingAt, readingsOf, numberWith, readNumber, noPlan, readPlan, readColumn, marksNumber, marksOf}
+use Rattle.writing.specs.Writer.{bytes, bytesOf, each, readingBytes, sheetFields, sheetOf}
+
+abbrev four : List ℤ
+four = pos 3 ∷ pos 5 ∷ pos 4 ∷ pos 8 ∷ []
+
+abbrev sample : List ℕ
+sample =
+    1 ∷ 0 ∷ 2 ∷ 2 ∷ 2
+    ∷ 4 ∷ 0 ∷ 16 ∷ 0 ∷ 0 ∷ 0 ∷ 3 ∷ 0 ∷ 0 ∷ 0 ∷ 5 ∷ 0 ∷ 0 ∷ 0 ∷ 4 ∷ 0 ∷ 0 ∷ 0 ∷ 8
+    ∷ 5 ∷ 0 ∷ 4 ∷ 0 ∷ 0 ∷ 0 ∷ 1 ∷ []
+
+sample-written : sheetOf (plan 2 2 [] [] []) four (0 ∷ 0 ∷ 0 ∷ 1 ∷ []) ≡ sample
+unfolding sheetOf sheetFields bytesOf each readingBytes bytes
+sample-written = refl
+
+-- the plan; the first four of six places; the marks
+sample-plan : readPlan sample 6 ≡ plan 2 2 [] [] []
+unfolding readPlan readNumber numberWith planIn readingsOf readingAt twos big fieldsOf parse bodies bodyAt badFields badFrom wrongLength wrongRows anyBeyond isBeyond badMarks badMark withPlan planNumber badLevels badFactors mostTwo mostThree badCounts badWords badWord badSign repeated dependent losesFactor factorWord any among beyond letters combined times someCombination combinesTo some bits Σℕ readingLimit factorsOf size two three tabFrom
+sample-plan = refl
+
+sample-column : readColumn sample (replicate 6 (pos 9)) ≡ pos 3 ∷ pos 5 ∷ pos 4 ∷ pos 8 ∷ pos 9 ∷ pos 9 ∷ []
+unfolding readColumn readNumber numberWith planIn readingsOf readingAt twos big fieldsOf parse bodies bodyAt badFields badFrom wrongLength wrongRows anyBeyond isBeyond badMarks badMark withPlan planNumber badLevels badFactors mostTwo mostThree badCounts badWords badWord badSign repeated dependent losesFactor factorWord any among beyond letters combined times someCombination combinesTo some bits Σℕ readingLimit factorsOf size two three tabFrom
+sample-column = refl
+
+sample-marks : marksOf sample ≡ 0 ∷ 0 ∷ 0 ∷ 1 ∷ []
+unfolding marksOf marksNumber numberWith planIn readingsOf readingAt twos big fieldsOf parse bodies bodyAt badFields badFrom wrongLength wrongRows anyBeyond isBeyond badMarks badMark withPlan planNumber badLevels badFactors mostTwo mostThree badCounts badWords badWord badSign repeated dependent losesFactor factorWord any among beyond letters combined times someCombination combinesTo some bits Σℕ readingLimit factorsOf size two three tabFrom
+sample-marks = refl
+
+-- a column of three places: nothing is written, and the plan is all zeros
+narrow : (readNumber sample 3 ≡ 11) × (readPlan sample 3 ≡ noPlan) × (readColumn sample (replicate 3 (pos 9)) ≡ replicate 3 (pos 9))
+unfolding readPlan readColumn readNumber numberWith planIn readingsOf readingAt twos big fieldsOf parse bodies bodyAt badFields badFrom wrongLength wrongRows anyBeyond isBeyond badMarks badMark withPlan planNumber badLevels badFactors mostTwo mostThree badCounts badWords badWord badSign repeated dependent losesFactor factorWord any among beyond letters combined times someCombination combinesTo some bits Σℕ readingLimit factorsOf size two three tabFrom
+narrow = (refl, refl, refl)
+
+-- the small inputs of lines 1 to 8, 11, 12 and 13; and seven added factors
+abbrev refusedSheets : List (List ℕ)
+refusedSheets =
+    []
+    ∷ sheetOf (plan 4 1 [] [] []) four (0 ∷ 0 ∷ [])
+    ∷ sheetOf (plan 3 7 [] [] []) four (0 ∷ 0 ∷ [])
+    ∷ sheetOf (plan 3 2 [] [] (AB ∷ [])) four (0 ∷ 0 ∷ [])
+    ∷ sheetOf (plan 2 2 [] [] (C ∷ [])) four (0 ∷ 0 ∷ [])
+    ∷ sheetOf (plan 2 3 (AB ∷ AB ∷ []) (0 ∷ 0 ∷ []) []) four (0 ∷ 0 ∷ [])
+    ∷ sheetOf (plan 2 3 [] [] (AB ∷ AB ∷ [])) four (0 ∷ 0 ∷ [])
+    ∷ sheetOf (plan 2 3 [] [] (AB ∷ ABC ∷ [])) four (0 ∷ 0 ∷ [])
+    ∷ sheetOf (plan 2 2 [] [] []) (pos 3 ∷ pos 5 ∷ pos 4 ∷ []) (0 ∷ 0 ∷ 0 ∷ 0 ∷ [])
+    ∷ sheetOf (plan 2 2 [] [] []) (pos 3 ∷ pos 5 ∷ pos 100001 ∷ pos 8 ∷ []) (0 ∷ 0 ∷ 0 ∷ 0 ∷ [])
+    ∷ sheetOf (plan 2 2 [] [] []) four (1 ∷ 0 ∷ 0 ∷ 0 ∷ [])
+    ∷ sheetOf (plan 2 4 (replicate 7 AB) (replicate 7 0) []) four (0 ∷ 0 ∷ [])
+    ∷ []
+
+small-inputs : map (λ sheet. readNumber sheet 8) refusedSheets ≡ 1 ∷ 2 ∷ 3 ∷ 4 ∷ 5 ∷ 6 ∷ 7 ∷ 8 ∷ 11 ∷ 12 ∷ 13 ∷ 4 ∷ []
+unfolding sheetOf sheetFields bytesOf each readingBytes bytes readNumber numberWith planIn readingsOf readingAt twos big fieldsOf parse bodies bodyAt badFields badFrom wrongLength wrongRows anyBeyond isBeyond badMarks badMark withPlan planNumber badLevels badFactors mostTwo mostThree badCounts badWords badWord badSign repeated dependent losesFactor factorWord any among beyond letters combined times someCombination combinesTo some bits Σℕ readingLimit factorsOf size two three tabFrom
+small-inputs = refl
