@@ -4,7 +4,7 @@
 --   in-range    the difference fits
 --   above       a number from 2 ^ 31 on
 --   four        a number of four bytes is one of two pairs
-use mathlib.Core.Path.{_≡_, refl, sym, ap, _∙_}
+use mathlib.Core.Path.{_≡_, refl, ap, _∙_}
 use mathlib.Core.List.{[], _∷_}
 use Prim.Native.Nat.{ℕ, zero, suc, _+_, _-_, _*_, _^_, _≤_, _<_}
 use native.Mathlib.Omega.{arith}

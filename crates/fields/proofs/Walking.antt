@@ -6,16 +6,16 @@
 --   cut-here               a field that has no end is cut short
 --   Next s at r fs, next   a field that ends at r, and the fields from there on
 use mathlib.Core.Path.{_≡_, refl, sym, ap, _∙_}
-use mathlib.Core.Bool.{Bool, true, false, cond}
+use mathlib.Core.Bool.{cond}
 use mathlib.Core.List.{List, [], _∷_}
-use Prim.Native.Nat.{ℕ, zero, suc, _+_, _-_, _*_, _≤_, _<_}
+use Prim.Native.Nat.{ℕ, zero, suc, _+_, _-_, _≤_, _<_}
 use native.Mathlib.Decide.{decLe}
 use native.Mathlib.Omega.{arith}
 use borrow.Author.Tests.{le-leb, lt-leb}
 use lib.Dec.{leb}
 use lib.ListN.{length, take, drop, getD, length-drop}
 use lib.Seq.{drop-cons, drop-drop, drop-length, length-take-le}
-use Rattle.fields.specs.Fields.{Fields, end, cut, field, first, parse, fieldsOf, big}
+use Rattle.fields.specs.Fields.{Fields, end, cut, field, first, parse, fieldsOf}
 use Rattle.fields.specs.Places.{lengthAt, endAt}
 
 -- ---- where a field ends

@@ -6,7 +6,7 @@ use mathlib.Core.Path.{_≡_, refl}
 use mathlib.Core.Bool.{Bool, true, false}
 use mathlib.Core.List.{List, [], _∷_, _++_, map}
 use Prim.Native.Nat.{ℕ}
-use lib.IntN.{ℤ, pos, negsuc}
+use lib.IntN.{pos, negsuc}
 use Rattle.fields.specs.Fields.{big, parse, fieldsOf, bodies, bodyAt}
 use Rattle.fields.specs.Rules.{badFrom, badFields}
 use Rattle.fields.specs.Numbers.{twos}

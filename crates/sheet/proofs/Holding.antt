@@ -7,7 +7,7 @@
 --   made           the plan that is held, part by part
 --   narrow-by      the column beside the number of runs, as the code compares
 use mathlib.Core.Path.{_≡_, refl, sym, ap, _∙_}
-use mathlib.Core.Bool.{Bool, true, cond, _||_, or-true}
+use mathlib.Core.Bool.{Bool, true, cond, or-true}
 use Prim.Native.Nat.{ℕ, min, _≤_}
 use native.Mathlib.Decide.{ℕ-discrete, decLe}
 use native.Mathlib.Omega.{arith}
@@ -16,7 +16,7 @@ use lib.Dec.{ltb}
 use lib.ListN.{length}
 use Rattle.algebra.specs.Tab.{tab}
 use Rattle.plan.specs.declared.types.Plan.{Plan}
-use Rattle.plan.specs.Check.{badCounts, planNumber, withPlan, runCount}
+use Rattle.plan.specs.Check.{badCounts, planNumber, runCount}
 use Rattle.plan.specs.Plan.{runsOf}
 use Rattle.plan.specs.Laws.Accepted.{sizes}
 use Rattle.plan.specs.Laws.Answers.{plan-first}

@@ -4,8 +4,8 @@
 --   small-marks         marks to which line 13 does not apply are 0 or 1
 --   Lawful p marks      so many marks as the plan has rows, each 0 or 1
 --   marks-lawful        the marks of a sheet that the reader accepts
-use mathlib.Core.Path.{_≡_, refl, sym, _∙_}
-use mathlib.Core.Bool.{Bool, false, _&&_, _||_}
+use mathlib.Core.Path.{_≡_, refl}
+use mathlib.Core.Bool.{false, _&&_, _||_}
 use mathlib.Core.List.{List, []}
 use Prim.Native.Nat.{ℕ, _<_, _≤_}
 use borrow.Author.Tests.{ltb-false}
@@ -19,7 +19,7 @@ use Rattle.plan.specs.Laws.Answers.{written-new}
 use Rattle.rows.specs.Kinds.{rowsIn, badMark, badMarks}
 use Rattle.rows.specs.Laws.{rows-as-long}
 use Rattle.fields.specs.Fields.{fieldsOf}
-use Rattle.sheet.specs.Sheet.{planIn, marksIn, numberWith, readNumber, noPlan, readPlan, marksNumber, marksOf}
+use Rattle.sheet.specs.Sheet.{planIn, marksIn, readNumber, noPlan, readPlan, marksNumber, marksOf}
 use Rattle.sheet.specs.Laws.Admitted.{Admitted, admitted, admits}
 
 pub record Lawful (p : Plan) (marks : List ℕ) : Type 0 where

@@ -1,0 +1,120 @@
+-- "the part of the sheet that holds them": the marks are the last bytes of the sheet.
+--
+--   no-more          after the marks comes nothing
+--   Ends body s      the bytes are the last of a list
+--   marks-last       so are the marks of an accepted sheet
+use mathlib.Core.Path.{_≡_, refl, sym, ap, _∙_}
+use mathlib.Core.Bool.{Bool, true, false, not, cond, _||_, true≢false}
+use mathlib.Core.List.{List, [], _∷_}
+use Prim.Native.Nat.{ℕ, zero, suc, _+_, _-_, _≤_}
+use native.Mathlib.Omega.{arith}
+use borrow.Author.Tests.{leb-true, ltb-false, eqb-true, not-false}
+use lib.Dec.{leb, ltb, eqb}
+use lib.ListN.{length, take, drop, getD, length-drop}
+use lib.Seq.{take-all, drop-drop}
+use Rattle.algebra.specs.Tests.{neither}
+use Rattle.plan.specs.Laws.Answers.{written-new}
+use Rattle.fields.specs.Fields.{Fields, end, cut, field, first, parse, fieldsOf, bodies, bodyAt, big}
+use Rattle.fields.specs.Rules.{rules, admits, badFrom, anyNotOnce, badFields}
+use Rattle.sheet.specs.Sheet.{planIn, marksIn, marksNumber, marksOf}
+use Rattle.sheet.specs.Laws.Admitted.{admitted}
+use Rattle.sheet.specs.Laws.Lengths.{spanOf, Spanned, span-none, span-parse, Known, one, two, three, four, five, known, once}
+
+no-more : (fs : Fields) → badFrom 5 fs ≡ false → length (bodies 5 fs) ≡ 0 → spanOf fs ≡ 0
+unfolding badFrom bodies spanOf
+no-more end e h = refl
+no-more cut e h = refl
+no-more (field t body rest) e h =
+    let i = neither (ltb t 5) (not (admits rules t (length body)) || badFrom t rest) e in
+    let j = neither (not (admits rules t (length body))) (badFrom t rest) (i .1) in
+    by (known t (length body) (not-false (admits rules t (length body)) (j .0))) (ltb-false t 5 (i .0)) h
+  where
+    by : Known t (length body) → 5 ≤ t → length (cond (eqb t 5) (body ∷ bodies 5 rest) (bodies 5 rest)) ≡ 0 → 3 + length body + spanOf rest ≡ 0
+    by (one p q) l d = absurd (omega (arith, p, l))
+    by (two p q) l d = absurd (omega (arith, p, l))
+    by (three p q) l d = absurd (omega (arith, p, l))
+    by (four p q) l d = absurd (omega (arith, p, l))
+    by (five p) l d = absurd (omega (arith, rw p at d))
+
+-- ---- bytes that end a list
+
+pub record Ends (body s : List ℕ) : Type 0 where
+  pub short : length body ≤ length s
+  pub so : body ≡ drop (length s - length body) s
+
+ends-whole : (s : List ℕ) → Ends s s
+ends-whole s =
+    let z : length s - length s ≡ 0 = omega arith in
+    record { short = omega arith; so = rw z refl }
+
+ends-after : (x : ℕ) (body s : List ℕ) → Ends body s → Ends body (x ∷ s)
+ends-after x body s e =
+    let m : suc (length s) - length body ≡ suc (length s - length body) = omega (arith, e .short) in
+    record { short = omega (arith, e .short); so = e .so ∙ ap (λ k. drop k (x ∷ s)) (sym m) }
+
+ends-part : (n : ℕ) (body s : List ℕ) → n ≤ length s → Ends body (drop n s) → Ends body s
+ends-part n body s l e =
+    let d = length-drop n s in
+    let m : n + (length (drop n s) - length body) ≡ length s - length body = omega (arith, l, d, e .short) in
+    record { short = omega (arith, l, d, e .short); so = e .so ∙ drop-drop (length (drop n s) - length body) n s ∙ ap (λ k. drop k s) m }
+
+-- ---- the first body of tag 5 does
+
+abbrev Lasts : (List ℕ → Fields) → List ℕ → ℕ → Type 0
+Lasts rest s last = badFrom last (rest s) ≡ false → length (bodies 5 (rest s)) ≡ 1 → Ends (getD (bodies 5 (rest s)) 0 []) s
+
+first-last : (rest : List ℕ → Fields) → ((r : List ℕ) (last : ℕ) → Spanned rest r last) → ((r : List ℕ) (last : ℕ) → Lasts rest r last)
+    → (s : List ℕ) (last : ℕ) → Lasts (first rest) s last
+unfolding badFrom bodies
+first-last rest g h [] last e c = absurd (omega (arith, c))
+first-last rest g h (t ∷ []) last e c = absurd (true≢false e)
+first-last rest g h (t ∷ a ∷ []) last e c = absurd (true≢false e)
+first-last rest g h (t ∷ a ∷ b ∷ s) last e c = by (leb n (length s)) refl e c
+  where
+    n : ℕ
+    n = big (a ∷ b ∷ [])
+
+    more : List (List ℕ)
+    more = bodies 5 (rest (drop n s))
+
+    whole : Fields
+    whole = field t (take n s) (rest (drop n s))
+
+    after : (body : List ℕ) → Ends body s → Ends body (t ∷ a ∷ b ∷ s)
+    after body w = ends-after t body (a ∷ b ∷ s) (ends-after a body (b ∷ s) (ends-after b body s w))
+
+    here : t ≡ 5 → n ≤ length s → badFrom t (rest (drop n s)) ≡ false → length (take n s ∷ more) ≡ 1 → Ends (take n s) (t ∷ a ∷ b ∷ s)
+    here p l f d =
+        let z : spanOf (rest (drop n s)) ≡ 0 = no-more (rest (drop n s)) (rw p at f) (omega (arith, d)) in
+        let m : length s ≤ n = omega (arith, l, z, g (drop n s) t f, length-drop n s) in
+        after (take n s) (rw (take-all n s m) (ends-whole s))
+
+    of-tag : (five : Bool) → eqb t 5 ≡ five → n ≤ length s → badFrom t (rest (drop n s)) ≡ false → length (cond five (take n s ∷ more) more) ≡ 1
+        → Ends (getD (cond five (take n s ∷ more) more) 0 []) (t ∷ a ∷ b ∷ s)
+    of-tag true p l f k = here (eqb-true t 5 p) l f k
+    of-tag false p l f k = after (getD more 0 []) (ends-part n (getD more 0 []) s l (h (drop n s) t f k))
+
+    by : (w : Bool) → leb n (length s) ≡ w → badFrom last (cond w whole cut) ≡ false → length (bodies 5 (cond w whole cut)) ≡ 1
+        → Ends (getD (bodies 5 (cond w whole cut)) 0 []) (t ∷ a ∷ b ∷ s)
+    by false d f k = absurd (true≢false f)
+    by true d f k =
+        let i = neither (ltb t last) (not (admits rules t (length (take n s))) || badFrom t (rest (drop n s))) f in
+        let j = neither (not (admits rules t (length (take n s)))) (badFrom t (rest (drop n s))) (i .1) in
+        of-tag (eqb t 5) refl (leb-true n (length s) d) (j .1) k
+
+last-none : (r : List ℕ) (last : ℕ) → Lasts (λ s. cut) r last
+unfolding badFrom
+last-none r last e c = absurd (true≢false e)
+
+last-parse : (f : ℕ) (s : List ℕ) (last : ℕ) → Lasts (parse f) s last
+unfolding parse
+last-parse zero s last e c = first-last (λ r. cut) span-none last-none s last e c
+last-parse (suc f) s last e c = first-last (parse f) (span-parse f) (last-parse f) s last e c
+
+pub marks-last : (s : List ℕ) → marksNumber s ≡ 0 → Ends (marksOf s) s
+unfolding marksNumber marksOf badFields bodyAt fieldsOf
+marks-last s z =
+    let fs = fieldsOf s in
+    let a = admitted fs (planIn fs) false z in
+    let f = neither (badFrom 0 fs) (anyNotOnce rules fs) (a .fields) in
+    rw (← (written-new (marksNumber s) (marksIn fs) [] z)) (last-parse (length s) s 0 (f .0) (once fs (f .1) .2))
