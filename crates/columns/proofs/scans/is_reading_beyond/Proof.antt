@@ -7,4 +7,4 @@ use Rattle.columns.proofs.scans.is_reading_beyond.Tie as tie
 
 pub is-reading-beyond-spec : {M : Type 1} → statement M
 unfolding readingLimit
-is-reading-beyond-spec = tie.close (tie.spec (λ c. search needs) (λ c. either-way readingLimit (c .fits .x) (lit< tt)))
+is-reading-beyond-spec = tie.close (tie.spec (λ c. search needs) (λ c. search (either-way readingLimit (c .fits .x) (lit< tt))))
