@@ -3,8 +3,6 @@
 --   Walking    a walk from field to field
 --   Searching  the walks that count and look for fields
 --   Judging    line 1 as the code judges it
---   Signed     two's complement as the code forms it
 pub mod Walking
 pub mod Searching
 pub mod Judging
-pub mod Signed

@@ -6,10 +6,9 @@ use mathlib.Core.Path.{_≡_, refl}
 use mathlib.Core.Bool.{Bool, true, false}
 use mathlib.Core.List.{List, [], _∷_, _++_, map}
 use Prim.Native.Nat.{ℕ}
-use lib.IntN.{pos, negsuc}
-use Rattle.fields.specs.Fields.{big, parse, fieldsOf, bodies, bodyAt}
+use Rattle.numerals.specs.Numbers.{big}
+use Rattle.fields.specs.Fields.{parse, fieldsOf, bodies, bodyAt}
 use Rattle.fields.specs.Rules.{badFrom, badFields}
-use Rattle.fields.specs.Numbers.{twos}
 
 abbrev one : List ℕ
 one = 1 ∷ 0 ∷ 2 ∷ 2 ∷ 1 ∷ []
@@ -70,9 +69,3 @@ in-order = refl
 not-there : bodyAt 2 0 (fieldsOf (one ++ readings ++ marks)) ≡ []
 unfolding bodyAt bodies fieldsOf parse big
 not-there = refl
-
--- 2 ^ 31 - 1, - 2 ^ 31, - 1 and 100,001 in 32 bits
-numbers : map (λ bytes. twos 32 (big bytes)) ((127 ∷ 255 ∷ 255 ∷ 255 ∷ []) ∷ (128 ∷ 0 ∷ 0 ∷ 0 ∷ []) ∷ (255 ∷ 255 ∷ 255 ∷ 255 ∷ []) ∷ (0 ∷ 1 ∷ 134 ∷ 161 ∷ []) ∷ [])
-    ≡ pos 2147483647 ∷ negsuc 2147483647 ∷ negsuc 0 ∷ pos 100001 ∷ []
-unfolding twos big
-numbers = refl

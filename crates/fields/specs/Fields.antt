@@ -1,20 +1,15 @@
 -- The fields of a sheet, from its bytes.
 --
---   big bytes         the number that bytes write, the highest first
 --   Fields            fields one after the other, up to the end of the sheet or to one that is cut short
 --   fieldsOf sheet    those of a sheet
 --   bodies t fs       the bodies of the fields of tag t, in order
 --   bodyAt t i fs     the body of field i of tag t, and no bytes where there is none
 use mathlib.Core.Bool.{cond}
 use mathlib.Core.List.{List, [], _∷_}
-use Prim.Native.Nat.{ℕ, zero, suc, _+_, _*_, _^_}
+use Prim.Native.Nat.{ℕ, zero, suc}
 use lib.Dec.{eqb, leb}
 use lib.ListN.{length, take, drop, getD}
-
--- "All numbers are big-endian."
-unfoldable pub big : List ℕ → ℕ
-big [] = 0
-big (b ∷ bytes) = b * 256 ^ length bytes + big bytes
+use Rattle.numerals.specs.Numbers.{big}
 
 pub data Fields : Type 0 where
   end : Fields

@@ -2,11 +2,9 @@
 --
 --   Fields     the fields of a sheet, from its bytes
 --   Rules      line 1 of the table of refusals
---   Numbers    numbers in two's complement
 --   Places     what the inner functions of a walk give
 --   Examples   small sheets
 pub mod Fields
 pub mod Rules
-pub mod Numbers
 pub mod Places
 pub mod Examples

@@ -6,7 +6,7 @@ use mathlib.Core.List.{List, [], _∷_}
 use Prim.Native.Nat.{ℕ, _+_}
 use lib.Dec.{leb}
 use lib.ListN.{length, getD}
-use Rattle.fields.specs.Fields.{big}
+use Rattle.numerals.specs.Numbers.{big}
 
 -- the length that the field at a place has
 abbrev pub lengthAt : List ℕ → ℕ → ℕ

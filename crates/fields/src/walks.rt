@@ -2,7 +2,7 @@
 ghost use mathlib.Core.Path.{_≡_};
 ghost use Prim.Native.Nat.{_<_};
 ghost use lib.ListN.{length};
-use super::numbers::pair;
+use numerals::pair;
 ghost use Rattle.fields.specs.Fields.{fieldsOf, bodies, bodyAt};
 ghost use Rattle.fields.specs.Places.{endAt};
 

@@ -21,10 +21,13 @@ use Rattle.plan.specs.Plan.{factorsOf, runsOf}
 use Rattle.plan.specs.Laws.Answers.{stopped, completed, unwritten, written-new}
 use Rattle.columns.specs.Laws.Admitted.{as-long}
 use Rattle.fields.specs.Fields.{fieldsOf, bodyAt}
-use Rattle.sheet.specs.Sheet.{planIn, readingsOf, readingsIn, marksIn, numberWith, readNumber, noPlan, readPlan, readColumn, marksNumber, marksOf}
-use Rattle.sheet.specs.Held.{held}
-use Rattle.sheet.specs.Laws.Admitted.{readings-long, Admitted, admitted}
-use Rattle.sheet.proofs.Holding.{held-all, held-with, narrow-by}
+use Rattle.contents.specs.Contents.{planIn, readingsOf, readingsIn, marksIn}
+use Rattle.sheet.specs.Sheet.{numberWith, readNumber, noPlan, readPlan, readColumn, marksNumber, marksOf}
+use Rattle.contents.specs.Held.{held}
+use Rattle.contents.specs.Laws.Readings.{readings-long}
+use Rattle.sheet.specs.Laws.Admitted.{Admitted, admitted}
+use Rattle.contents.specs.Laws.Holding.{held-all}
+use Rattle.sheet.proofs.Holding.{held-with, narrow-by}
 
 module _ (sheet : List ℕ) {p : Plan} (is : p ≡ held (planIn (fieldsOf sheet))) where
   pub marks-number : {n : ℕ} → n ≡ numberWith (fieldsOf sheet) p false → n ≡ marksNumber sheet

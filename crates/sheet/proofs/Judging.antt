@@ -18,8 +18,9 @@ use Rattle.rows.specs.Kinds.{wrongRows, badMarks, rowCount}
 use Rattle.rows.specs.Laws.{rows-by}
 use Rattle.fields.specs.Fields.{Fields, bodyAt}
 use Rattle.fields.specs.Rules.{badFields}
-use Rattle.sheet.specs.Sheet.{readingsOf, numberWith}
-use Rattle.sheet.specs.Laws.Admitted.{readings-long}
+use Rattle.contents.specs.Contents.{readingsOf}
+use Rattle.sheet.specs.Sheet.{numberWith}
+use Rattle.contents.specs.Laws.Readings.{readings-long}
 
 module _ (p : Plan) (ok : planNumber p ≡ 0) {n : ℕ} (runs : n ≡ runCount p) (readings marks : ℕ) where
   pub lengths-not : (readings ≡ n → ⊥) → true ≡ (wrongLength p readings || wrongRows p marks)

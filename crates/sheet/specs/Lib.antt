@@ -1,8 +1,6 @@
 -- What the calls on sheets promise.
 --
---   Sheet      what a sheet says, its number, and what the two calls give
---   Held       the plan as the code holds it
+--   Sheet      the number of a sheet, and what the two calls give
 --   Laws       laws on sheets
 pub mod Sheet
-pub mod Held
 pub mod Laws

@@ -1,6 +1,5 @@
--- What a sheet says: its plan, readings and marks; its number; and what the two calls give.
+-- The number of a sheet, and what the two calls give.
 --
---   planIn fs, readingsIn fs, marksIn fs    what fields say
 --   numberWith fs p narrow                  the lowest number of a sheet whose plan is p, 0 where it is accepted
 --   sheetNumber fs narrow                   of a sheet
 --   noPlan                                  the plan of all zeros
@@ -8,11 +7,10 @@
 --   marksNumber, marksOf                    the marks call
 use mathlib.Core.Bool.{Bool, false, cond, _||_}
 use mathlib.Core.List.{List, [], _∷_, _++_}
-use Prim.Native.Nat.{ℕ, _+_, _*_, _/_}
+use Prim.Native.Nat.{ℕ, _+_}
 use lib.Dec.{ltb}
 use lib.IntN.{ℤ}
-use lib.ListN.{length, getD, drop, replicate}
-use Rattle.algebra.specs.Tab.{tab}
+use lib.ListN.{length, drop, replicate}
 use Rattle.contrasts.specs.Limits.{readingLimit}
 use Rattle.plan.specs.declared.types.Plan.{Plan}
 use Rattle.plan.specs.Check.{withPlan}
@@ -20,46 +18,9 @@ use Rattle.plan.specs.Outcome.{line, written}
 use Rattle.plan.specs.Plan.{runsOf}
 use Rattle.columns.specs.Lines.{wrongLength, anyBeyond}
 use Rattle.rows.specs.Kinds.{wrongRows, badMarks}
-use Rattle.fields.specs.Fields.{Fields, fieldsOf, big, bodies, bodyAt}
-use Rattle.fields.specs.Numbers.{twos}
+use Rattle.fields.specs.Fields.{Fields, fieldsOf}
 use Rattle.fields.specs.Rules.{badFields}
-
--- ---- what fields say
-
--- the byte of a body at a place
-abbrev pub byteAt : ℕ → List ℕ → ℕ
-byteAt i body = getD body i 0
-
--- "the word": the first two bytes of a body
-abbrev pub wordIn : List ℕ → ℕ
-wordIn body = big (byteAt 0 body ∷ byteAt 1 body ∷ [])
-
--- "Tag 1, once: levels and k, a byte each. Tag 2, per added factor: word, sign byte. Tag 3, per block word: the word."
--- "Places beyond a plan's counts are ignored; the reader sets them to 0."
-unfoldable pub planIn : Fields → Plan
-planIn fs = record {
-  levels = byteAt 0 (bodyAt 1 0 fs);
-  k = byteAt 1 (bodyAt 1 0 fs);
-  added = length (bodies 2 fs);
-  words = tab 6 (λ i. wordIn (bodyAt 2 i fs));
-  signs = tab 6 (λ i. byteAt 2 (bodyAt 2 i fs));
-  blocks = length (bodies 3 fs);
-  blockwords = tab 4 (λ i. wordIn (bodyAt 3 i fs));
-}
-
--- "readings, 4 bytes each in two's complement"
-unfoldable pub readingAt : List ℕ → ℕ → ℤ
-readingAt body i = twos 32 (big (byteAt (4 * i) body ∷ byteAt (4 * i + 1) body ∷ byteAt (4 * i + 2) body ∷ byteAt (4 * i + 3) body ∷ []))
-
-unfoldable pub readingsOf : List ℕ → List ℤ
-readingsOf body = tab (length body / 4) (readingAt body)
-
-abbrev pub readingsIn : Fields → List ℤ
-readingsIn fs = readingsOf (bodyAt 4 0 fs)
-
--- "Tag 5, once: R mark bytes."
-abbrev pub marksIn : Fields → List ℕ
-marksIn fs = bodyAt 5 0 fs
+use Rattle.contents.specs.Contents.{planIn, readingsIn, marksIn}
 
 -- ---- what is refused
 

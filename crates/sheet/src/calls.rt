@@ -1,10 +1,10 @@
 // The reader and the marks call.
 ghost use mathlib.Core.Path.{_≡_};
 use super::numbers::number;
-use super::plans::plan_in;
-use super::readings::fill;
 use super::types::Sheet;
 use columns::Answer;
+use contents::plan_in;
+use contents::put_readings;
 use fields::body;
 use plan::Plan;
 use sizes::runs;
@@ -44,7 +44,7 @@ pub fn read(sheet: &[u8], column: &mut [i32]) -> Sheet
     }
     let readings = body(sheet, 4, 0);
     let count = readings.len() / 4;
-    fill(readings, &mut column[..count]);
+    put_readings(readings, &mut column[..count]);
     Sheet {
         answer: Answer::Done,
         plan: p,

@@ -6,8 +6,6 @@
 //   Answer                done, or the number of the refusal: of the crate `columns`
 mod calls;
 mod numbers;
-mod plans;
-mod readings;
 mod types;
 
 pub use calls::marks;

@@ -1,7 +1,7 @@
 // What is refused of a sheet.
 ghost use mathlib.Core.Path.{_≡_};
 ghost use mathlib.Core.Bool.{_||_};
-use super::readings::any_beyond;
+use contents::any_beyond;
 use fields::bad_fields;
 use fields::body;
 use plan::Plan;

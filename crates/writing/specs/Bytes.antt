@@ -12,8 +12,7 @@ use borrow.Author.Tests.{lt-ltb, le-ltb}
 use lib.Arith.{mod-mul}
 use lib.IntN.{ℤ, pos, negsuc, natAbs}
 use lib.ListN.{length}
-use Rattle.fields.specs.Fields.{big}
-use Rattle.fields.specs.Numbers.{twos}
+use Rattle.numerals.specs.Numbers.{big, twos}
 use Rattle.writing.specs.Writer.{bytes, complement}
 
 pub bytes-length : (n x : ℕ) → length (bytes n x) ≡ n

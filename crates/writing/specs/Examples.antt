@@ -20,10 +20,11 @@ use Rattle.plan.specs.Examples.{AB, ABC, C, plan}
 use Rattle.plan.specs.Plan.{factorsOf, someCombination, combinesTo}
 use Rattle.columns.specs.Lines.{wrongLength, isBeyond, anyBeyond}
 use Rattle.rows.specs.Kinds.{wrongRows, badMark, badMarks}
-use Rattle.fields.specs.Fields.{big, parse, fieldsOf, bodies, bodyAt}
-use Rattle.fields.specs.Numbers.{twos}
+use Rattle.numerals.specs.Numbers.{big, twos}
+use Rattle.fields.specs.Fields.{parse, fieldsOf, bodies, bodyAt}
 use Rattle.fields.specs.Rules.{badFrom, badFields}
-use Rattle.sheet.specs.Sheet.{planIn, readingAt, readingsOf, numberWith, readNumber, noPlan, readPlan, readColumn, marksNumber, marksOf}
+use Rattle.contents.specs.Contents.{planIn, readingAt, readingsOf}
+use Rattle.sheet.specs.Sheet.{numberWith, readNumber, noPlan, readPlan, readColumn, marksNumber, marksOf}
 use Rattle.writing.specs.Writer.{bytes, bytesOf, each, readingBytes, sheetFields, sheetOf}
 
 abbrev four : List ℤ

@@ -20,8 +20,9 @@ use lib.Seq.{length-take-le, getD-take}
 use Rattle.algebra.specs.Tab.{tab, length-tab, getD-tab, is-tab, tab-cong}
 use Rattle.plan.specs.declared.types.Plan.{Plan}
 use Rattle.plan.specs.Laws.Alike.{Alike}
-use Rattle.fields.specs.Fields.{Fields, end, field, big, bodies, bodyAt}
-use Rattle.sheet.specs.Sheet.{byteAt, wordIn, planIn}
+use Rattle.numerals.specs.Numbers.{big}
+use Rattle.fields.specs.Fields.{Fields, end, field, bodies, bodyAt}
+use Rattle.contents.specs.Contents.{byteAt, wordIn, planIn}
 use Rattle.writing.specs.Writer.{bytes, each, readingBytes, addedBody, blockBody, sheetFields, settled}
 use Rattle.writing.specs.Bytes.{two-back}
 use Rattle.writing.specs.Each.{each-other, each-count, each-at, each-past}

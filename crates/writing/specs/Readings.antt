@@ -12,9 +12,8 @@ use lib.IntN.{ℤ, pos, natAbs}
 use lib.ListN.{length, getD, length-append, List·getD-append}
 use Rattle.algebra.specs.Tab.{is-tab}
 use Rattle.contrasts.specs.Columns.{read}
-use Rattle.fields.specs.Fields.{big}
-use Rattle.fields.specs.Numbers.{twos}
-use Rattle.sheet.specs.Sheet.{readingAt, readingsOf}
+use Rattle.numerals.specs.Numbers.{big, twos}
+use Rattle.contents.specs.Contents.{readingAt, readingsOf}
 use Rattle.writing.specs.Writer.{bytes, complement, readingBytes}
 use Rattle.writing.specs.Bytes.{bytes-length, four-back, complement-fits, twos-back}
 

@@ -32,7 +32,8 @@ use Rattle.rows.specs.Kinds.{rowsIn, wrongRows, badMarks}
 use Rattle.rows.specs.Laws.{rows-few, same-marks}
 use Rattle.fields.specs.Fields.{Fields, end, field, fieldsOf, bodyAt}
 use Rattle.fields.specs.Rules.{rules, badFrom, anyNotOnce, badFields}
-use Rattle.sheet.specs.Sheet.{planIn, readingsOf, readingsIn, marksIn, sheetNumber, readNumber, noPlan, readPlan, readColumn, marksNumber, marksOf}
+use Rattle.contents.specs.Contents.{planIn, readingsOf, readingsIn, marksIn}
+use Rattle.sheet.specs.Sheet.{sheetNumber, readNumber, noPlan, readPlan, readColumn, marksNumber, marksOf}
 use Rattle.sheet.specs.Laws.Admitted.{Admitted, admits}
 use Rattle.sheet.specs.Laws.Marks.{small-marks, accepted-without}
 use Rattle.writing.specs.Writer.{bytes, readingBytes, addedBody, blockBody, sheetFields, sheetOf, settled}

@@ -3,17 +3,11 @@
 --   Admitted fs p narrow    its fields, plan, readings and marks are as the rules ask, and the column is wide enough
 --   admitted                so they are where there is no number
 --   admits                  and this is all that is asked
---   readings-long, reading-is    how many readings a body has, and each of them
 use mathlib.Core.Path.{_≡_, refl, _∙_}
 use mathlib.Core.Bool.{Bool, false, _||_}
-use mathlib.Core.List.{List}
-use Prim.Native.Nat.{ℕ, _/_, _<_}
 use native.Mathlib.Omega.{arith}
-use lib.IntN.{pos}
 use lib.ListN.{length}
-use Rattle.algebra.specs.Tab.{length-tab, getD-tab}
 use Rattle.algebra.specs.Tests.{neither}
-use Rattle.contrasts.specs.Columns.{read}
 use Rattle.contrasts.specs.Limits.{readingLimit}
 use Rattle.plan.specs.declared.types.Plan.{Plan}
 use Rattle.plan.specs.Check.{planNumber}
@@ -22,15 +16,8 @@ use Rattle.columns.specs.Lines.{wrongLength, anyBeyond}
 use Rattle.rows.specs.Kinds.{wrongRows, badMarks}
 use Rattle.fields.specs.Fields.{Fields}
 use Rattle.fields.specs.Rules.{badFields}
-use Rattle.sheet.specs.Sheet.{readingAt, readingsOf, readingsIn, marksIn, numberWith}
-
-pub readings-long : (body : List ℕ) → length (readingsOf body) ≡ length body / 4
-unfolding readingsOf
-readings-long body = length-tab (length body / 4) (readingAt body)
-
-pub reading-is : (body : List ℕ) (i : ℕ) → i < length body / 4 → read (readingsOf body) i ≡ readingAt body i
-unfolding readingsOf
-reading-is body i h = getD-tab (pos 0) (length body / 4) (readingAt body) i h
+use Rattle.contents.specs.Contents.{readingsIn, marksIn}
+use Rattle.sheet.specs.Sheet.{numberWith}
 
 pub record Admitted (fs : Fields) (p : Plan) (narrow : Bool) : Type 0 where
   pub fields : badFields fs ≡ false

@@ -14,9 +14,11 @@ use lib.ListN.{length, take, drop, getD, length-drop}
 use lib.Seq.{take-all, drop-drop}
 use Rattle.algebra.specs.Tests.{neither}
 use Rattle.plan.specs.Laws.Answers.{written-new}
-use Rattle.fields.specs.Fields.{Fields, end, cut, field, first, parse, fieldsOf, bodies, bodyAt, big}
+use Rattle.numerals.specs.Numbers.{big}
+use Rattle.fields.specs.Fields.{Fields, end, cut, field, first, parse, fieldsOf, bodies, bodyAt}
 use Rattle.fields.specs.Rules.{rules, admits, badFrom, anyNotOnce, badFields}
-use Rattle.sheet.specs.Sheet.{planIn, marksIn, marksNumber, marksOf}
+use Rattle.contents.specs.Contents.{planIn, marksIn}
+use Rattle.sheet.specs.Sheet.{marksNumber, marksOf}
 use Rattle.sheet.specs.Laws.Admitted.{admitted}
 use Rattle.sheet.specs.Laws.Lengths.{spanOf, Spanned, span-none, span-parse, Known, one, two, three, four, five, known, once}
 

@@ -15,14 +15,17 @@ use lib.Dec.{leb, ltb, eqb}
 use lib.ListN.{length, take, drop, getD, length-drop}
 use lib.Seq.{length-take-le}
 use Rattle.algebra.specs.Tests.{neither}
-use Rattle.fields.specs.Fields.{Fields, end, cut, field, first, parse, fieldsOf, bodies, bodyAt, big}
+use Rattle.numerals.specs.Numbers.{big}
+use Rattle.fields.specs.Fields.{Fields, end, cut, field, first, parse, fieldsOf, bodies, bodyAt}
 use Rattle.plan.specs.Laws.Accepted.{sizes}
 use Rattle.plan.specs.Laws.Sizes.{runs-few}
 use Rattle.columns.specs.Laws.Admitted.{as-long}
 use Rattle.rows.specs.Laws.{rows-as-long, rows-few}
 use Rattle.fields.specs.Rules.{rules, admits, badFrom, anyNotOnce, badFields}
-use Rattle.sheet.specs.Sheet.{planIn, readingsIn, marksIn, marksNumber}
-use Rattle.sheet.specs.Laws.Admitted.{readings-long, admitted}
+use Rattle.contents.specs.Contents.{planIn, readingsIn, marksIn}
+use Rattle.sheet.specs.Sheet.{marksNumber}
+use Rattle.contents.specs.Laws.Readings.{readings-long}
+use Rattle.sheet.specs.Laws.Admitted.{admitted}
 
 unfoldable pub spanOf : Fields → ℕ
 spanOf end = 0

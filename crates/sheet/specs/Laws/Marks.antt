@@ -19,7 +19,8 @@ use Rattle.plan.specs.Laws.Answers.{written-new}
 use Rattle.rows.specs.Kinds.{rowsIn, badMark, badMarks}
 use Rattle.rows.specs.Laws.{rows-as-long}
 use Rattle.fields.specs.Fields.{fieldsOf}
-use Rattle.sheet.specs.Sheet.{planIn, marksIn, readNumber, noPlan, readPlan, marksNumber, marksOf}
+use Rattle.contents.specs.Contents.{planIn, marksIn}
+use Rattle.sheet.specs.Sheet.{readNumber, noPlan, readPlan, marksNumber, marksOf}
 use Rattle.sheet.specs.Laws.Admitted.{Admitted, admitted, admits}
 
 pub record Lawful (p : Plan) (marks : List ℕ) : Type 0 where

@@ -4,6 +4,7 @@ use Prim.Native.Nat.{_/_}
 use native.Mathlib.Omega.{arith}
 use lib.ListN.{length, drop}
 use lib.Seq.{length-take-le}
+use Rattle.contents.specs.Laws.Readings.{readings-put}
 use Rattle.sheet.proofs.Answering.{read-number, read-stopped, room-for, same-size, read-completed}
 use Rattle.sheet.proofs.calls.read.Statement.{statement}
 use Rattle.sheet.proofs.calls.read.Tie as tie
@@ -20,6 +21,6 @@ read-spec =
     (λ c κs. tt)
     (λ c. room-for (c .before .before .before .before .before .before .before .args .sheet .now) (c .before .before .before .before .before .before .before .args .column .now) (sym (read-number _ (c .before .before .before .before .before .plan-in .ensures) _ (c .before .before .before .before .runs .ensures) (c .before .before .before .number .ensures)) ∙ omega (arith, c .before .if1 .left)) (c .body .ensures))
     (λ c. sym (length-take-le _ _ (room-for (c .before .before .before .before .before .before .before .before .args .sheet .now) (c .before .before .before .before .before .before .before .before .args .column .now) (sym (read-number _ (c .before .before .before .before .before .before .plan-in .ensures) _ (c .before .before .before .before .before .runs .ensures) (c .before .before .before .before .number .ensures)) ∙ omega (arith, c .before .before .if1 .left)) (c .before .body .ensures))))
-    (λ c κs. length-take-le _ _ (room-for (c .before .before .before .before .before .before .before .before .args .sheet .now) (c .before .before .before .before .before .before .before .before .args .column .now) (sym (read-number _ (c .before .before .before .before .before .before .plan-in .ensures) _ (c .before .before .before .before .before .runs .ensures) (c .before .before .before .before .number .ensures)) ∙ omega (arith, c .before .before .if1 .left)) (c .before .body .ensures)))
-    (λ c. same-size (c .before .before .before .before .before .before .before .before .before .before .args .sheet .now) (c .before .before .before .before .before .before .before .before .before .before .args .column .now) (sym (read-number _ (c .before .before .before .before .before .before .before .before .plan-in .ensures) _ (c .before .before .before .before .before .before .before .runs .ensures) (c .before .before .before .before .before .before .number .ensures)) ∙ omega (arith, c .before .before .before .before .if1 .left)) (c .before .before .before .body .ensures) (ap (λ l. l ++ drop (length (c .before .before .before .body .result .now) / 4) (c .before .before .before .before .before .before .before .before .before .before .args .column .now)) (c .before .fill .ensures)))
-    (λ c. read-completed (c .before .before .before .before .before .before .before .before .before .before .args .sheet .now) (c .before .before .before .before .before .before .before .before .before .before .args .column .now) (sym (read-number _ (c .before .before .before .before .before .before .before .before .plan-in .ensures) _ (c .before .before .before .before .before .before .before .runs .ensures) (c .before .before .before .before .before .before .number .ensures)) ∙ omega (arith, c .before .before .before .before .if1 .left)) (c .before .before .before .body .ensures) (c .before .before .before .before .before .before .before .before .plan-in .ensures) (ap (λ l. l ++ drop (length (c .before .before .before .body .result .now) / 4) (c .before .before .before .before .before .before .before .before .before .before .args .column .now)) (c .before .fill .ensures))))
+    (λ c κs. tt)
+    (λ c. same-size (c .before .before .before .before .before .before .before .before .before .before .args .sheet .now) (c .before .before .before .before .before .before .before .before .before .before .args .column .now) (sym (read-number _ (c .before .before .before .before .before .before .before .before .plan-in .ensures) _ (c .before .before .before .before .before .before .before .runs .ensures) (c .before .before .before .before .before .before .number .ensures)) ∙ omega (arith, c .before .before .before .before .if1 .left)) (c .before .before .before .body .ensures) (ap (λ l. l ++ drop (length (c .before .before .before .body .result .now) / 4) (c .before .before .before .before .before .before .before .before .before .before .args .column .now)) (c .before .put-readings .ensures ∙ readings-put _ _ (length-take-le _ _ (room-for (c .before .before .before .before .before .before .before .before .before .before .args .sheet .now) (c .before .before .before .before .before .before .before .before .before .before .args .column .now) (sym (read-number _ (c .before .before .before .before .before .before .before .before .plan-in .ensures) _ (c .before .before .before .before .before .before .before .runs .ensures) (c .before .before .before .before .before .before .number .ensures)) ∙ omega (arith, c .before .before .before .before .if1 .left)) (c .before .before .before .body .ensures))))))
+    (λ c. read-completed (c .before .before .before .before .before .before .before .before .before .before .args .sheet .now) (c .before .before .before .before .before .before .before .before .before .before .args .column .now) (sym (read-number _ (c .before .before .before .before .before .before .before .before .plan-in .ensures) _ (c .before .before .before .before .before .before .before .runs .ensures) (c .before .before .before .before .before .before .number .ensures)) ∙ omega (arith, c .before .before .before .before .if1 .left)) (c .before .before .before .body .ensures) (c .before .before .before .before .before .before .before .before .plan-in .ensures) (ap (λ l. l ++ drop (length (c .before .before .before .body .result .now) / 4) (c .before .before .before .before .before .before .before .before .before .before .args .column .now)) (c .before .put-readings .ensures ∙ readings-put _ _ (length-take-le _ _ (room-for (c .before .before .before .before .before .before .before .before .before .before .args .sheet .now) (c .before .before .before .before .before .before .before .before .before .before .args .column .now) (sym (read-number _ (c .before .before .before .before .before .before .before .before .plan-in .ensures) _ (c .before .before .before .before .before .before .before .runs .ensures) (c .before .before .before .before .before .before .number .ensures)) ∙ omega (arith, c .before .before .before .before .if1 .left)) (c .before .before .before .body .ensures)))))))

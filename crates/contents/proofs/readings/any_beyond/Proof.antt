@@ -1,0 +1,35 @@
+use mathlib.Core.Path.{sym, ap, _∙_}
+use Prim.Native.Nat.{_-_}
+use native.Mathlib.Omega.{arith}
+use lib.ListN.{length}
+use Rattle.algebra.specs.Search.{some, Seen, seen-none, seen-more, seen-all}
+use mir.Syntax.{w32}
+use mir.ValLaws.{toZ-ofZ}
+use Rattle.contrasts.specs.Columns.{read}
+use Rattle.contrasts.specs.Limits.{readingLimit}
+use Rattle.columns.specs.Lines.{isBeyond, anyBeyond}
+use Rattle.contents.specs.Contents.{readingsOf}
+use Rattle.contents.specs.Laws.Readings.{readings-long, reading-is}
+use Rattle.contents.proofs.readings.any_beyond.Statement.{statement}
+use Rattle.contents.proofs.readings.any_beyond.Tie as tie
+
+abbrev Inv-loop : tie.InvT-loop
+Inv-loop body n any₀ i₀ any i = Seen (λ j. isBeyond readingLimit (read (readingsOf body) j)) n i any
+
+abbrev μ-loop : tie.MeasureT-loop
+μ-loop body n any₀ i₀ any i = n - i
+
+pub any-beyond-spec : {M : Type 1} → statement M
+unfolding anyBeyond
+any-beyond-spec =
+    tie.close
+    (tie.spec
+    Inv-loop
+    μ-loop
+    (λ c. seen-none _ _)
+    (λ c κs. c .loop-test .taken)
+    (λ c κs. tt)
+    (λ c. omega arith)
+    (λ c. omega arith)
+    (λ c. seen-more (c .before .before .before .loop .inv) (c .before .before .loop-test .taken) (c .is-reading-beyond .ensures ∙ ap (isBeyond readingLimit) (toZ-ofZ w32 (c .before .reading-at .result) (record { sfits = c .before .reading-at .ok }) ∙ c .before .reading-at .ensures ∙ sym (reading-is (c .before .before .before .before .before .args .body .now) _ (c .before .before .loop-test .taken)))))
+    (λ c. seen-all (c .before .loop .inv) (c .loop-test .left) ∙ ap (λ m. some m (λ j. isBeyond readingLimit (read (readingsOf (c .before .before .before .args .body .now)) j))) (sym (readings-long _))))

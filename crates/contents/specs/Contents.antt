@@ -1,0 +1,49 @@
+-- What the fields of a sheet say: the plan, the readings and the marks.
+--
+--   planIn fs                the plan
+--   readingAt, readingsOf    the readings of the body of field 4
+--   readingsIn fs            those of the sheet
+--   marksIn fs               the marks
+use mathlib.Core.List.{List, [], _∷_}
+use Prim.Native.Nat.{ℕ, _+_, _*_, _/_}
+use lib.IntN.{ℤ}
+use lib.ListN.{length, getD}
+use Rattle.algebra.specs.Tab.{tab}
+use Rattle.plan.specs.declared.types.Plan.{Plan}
+use Rattle.numerals.specs.Numbers.{big, twos}
+use Rattle.fields.specs.Fields.{Fields, bodies, bodyAt}
+
+-- the byte of a body at a place
+abbrev pub byteAt : ℕ → List ℕ → ℕ
+byteAt i body = getD body i 0
+
+-- "the word": the first two bytes of a body
+abbrev pub wordIn : List ℕ → ℕ
+wordIn body = big (byteAt 0 body ∷ byteAt 1 body ∷ [])
+
+-- "Tag 1, once: levels and k, a byte each. Tag 2, per added factor: word, sign byte. Tag 3, per block word: the word."
+-- "Places beyond a plan's counts are ignored; the reader sets them to 0."
+unfoldable pub planIn : Fields → Plan
+planIn fs = record {
+  levels = byteAt 0 (bodyAt 1 0 fs);
+  k = byteAt 1 (bodyAt 1 0 fs);
+  added = length (bodies 2 fs);
+  words = tab 6 (λ i. wordIn (bodyAt 2 i fs));
+  signs = tab 6 (λ i. byteAt 2 (bodyAt 2 i fs));
+  blocks = length (bodies 3 fs);
+  blockwords = tab 4 (λ i. wordIn (bodyAt 3 i fs));
+}
+
+-- "readings, 4 bytes each in two's complement"
+unfoldable pub readingAt : List ℕ → ℕ → ℤ
+readingAt body i = twos 32 (big (byteAt (4 * i) body ∷ byteAt (4 * i + 1) body ∷ byteAt (4 * i + 2) body ∷ byteAt (4 * i + 3) body ∷ []))
+
+unfoldable pub readingsOf : List ℕ → List ℤ
+readingsOf body = tab (length body / 4) (readingAt body)
+
+abbrev pub readingsIn : Fields → List ℤ
+readingsIn fs = readingsOf (bodyAt 4 0 fs)
+
+-- "Tag 5, once: R mark bytes."
+abbrev pub marksIn : Fields → List ℕ
+marksIn fs = bodyAt 5 0 fs
