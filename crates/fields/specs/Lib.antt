@@ -3,8 +3,10 @@
 --   Fields     the fields of a sheet, from its bytes
 --   Rules      line 1 of the table of refusals
 --   Places     what the inner functions of a walk give
+--   Laws       the steps of the definition do not matter
 --   Examples   small sheets
 pub mod Fields
 pub mod Rules
 pub mod Places
+pub mod Laws
 pub mod Examples
