@@ -3,7 +3,7 @@
 --   Fields     the fields of a sheet, from its bytes
 --   Rules      line 1 of the table of refusals
 --   Places     what the inner functions of a walk give
---   Laws       the steps of the definition do not matter
+--   Laws       laws on fields
 --   Examples   small sheets
 pub mod Fields
 pub mod Rules

@@ -25,7 +25,7 @@ use Rattle.contents.specs.Contents.{planIn, readingsOf, readingsIn, marksIn}
 use Rattle.sheet.specs.Sheet.{numberWith, readNumber, noPlan, readPlan, readColumn, marksNumber, marksOf}
 use Rattle.contents.specs.Held.{held}
 use Rattle.contents.specs.Laws.Readings.{readings-long}
-use Rattle.sheet.specs.Laws.Admitted.{Admitted, admitted}
+use Rattle.sheet.specs.Laws.Admitted.{read-admitted}
 use Rattle.contents.specs.Laws.Holding.{held-all}
 use Rattle.sheet.proofs.Holding.{held-with, narrow-by}
 
@@ -59,15 +59,11 @@ module _ (sheet : List ℕ) (column : List ℤ) where
       (s .0, (q ∙ unwritten (readNumber sheet (length column)) (planIn (fieldsOf sheet)) noPlan (λ d. h (e ∙ d)), s .1))
 
   module _ (z : readNumber sheet (length column) ≡ 0) where
-    as-asked : Admitted (fieldsOf sheet) (planIn (fieldsOf sheet)) (ltb (length column) (runsOf (planIn (fieldsOf sheet))))
-    unfolding readNumber
-    as-asked = admitted (fieldsOf sheet) (planIn (fieldsOf sheet)) (ltb (length column) (runsOf (planIn (fieldsOf sheet)))) z
-
     module _ {body : List ℕ} (is : body ≡ bodyAt 4 0 (fieldsOf sheet)) where
       pub room-for : length body / 4 ≤ length column
       room-for =
-          let n : length (readingsOf body) ≡ runsOf (planIn (fieldsOf sheet)) = rw is (as-long (planIn (fieldsOf sheet)) (length (readingsIn (fieldsOf sheet))) (as-asked .readings)) in
-          rw (← (readings-long body), n) (ltb-false (length column) (runsOf (planIn (fieldsOf sheet))) (as-asked .wide))
+          let n : length (readingsOf body) ≡ runsOf (planIn (fieldsOf sheet)) = rw is (as-long (planIn (fieldsOf sheet)) (length (readingsIn (fieldsOf sheet))) (read-admitted sheet (length column) z .readings)) in
+          rw (← (readings-long body), n) (ltb-false (length column) (runsOf (planIn (fieldsOf sheet))) (read-admitted sheet (length column) z .wide))
 
       pub same-size : {after : List ℤ} → after ≡ readingsOf body ++ drop (length body / 4) column → length after ≡ length column
       same-size d = rw (d, length-append, readings-long, length-drop) (omega (arith, room-for))
@@ -78,7 +74,7 @@ module _ (sheet : List ℕ) (column : List ℤ) where
       read-completed q {after} d =
           let made : after ≡ readingsIn (fieldsOf sheet) ++ drop (length (readingsIn (fieldsOf sheet))) column = d ∙ rw (← (readings-long body), is) refl in
           let s = completed tt (readingsIn (fieldsOf sheet) ++ drop (length (readingsIn (fieldsOf sheet))) column) column z made in
-          (s .0, (q ∙ held-all (planIn (fieldsOf sheet)) (as-asked .plan) ∙ written-new (readNumber sheet (length column)) (planIn (fieldsOf sheet)) noPlan z, s .1))
+          (s .0, (q ∙ held-all (planIn (fieldsOf sheet)) (read-admitted sheet (length column) z .plan) ∙ written-new (readNumber sheet (length column)) (planIn (fieldsOf sheet)) noPlan z, s .1))
 
 -- ---- the marks call
 

@@ -2,9 +2,7 @@
 --
 --   Admitted    what is known of a sheet that is accepted
 --   Marks       the marks of such a sheet
---   Lengths     how long it is
---   Last        which part of it the marks are
+--   Lengths     how long it is, and which part of it the marks are
 pub mod Admitted
 pub mod Marks
 pub mod Lengths
-pub mod Last

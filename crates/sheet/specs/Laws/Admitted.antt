@@ -3,21 +3,26 @@
 --   Admitted fs p narrow    its fields, plan, readings and marks are as the rules ask, and the column is wide enough
 --   admitted                so they are where there is no number
 --   admits                  and this is all that is asked
+--   read-admitted, marks-admitted    of a sheet that the reader accepts, and of one that the marks call does
 use mathlib.Core.Path.{_≡_, refl, _∙_}
 use mathlib.Core.Bool.{Bool, false, _||_}
+use mathlib.Core.List.{List}
+use Prim.Native.Nat.{ℕ}
 use native.Mathlib.Omega.{arith}
+use lib.Dec.{ltb}
 use lib.ListN.{length}
 use Rattle.algebra.specs.Tests.{neither}
 use Rattle.contrasts.specs.Limits.{readingLimit}
 use Rattle.plan.specs.declared.types.Plan.{Plan}
 use Rattle.plan.specs.Check.{planNumber}
 use Rattle.plan.specs.Laws.Answers.{passed, plan-passed, after-plan}
+use Rattle.plan.specs.Plan.{runsOf}
 use Rattle.columns.specs.Lines.{wrongLength, anyBeyond}
 use Rattle.rows.specs.Kinds.{wrongRows, badMarks}
-use Rattle.fields.specs.Fields.{Fields}
+use Rattle.fields.specs.Fields.{Fields, fieldsOf}
 use Rattle.fields.specs.Rules.{badFields}
-use Rattle.contents.specs.Contents.{readingsIn, marksIn}
-use Rattle.sheet.specs.Sheet.{numberWith}
+use Rattle.contents.specs.Contents.{planIn, readingsIn, marksIn}
+use Rattle.sheet.specs.Sheet.{numberWith, readNumber, marksNumber}
 
 pub record Admitted (fs : Fields) (p : Plan) (narrow : Bool) : Type 0 where
   pub fields : badFields fs ≡ false
@@ -55,3 +60,12 @@ module _ (fs : Fields) (p : Plan) (narrow : Bool) where
   pub admits : Admitted fs p narrow → numberWith fs p narrow ≡ 0
   unfolding numberWith
   admits a = rw (a .fields) (after-plan p _ (a .plan) ∙ rw (a .wide, a .readings, a .marks, a .within, a .lawful) refl)
+
+pub read-admitted : (sheet : List ℕ) (room : ℕ) → readNumber sheet room ≡ 0
+    → Admitted (fieldsOf sheet) (planIn (fieldsOf sheet)) (ltb room (runsOf (planIn (fieldsOf sheet))))
+unfolding readNumber
+read-admitted sheet room z = admitted (fieldsOf sheet) (planIn (fieldsOf sheet)) (ltb room (runsOf (planIn (fieldsOf sheet)))) z
+
+pub marks-admitted : (sheet : List ℕ) → marksNumber sheet ≡ 0 → Admitted (fieldsOf sheet) (planIn (fieldsOf sheet)) false
+unfolding marksNumber
+marks-admitted sheet z = admitted (fieldsOf sheet) (planIn (fieldsOf sheet)) false z

@@ -14,14 +14,14 @@ use lib.ListN.{length, getD}
 use Rattle.algebra.specs.Search.{none-at}
 use Rattle.algebra.specs.Tests.{neither}
 use Rattle.plan.specs.declared.types.Plan.{Plan}
-use Rattle.plan.specs.Plan.{confoundedIn, runsOf}
+use Rattle.plan.specs.Plan.{confoundedIn}
 use Rattle.plan.specs.Laws.Answers.{written-new}
 use Rattle.rows.specs.Kinds.{rowsIn, badMark, badMarks}
 use Rattle.rows.specs.Laws.{rows-as-long}
 use Rattle.fields.specs.Fields.{fieldsOf}
 use Rattle.contents.specs.Contents.{planIn, marksIn}
 use Rattle.sheet.specs.Sheet.{readNumber, noPlan, readPlan, marksNumber, marksOf}
-use Rattle.sheet.specs.Laws.Admitted.{Admitted, admitted, admits}
+use Rattle.sheet.specs.Laws.Admitted.{admits, read-admitted}
 
 pub record Lawful (p : Plan) (marks : List ℕ) : Type 0 where
   pub long : length marks ≡ rowsIn p
@@ -34,14 +34,10 @@ small-marks p marks e w h =
     ltb-false 1 m (neither (ltb 1 m) (eqb m 1 && (eqb w 0 || confoundedIn p w)) (none-at (length marks) (λ v. badMark p v (getD marks v 0)) e w h) .0)
 
 module _ (sheet : List ℕ) (room : ℕ) (z : readNumber sheet room ≡ 0) where
-  as-asked : Admitted (fieldsOf sheet) (planIn (fieldsOf sheet)) (ltb room (runsOf (planIn (fieldsOf sheet))))
-  unfolding readNumber
-  as-asked = admitted (fieldsOf sheet) (planIn (fieldsOf sheet)) (ltb room (runsOf (planIn (fieldsOf sheet)))) z
-
   pub accepted-without : marksNumber sheet ≡ 0
   unfolding marksNumber
   accepted-without =
-      let a = as-asked in
+      let a = read-admitted sheet room z in
       admits (fieldsOf sheet) (planIn (fieldsOf sheet)) false
       (record { fields = a .fields; plan = a .plan; wide = refl; readings = a .readings; marks = a .marks; within = a .within; lawful = a .lawful })
 
@@ -51,6 +47,6 @@ module _ (sheet : List ℕ) (room : ℕ) (z : readNumber sheet room ≡ 0) where
       rw
       (← (written-new (readNumber sheet room) (planIn (fieldsOf sheet)) noPlan z), ← (written-new (marksNumber sheet) (marksIn (fieldsOf sheet)) [] accepted-without))
       (record {
-        long = rows-as-long (planIn (fieldsOf sheet)) (length (marksIn (fieldsOf sheet))) (as-asked .marks);
-        small = small-marks (planIn (fieldsOf sheet)) (marksIn (fieldsOf sheet)) (as-asked .lawful);
+        long = rows-as-long (planIn (fieldsOf sheet)) (length (marksIn (fieldsOf sheet))) (read-admitted sheet room z .marks);
+        small = small-marks (planIn (fieldsOf sheet)) (marksIn (fieldsOf sheet)) (read-admitted sheet room z .lawful);
       })

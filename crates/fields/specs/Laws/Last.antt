@@ -1,35 +1,30 @@
--- "the part of the sheet that holds them": the marks are the last bytes of the sheet.
+-- The body of tag 5 is the last bytes of the sheet.
 --
---   no-more          after the marks comes nothing
---   Ends body s      the bytes are the last of a list
---   marks-last       so are the marks of an accepted sheet
+--   no-more        after it comes nothing
+--   Ends body s    the bytes are the last of a list
+--   five-last      so are those of tag 5, where line 1 does not apply
 use mathlib.Core.Path.{_≡_, refl, sym, ap, _∙_}
-use mathlib.Core.Bool.{Bool, true, false, not, cond, _||_, true≢false}
+use mathlib.Core.Bool.{Bool, true, false, cond, true≢false}
 use mathlib.Core.List.{List, [], _∷_}
 use Prim.Native.Nat.{ℕ, zero, suc, _+_, _-_, _≤_}
 use native.Mathlib.Omega.{arith}
-use borrow.Author.Tests.{leb-true, ltb-false, eqb-true, not-false}
-use lib.Dec.{leb, ltb, eqb}
+use borrow.Author.Tests.{leb-true, eqb-true}
+use lib.Dec.{leb, eqb}
 use lib.ListN.{length, take, drop, getD, length-drop}
 use lib.Seq.{take-all, drop-drop}
-use Rattle.algebra.specs.Tests.{neither}
-use Rattle.plan.specs.Laws.Answers.{written-new}
 use Rattle.numerals.specs.Numbers.{big}
 use Rattle.fields.specs.Fields.{Fields, end, cut, field, first, parse, fieldsOf, bodies, bodyAt}
-use Rattle.fields.specs.Rules.{rules, admits, badFrom, anyNotOnce, badFields}
-use Rattle.contents.specs.Contents.{planIn, marksIn}
-use Rattle.sheet.specs.Sheet.{marksNumber, marksOf}
-use Rattle.sheet.specs.Laws.Admitted.{admitted}
-use Rattle.sheet.specs.Laws.Lengths.{spanOf, Spanned, span-none, span-parse, Known, one, two, three, four, five, known, once}
+use Rattle.fields.specs.Rules.{badFrom, badFields}
+use Rattle.fields.specs.Laws.Passed.{Known, one, two, three, four, five, passes, all-pass, once}
+use Rattle.fields.specs.Laws.Lengths.{spanOf, Spanned, span-none, span-parse}
 
 no-more : (fs : Fields) → badFrom 5 fs ≡ false → length (bodies 5 fs) ≡ 0 → spanOf fs ≡ 0
 unfolding badFrom bodies spanOf
 no-more end e h = refl
 no-more cut e h = refl
 no-more (field t body rest) e h =
-    let i = neither (ltb t 5) (not (admits rules t (length body)) || badFrom t rest) e in
-    let j = neither (not (admits rules t (length body))) (badFrom t rest) (i .1) in
-    by (known t (length body) (not-false (admits rules t (length body)) (j .0))) (ltb-false t 5 (i .0)) h
+    let p = passes 5 t body rest e in
+    by (p .1) (p .0) h
   where
     by : Known t (length body) → 5 ≤ t → length (cond (eqb t 5) (body ∷ bodies 5 rest) (bodies 5 rest)) ≡ 0 → 3 + length body + spanOf rest ≡ 0
     by (one p q) l d = absurd (omega (arith, p, l))
@@ -99,10 +94,7 @@ first-last rest g h (t ∷ a ∷ b ∷ s) last e c = by (leb n (length s)) refl 
     by : (w : Bool) → leb n (length s) ≡ w → badFrom last (cond w whole cut) ≡ false → length (bodies 5 (cond w whole cut)) ≡ 1
         → Ends (getD (bodies 5 (cond w whole cut)) 0 []) (t ∷ a ∷ b ∷ s)
     by false d f k = absurd (true≢false f)
-    by true d f k =
-        let i = neither (ltb t last) (not (admits rules t (length (take n s))) || badFrom t (rest (drop n s))) f in
-        let j = neither (not (admits rules t (length (take n s)))) (badFrom t (rest (drop n s))) (i .1) in
-        of-tag (eqb t 5) refl (leb-true n (length s) d) (j .1) k
+    by true d f k = of-tag (eqb t 5) refl (leb-true n (length s) d) (passes last t (take n s) (rest (drop n s)) f .2) k
 
 last-none : (r : List ℕ) (last : ℕ) → Lasts (λ s. cut) r last
 unfolding badFrom
@@ -113,10 +105,6 @@ unfolding parse
 last-parse zero s last e c = first-last (λ r. cut) span-none last-none s last e c
 last-parse (suc f) s last e c = first-last (parse f) (span-parse f) (last-parse f) s last e c
 
-pub marks-last : (s : List ℕ) → marksNumber s ≡ 0 → Ends (marksOf s) s
-unfolding marksNumber marksOf badFields bodyAt fieldsOf
-marks-last s z =
-    let fs = fieldsOf s in
-    let a = admitted fs (planIn fs) false z in
-    let f = neither (badFrom 0 fs) (anyNotOnce rules fs) (a .fields) in
-    rw (← (written-new (marksNumber s) (marksIn fs) [] z)) (last-parse (length s) s 0 (f .0) (once fs (f .1) .2))
+pub five-last : (s : List ℕ) → badFields (fieldsOf s) ≡ false → Ends (bodyAt 5 0 (fieldsOf s)) s
+unfolding fieldsOf bodyAt
+five-last s e = last-parse (length s) s 0 (all-pass (fieldsOf s) e) (once (fieldsOf s) e .2)
