@@ -1,0 +1,15 @@
+use borrow.Author.Needs.{needs}
+use Rattle.lines.specs.Laws.{source-made}
+use Rattle.lines.proofs.printed.source_line.Statement.{statement}
+use Rattle.lines.proofs.printed.source_line.Tie as tie
+
+pub source-line-spec : {M : Type 1} → statement M
+source-line-spec =
+    tie.close
+    (tie.spec
+    (λ c κs. tt)
+    (λ c κs. tt)
+    (λ c κs. tt)
+    (λ c κs. tt)
+    (λ c. search needs)
+    (λ c. source-made _ _ (c .before .before .before .before .before .before .before .before .before .before .before .before .before .before .copy .ensures) (c .before .before .before .before .before .before .before .before .before .before .next-number .ensures) (c .before .before .before .before .before .before .next-number2 .ensures) (c .before .before .put .ensures)))

@@ -1,0 +1,30 @@
+-- The lines of the rules' example, and others, computed over the definitions.
+use mathlib.Core.Path.{_≡_, refl}
+use lib.IntN.{pos, negsuc}
+use Rattle.text.specs.Text.{ascii}
+use Rattle.text.specs.Fields.{letterOf, lettersIn, decimalIn}
+use Rattle.lines.specs.Lines.{lineOf, labelOf, kindWords, rowLine, namedLine, sourceLine, checkLine}
+
+over-line : namedLine (ascii "over") 4 ≡ ascii "over 4\n"
+unfolding namedLine lineOf decimalIn ascii
+over-line = refl
+
+mean-line : rowLine 0 1 400 2 ≡ ascii "mean 1 400\n"
+unfolding rowLine lineOf labelOf kindWords lettersIn letterOf decimalIn ascii
+mean-line = refl
+
+error-line : rowLine 3 1 4 1 ≡ ascii "AB 1 4 error\n"
+unfolding rowLine lineOf labelOf kindWords lettersIn letterOf decimalIn ascii
+error-line = refl
+
+blocks-line : rowLine 7 1 0 3 ≡ ascii "ABC 1 0 blocks\n"
+unfolding rowLine lineOf labelOf kindWords lettersIn letterOf decimalIn ascii
+blocks-line = refl
+
+total-line : sourceLine (ascii "total") 4 456 ≡ ascii "total 4 456\n"
+unfolding sourceLine lineOf decimalIn ascii
+total-line = refl
+
+negative-check : checkLine (negsuc 199_999) (pos 0) ≡ ascii "check -200000 0\n"
+unfolding checkLine lineOf decimalIn ascii
+negative-check = refl

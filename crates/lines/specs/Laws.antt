@@ -1,0 +1,90 @@
+-- Lines, from their parts as the code writes them one after the other.
+--
+--   next-value                                       a value after a space
+--   mean-label, letters-label                        the label of a row
+--   error-text, blocks-text, no-text                 what a row is marked as
+--   named-made, source-made, check-made, row-made    the lines
+use mathlib.Core.Path.{_≡_, refl, sym, ap, _∙_}
+use mathlib.Core.Bool.{Bool, true, false, cond}
+use mathlib.Core.List.{List, [], _∷_, _++_}
+use Prim.Native.Nat.{ℕ}
+use borrow.Author.Tests.{eq-eqb, ne-eqb}
+use lib.Dec.{eqb}
+use lib.IntN.{ℤ}
+use mir.Syntax.{w64}
+use mir.Val.{SFits}
+use Rattle.algebra.specs.Size.{wrap}
+use Rattle.text.specs.Text.{ascii, Wrote}
+use Rattle.text.specs.Fields.{lettersOf, decimal, signed}
+use Rattle.text.specs.Laws.Decimal.{signed-kept}
+use Rattle.text.specs.Laws.Writing.{nothing, then, retext}
+use Rattle.lines.specs.Lines.{space, newline, lineOf, labelOf, kindWords, rowLine, namedLine, sourceLine, checkLine}
+use Rattle.lines.specs.Written.{kindText}
+
+-- ---- fields
+
+module _ {a b c : List ℕ} {at next last : ℕ} where
+  pub next-value : {z : ℤ} → SFits w64 z → Wrote a at (space ∷ []) b next → Wrote b next (signed (wrap z)) c last → Wrote a at (space ∷ signed z) c last
+  next-value f s w = then s (retext (signed-kept f) w)
+
+module _ {a b : List ℕ} {at next : ℕ} where
+  module _ (w : ℕ) where
+    pub mean-label : w ≡ 0 → Wrote a at (109 ∷ 101 ∷ 97 ∷ 110 ∷ []) b next → Wrote a at (labelOf w) b next
+    unfolding labelOf ascii
+    mean-label e f = rw (eq-eqb w 0 e) f
+
+    pub letters-label : (w ≡ 0 → ⊥) → Wrote a at (lettersOf w) b next → Wrote a at (labelOf w) b next
+    unfolding labelOf
+    letters-label h f = rw (ne-eqb w 0 h) f
+
+  module _ (c : ℕ) where
+    pub error-text : c ≡ 1 → Wrote a at (32 ∷ 101 ∷ 114 ∷ 114 ∷ 111 ∷ 114 ∷ []) b next → Wrote a at (kindText c) b next
+    unfolding kindText ascii
+    error-text e f = rw (eq-eqb c 1 e) f
+
+    pub blocks-text : (c ≡ 1 → ⊥) → c ≡ 3 → Wrote a at (32 ∷ 98 ∷ 108 ∷ 111 ∷ 99 ∷ 107 ∷ 115 ∷ []) b next → Wrote a at (kindText c) b next
+    unfolding kindText ascii
+    blocks-text h e f = rw (ne-eqb c 1 h, eq-eqb c 3 e) f
+
+pub no-text : (a : List ℕ) (at c : ℕ) → (c ≡ 1 → ⊥) → (c ≡ 3 → ⊥) → Wrote a at (kindText c) a at
+unfolding kindText
+no-text a at c h k = rw (ne-eqb c 1 h, ne-eqb c 3 k) (nothing a at)
+
+-- ---- lines
+
+-- the last fields of a row's line
+ends-with : (c : ℕ) (n : List ℕ) → n ++ (kindText c ++ (newline ∷ [])) ≡ lineOf (n ∷ kindWords c)
+unfolding kindText kindWords lineOf ascii
+ends-with c n = by (eqb c 1) (eqb c 3)
+  where
+    by : (e f : Bool)
+        → n ++ (cond e (ascii " error") (cond f (ascii " blocks") []) ++ (newline ∷ []))
+        ≡ lineOf (n ∷ cond e (ascii "error" ∷ []) (cond f (ascii "blocks" ∷ []) []))
+    by true f = refl
+    by false true = refl
+    by false false = refl
+
+module _ {a b c d : List ℕ} {at p q r : ℕ} where
+  pub named-made : {name : List ℕ} (n : ℕ) → Wrote a at name b p → Wrote b p (space ∷ decimal n) c q → Wrote c q (newline ∷ []) d r
+      → Wrote a at (namedLine name n) d r
+  unfolding namedLine lineOf
+  named-made n w x y = then w (then x y)
+
+module _ {a b c d e : List ℕ} {at p q r s : ℕ} where
+  pub source-made : {name : List ℕ} (m n : ℕ) → Wrote a at name b p → Wrote b p (space ∷ decimal m) c q → Wrote c q (space ∷ decimal n) d r
+      → Wrote d r (newline ∷ []) e s → Wrote a at (sourceLine name m n) e s
+  unfolding sourceLine lineOf
+  source-made m n w x y z = then w (then x (then y z))
+
+  pub check-made : {x y : ℤ} → SFits w64 x → SFits w64 y → Wrote a at (99 ∷ 104 ∷ 101 ∷ 99 ∷ 107 ∷ []) b p
+      → Wrote b p (space ∷ signed (wrap x)) c q → Wrote c q (space ∷ signed (wrap y)) d r → Wrote d r (newline ∷ []) e s
+      → Wrote a at (checkLine x y) e s
+  unfolding checkLine lineOf ascii
+  check-made f g w x y z =
+      then w (then (retext (ap (λ t. space ∷ t) (signed-kept f)) x) (then (retext (ap (λ t. space ∷ t) (signed-kept g)) y) z))
+
+  pub row-made : {f : List ℕ} {t : ℕ} (w m n k : ℕ) → Wrote a at (labelOf w) b p → Wrote b p (space ∷ decimal m) c q
+      → Wrote c q (space ∷ decimal n) d r → Wrote d r (kindText k) e s → Wrote e s (newline ∷ []) f t → Wrote a at (rowLine w m n k) f t
+  unfolding rowLine lineOf
+  row-made w m n k u v x y z =
+      retext (ap (λ l. labelOf w ++ (space ∷ (decimal m ++ (space ∷ l)))) (ends-with k (decimal n))) (then u (then v (then x (then y z))))

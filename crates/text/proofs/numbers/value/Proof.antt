@@ -1,0 +1,19 @@
+use borrow.Author.Needs.{needs}
+use mathlib.Core.Path.{_∙_, sym}
+use Rattle.text.specs.Laws.Writing.{then, retext}
+use Rattle.text.specs.Laws.Decimal.{signed-below, signed-above}
+use Rattle.text.proofs.numbers.value.Statement.{statement}
+use Rattle.text.proofs.numbers.value.Tie as tie
+
+pub value-spec : {M : Type 1} → statement M
+value-spec =
+    tie.close
+    (tie.spec
+    (λ c κs. tt)
+    (λ c κs. tt)
+    (λ c κs. tt)
+    (λ c. search needs)
+    (λ c. signed-below (c .before .before .before .before .before .before .before .before .before .before .before .fits .x) (c .before .before .before .before .before .before .before .before .if1 .taken) (c .before .before .before .before .before .before .before .before .before .size .ensures) (then (c .before .before .before .before .before .before .put .ensures) (c .before .before .number .ensures)))
+    (λ c κs. tt)
+    (λ c. search needs)
+    (λ c. signed-above (c .before .before .before .before .before .before .before .fits .x) (c .before .before .before .before .if1 .left) (c .before .before .before .before .before .size .ensures) (c .before .before .number2 .ensures)))

@@ -1,0 +1,44 @@
+-- Small texts, computed over the definitions.
+use mathlib.Core.Path.{_≡_, refl}
+use mathlib.Core.List.{[], _∷_}
+use lib.IntN.{pos, negsuc}
+use lib.Seq.{sets}
+use Rattle.text.specs.Text.{ascii}
+use Rattle.text.specs.Fields.{letterOf, lettersIn, lettersOf, decimalIn, decimal, signed}
+
+row-AC : lettersOf 5 ≡ ascii "AC"
+unfolding lettersIn letterOf ascii
+row-AC = refl
+
+all-letters : lettersOf 65535 ≡ ascii "ABCDEFGHIJKLMNOP"
+unfolding lettersIn letterOf ascii
+all-letters = refl
+
+nothing : decimal 0 ≡ ascii "0"
+unfolding decimalIn ascii
+nothing = refl
+
+hundred : decimal 100 ≡ ascii "100"
+unfolding decimalIn ascii
+hundred = refl
+
+most : decimal 340_122_240_000_000_000 ≡ ascii "340122240000000000"
+unfolding decimalIn ascii
+most = refl
+
+below : signed (negsuc 11) ≡ ascii "-12"
+unfolding decimalIn ascii
+below = refl
+
+zero-unsigned : signed (pos 0) ≡ ascii "0"
+unfolding decimalIn ascii
+zero-unsigned = refl
+
+-- a text in the middle of a buffer, and one for which there is no room
+within : sets (ascii "uvwx") 1 (ascii "ab") ≡ ascii "uabx"
+unfolding ascii
+within = refl
+
+cut-short : sets (ascii "uvwx") 3 (ascii "ab") ≡ ascii "uvwa"
+unfolding ascii
+cut-short = refl
