@@ -1,5 +1,6 @@
 -- Rows and degrees: a row's degrees are the number of its effects, and all rows' degrees add up to the number of runs.
 --
+--   degrees-power    of factors that are alike: one less than the levels for each letter, multiplied
 --   row-lt           an effect's row is one of the 2 ^ k rows
 --   degrees-count    the effects of a row are as many as its degrees
 --   degrees-sum      "The degrees of mean, kept effects, blocks and error add up to the total's": those of all rows add up to N
@@ -7,13 +8,15 @@ use mathlib.Core.Path.{_≡_, refl, sym, _∙_, ap}
 use mathlib.Core.Bool.{Bool, true, false, cond}
 use mathlib.Core.List.{List, [], _∷_}
 use Prim.Native.Nat.{ℕ, zero, suc, _+_, _*_, _-_, _/_, _%_, _^_, _<_}
-use native.Mathlib.Nat.{mod-lt, mul-comm, pow-suc, div-lt-iff-lt-mul}
+use native.Mathlib.Nat.{mod-lt, mul-comm, pow-zero, pow-suc, one-mul, div-lt-iff-lt-mul}
 use native.Mathlib.Numerals.{add-one}
 use native.Mathlib.Decide.{ℕ-discrete}
 use native.Mathlib.Omega.{arith}
 use lib.Arith.{digits-div, digits-mod, digits-lt, lt-one}
+use lib.Count.{ones, ones-step, ones-le}
 use lib.Dec.{eqb, eqb·suc-zero, lit<}
-use lib.ListN.{length}
+use lib.ListN.{length, replicate}
+use lib.Pow.{pow-add}
 use Rattle.algebra.specs.Naturals.{Σℕ, Σℕ-cong, Σℕ-mul, Σℕ-split, Σℕ-by, Σℕ-ones}
 use Rattle.algebra.specs.Tests.{eqb-digits, cond-*}
 use Rattle.contrasts.specs.Factor.{Factor}
@@ -93,3 +96,24 @@ degrees-sum Fs =
     Σℕ-cong (2 ^ length Fs) (λ w h. sym (degrees-count Fs w h))
     ∙ Σℕ-by (size Fs) (2 ^ length Fs) (rowOf Fs) (λ e. 1) (λ e _. row-lt Fs e)
     ∙ Σℕ-ones (size Fs)
+
+-- ---- factors that are alike
+
+pub degrees-power : (F : Factor) (k w : ℕ) → w < 2 ^ k → degreesOf (replicate k F) w ≡ (F .levels - 1) ^ ones w
+unfolding degreesOf
+degrees-power F zero w h = rw (lt-one h, none) (sym (pow-zero (F .levels - 1)))
+  where
+    none : ones 0 ≡ 0
+    none = omega (arith, ones-le 0 0 (lit< tt))
+degrees-power F (suc k) w h =
+    ap (λ d. cond (eqb (w % 2) 0) 1 b * d) (degrees-power F k (w / 2) (div-lt-iff-lt-mul (lit< tt) .1 (rw (pow-suc 2 k) at h)))
+    ∙ ap (λ d. d * b ^ ones (w / 2)) (last (ℕ-discrete (w % 2) 0))
+    ∙ sym (pow-add b (w % 2) (ones (w / 2)))
+    ∙ ap (λ n. b ^ n) (sym (ones-step w))
+  where
+    b : ℕ
+    b = F .levels - 1
+
+    last : Dec (w % 2 ≡ 0) → cond (eqb (w % 2) 0) 1 b ≡ b ^ (w % 2)
+    last (yes e) = rw e (sym (pow-zero b))
+    last (no e) = let o : w % 2 ≡ 1 = omega arith in rw (o, pow-suc b 0, pow-zero b) (sym (one-mul b))

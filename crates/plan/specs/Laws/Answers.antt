@@ -11,16 +11,18 @@
 --   written-new        and with 0 it is what the call makes
 --   stopped            a call that stops with its number answers that and leaves a lent slice as it was
 --   completed          a call without a number answers that it is done and leaves what it makes
+--   given-is           an answer that is given has the number 0, and the values
+--   refused-is         and one that is refused has its number
 --   number-of          the number of an answer is the lowest that applies
-use mathlib.Core.Path.{_≡_, refl, sym, _∙_}
-use mathlib.Core.Bool.{Bool, true, false, cond}
+use mathlib.Core.Path.{_≡_, refl, sym, ap, _∙_}
+use mathlib.Core.Bool.{Bool, true, false, cond, true≢false}
 use mathlib.Core.List.{List}
 use Prim.Native.Nat.{ℕ, _<_}
 use native.Mathlib.Decide.{ℕ-discrete}
 use native.Mathlib.Omega.{arith}
 use borrow.Author.Tests.{eq-eqb, ne-eqb}
 use Rattle.plan.specs.declared.types.Plan.{Plan}
-use Rattle.plan.specs.Outcome.{Line, lowest, given, refused, outcome, written, numberOf}
+use Rattle.plan.specs.Outcome.{Line, lowest, Outcome, given, refused, outcome, written, numberOf}
 use Rattle.plan.specs.Check.{planNumber, withPlan}
 
 pub refused-with : {A : Type 0} (n : ℕ) (v : A) → (n ≡ 0 → ⊥) → outcome n v ≡ refused n
@@ -72,3 +74,20 @@ number-of n v = by (ℕ-discrete n 0)
     by : Dec (n ≡ 0) → numberOf (outcome n v) ≡ n
     by (yes e) = rw (eq-eqb n 0 e) (sym e)
     by (no e) = rw (ne-eqb n 0 e) refl
+
+abbrev isGiven : {A : Type 0} → Outcome A → Bool
+isGiven (given v) = true
+isGiven (refused n) = false
+
+abbrev valueOr : {A : Type 0} → A → Outcome A → A
+valueOr d (given v) = v
+valueOr d (refused n) = d
+
+module _ {A : Type 0} (m : ℕ) (v : A) where
+  pub given-is : {f : A} → given f ≡ outcome m v → (m ≡ 0) × (f ≡ v)
+  given-is {f} e =
+      let z : m ≡ 0 = sym (number-of m v) ∙ ap numberOf (sym e) in
+      (z, ap (valueOr f) (e ∙ given-with m v z))
+
+  pub refused-is : {n : ℕ} → refused n ≡ outcome m v → (n ≡ m) × (m ≡ 0 → ⊥)
+  refused-is e = (ap numberOf e ∙ number-of m v, λ z. true≢false (sym (ap isGiven (e ∙ given-with m v z))))
