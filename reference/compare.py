@@ -1,0 +1,166 @@
+# Compares the program factab with report.py on sheets that are made by numbers from a seed. It is a command:
+#
+#   python3 reference/compare.py PROGRAM [COUNT [SEED]]
+#
+# PROGRAM is the path of a program that reads a sheet from standard input and writes its text to standard output. COUNT
+# is how many sheets it is tried on, 2,000 if not given. Without SEED a fresh one is taken. Every difference is printed
+# with its sheet in hexadecimal; the last line says how many there are, and the exit is 1 if there is one. The rules do
+# not say how the program exits, so that is not compared; but a program that is ended by a signal or by the time limit
+# differs.
+#
+# Two thirds of the sheets are made by reports.py, half of them of plans of any size and the others of small ones: a
+# third of each lawful, spoiled and damaged. A sixth are bytes that are no sheet or hardly one. A sixth are about 5,187
+# bytes long or longer, up to 200,000.
+#
+# Defined here:
+#   made_bytes, made_long    bytes that are hardly a sheet, and long ones
+#   made                     a sheet with a name, of any of these kinds
+#   answer_of                what a program writes for a sheet
+#   difference               how that differs from what report.py writes, in words
+#   compare                  tries a program on sheets, prints the differences and gives their number
+
+import os
+import subprocess
+import sys
+from collections import Counter
+
+import factab
+import report
+import reports
+import sheet
+from factab import Plan
+from reports import Case
+from sheet import Contents
+from sheets import Numbers, damaged
+
+COUNT = 2_000
+TIME_LIMIT = 60
+SOME_BYTES = 300
+MANY_BYTES = 200_000
+
+
+# ---- sheets ----
+
+def any_bytes(numbers, count, limit=256):
+    """So many bytes, each below a limit."""
+    return bytes(numbers.below(limit) for _ in range(count))
+
+
+def some_fields(numbers):
+    """A few fields of tags up to 6, rising more often than not; those of a length that is settled mostly have it."""
+    tags = [numbers.below(7) for _ in range(numbers.below(8))]
+    lengths = [sheet.BODY_LENGTHS.get(tag, numbers.below(20)) for tag in tags]
+    fields = [(tag, any_bytes(numbers, length + (numbers.below(10) == 0), numbers.choose((2, 4, 256))))
+              for tag, length in zip(tags, lengths)]
+    return [sheet.field(tag, body) for tag, body in (sorted(fields) if numbers.below(3) else fields)]
+
+
+def made_bytes(numbers):
+    """Bytes that are no sheet or hardly one: any, small ones, a few fields, or a lawful sheet with another end."""
+    way = numbers.below(4)
+    if way == 0:
+        return Case(None, "any bytes", any_bytes(numbers, numbers.below(SOME_BYTES)))
+    if way == 1:
+        return Case(None, "small bytes", any_bytes(numbers, numbers.below(SOME_BYTES), 6))
+    if way == 2:
+        return Case(None, "some fields", b"".join(some_fields(numbers)))
+    whole = sheet.write(*reports.made_contents(numbers, reports.FEW_RUNS))
+    kept, end = whole[:numbers.below(len(whole))], any_bytes(numbers, numbers.below(9))
+    return Case(None, "a sheet with another end", kept + end)
+
+
+def longest(numbers):
+    """Lawful contents whose sheet has 5,187 bytes: as many factors and words as there may be."""
+    while True:
+        plan = reports.plan_with(numbers, factab.MOST_FACTORS[2], factab.MOST_ADDED, factab.MOST_BLOCK_WORDS)
+        if factab.plan_answer(plan) == factab.DONE:
+            runs = factab.run_count(plan.levels, plan.k)
+            return Contents(plan, reports.made_readings(numbers, runs), reports.made_marks(numbers, plan))
+
+
+def many_words(numbers):
+    """A sheet of four runs with very many words."""
+    added = ((3, 0),) * numbers.choose((0, 7, 850, 859, 860, 861, 870, 2000))
+    blocks = (3,) * numbers.choose((0, 5, 1000, 1030, 1031, 1032, 1040, 3000))
+    return sheet.write(Plan(numbers.choose((2, 2, 3, 4)), 2, added, blocks), [3, 5, 4, 8], [0, 0, 0, 1])
+
+
+def made_long(numbers):
+    """A sheet of about 5,187 bytes or more: the longest, also spoiled or with bytes more; many words; many bytes."""
+    way = numbers.below(6)
+    if way == 0:
+        return Case(None, "the longest", sheet.write(*longest(numbers)))
+    if way == 1:
+        contents, lines = reports.spoiled(numbers, longest(numbers))
+        return Case(None, "the longest, spoiled: " + ", ".join(map(str, lines)), sheet.write(*contents))
+    if way == 2:
+        return Case(None, "many words", many_words(numbers))
+    if way == 3:
+        parts = sheet.fields_written(*longest(numbers))
+        return Case(None, "the longest, bytes appended", b"".join(damaged(numbers, parts, "bytes appended")))
+    count = numbers.choose((report.MOST_SHEET - 1, report.MOST_SHEET, report.MOST_SHEET + 1, 65_536, MANY_BYTES))
+    if way == 4:
+        return Case(None, "very many bytes", any_bytes(numbers, 64) * (count // 64) + any_bytes(numbers, count % 64))
+    whole = sheet.write(*reports.made_contents(numbers, report.SIZES))
+    return Case(None, "a sheet and zeros", whole + bytes(max(count - len(whole), 0)))
+
+
+def made(numbers):
+    """A sheet of any kind."""
+    way = numbers.below(6)
+    if way == 0:
+        return made_bytes(numbers)
+    if way == 1:
+        return made_long(numbers)
+    return reports.made(numbers, reports.FEW_RUNS if way < 4 else report.SIZES)
+
+
+# ---- comparison ----
+
+def answer_of(program, own_sheet):
+    """What a program writes for a sheet, and a complaint if it was ended."""
+    try:
+        found = subprocess.run([program], input=own_sheet, stdout=subprocess.PIPE, timeout=TIME_LIMIT)
+    except subprocess.TimeoutExpired as ended:
+        return ended.stdout or b"", "not ended after %d seconds" % TIME_LIMIT
+    return found.stdout, "ended by signal %d" % -found.returncode if found.returncode < 0 else ""
+
+
+def difference(meant, found):
+    """How a text differs from what is meant, in words; nothing if it does not."""
+    if meant == found:
+        return ""
+    pairs = list(zip(meant.split(b"\n"), found.split(b"\n")))
+    number = next((place for place, (first, second) in enumerate(pairs) if first != second), len(pairs))
+    lines = [(text.split(b"\n") + [b""] * (number + 1))[number].decode(errors="replace") for text in (meant, found)]
+    return "line %d: meant %r, found %r; %d bytes meant, %d found" % (number + 1, *lines, len(meant), len(found))
+
+
+def compare(program, count, seed):
+    """The number of sheets, of so many, for which a program does not write the text of report.py. Each is printed."""
+    numbers, answers, differences = Numbers(seed), Counter(), 0
+    for number in range(1, count + 1):
+        own = made(numbers)
+        meant = report.text(own.sheet)
+        found, ended = answer_of(program, own.sheet)
+        complaints = [complaint for complaint in (difference(meant, found), ended) if complaint]
+        if complaints:
+            differences += 1
+            print("sheet %d, %s: %s\n  %s" % (number, own.name, "; ".join(complaints), own.sheet.hex() or "(empty)"))
+        answers[reports.number_of(meant.decode())] += 1
+    print("answers: " + ", ".join("%d %d times" % pair for pair in sorted(answers.items())))
+    return differences
+
+
+if __name__ == "__main__":
+    if not 2 <= len(sys.argv) <= 4 or not all(text.isdecimal() for text in sys.argv[2:]):
+        sys.exit("compare.py PROGRAM [COUNT [SEED]]")
+    count = int(sys.argv[2]) if len(sys.argv) > 2 else COUNT
+    seed = int(sys.argv[3]) if len(sys.argv) > 3 else int.from_bytes(os.urandom(4), "big")
+    print("seed %d" % seed, flush=True)
+    try:
+        differences = compare(sys.argv[1], count, seed)
+    except OSError as why:
+        sys.exit(str(why))
+    print("%d sheets from seed %d, %d differences" % (count, seed, differences))
+    sys.exit(1 if differences else 0)

@@ -1,0 +1,581 @@
+# Sheets for the program factab, and the text that it must print for each: sheets with a name, whose numbers are listed
+# here, and 400 that are made by numbers from a fixed seed. report.py makes the texts.
+#
+# The program worked_reports reads records, one for each sheet in this order: length, two bytes and big-endian, then so
+# many bytes of a sheet. It writes for each record the text of its sheet, and nothing between these texts.
+#
+# A sheet that is made is lawful, spoiled or damaged, about a third each. It is spoiled before it is written: what it
+# holds is changed so that a line of the rules applies, and no lower one. Where it is spoiled for several lines, the
+# lowest of their numbers is the answer. It is damaged after it is written, in a way of sheets.py, and then its number
+# is not listed.
+#
+# Defined here:
+#   Case                    a sheet with a name; number is the answer that the rules give, None if it is not listed
+#   CASES                   the sheets with a name
+#   plan_with, made_plan, made_readings, made_marks, made_contents   lawful plans, readings and marks
+#   SPOILS, spoiled         ways to spoil these, by line, and what is spoiled in one to three of them
+#   made, MADE              a sheet that is made, of one of some sizes of plans; the 400 of them
+#   Printed, printed        the figures of a text, as they are printed
+#   check                   list of complaints, empty if all is well
+#   expected_text           the expected text
+#   inputs                  the input of the program (reports.py inputs)
+#   list_text               a line for each sheet, with its number, answer and name (reports.py list)
+
+import re
+import sys
+from collections import Counter, namedtuple
+from functools import lru_cache
+
+import anova
+import factab
+import report
+import sheet
+import sheets
+import tables
+from anova import BLOCKS, ERROR, KEPT, MEAN, row_number
+from factab import DONE, Plan
+from sheet import Contents
+
+# table: the table of tables.py that the sheet is of, if it is of one. alone: what the reader answers if that is another
+# number, because the sheet is too long.
+Case = namedtuple("Case", "number name sheet table alone", defaults=(None, None))
+
+MOST_INPUT, MOST_TEXT = 150_000, 450_000
+TOP = factab.MOST_READING
+
+
+# ---- sheets with a name: tables ----
+
+def of_table(own):
+    """The sheet of a worked table."""
+    return Case(DONE, own.title, sheet.write(own.plan, own.readings, tables.marks_of(own)), own)
+
+
+def lawful(name, plan, readings, marks):
+    """A sheet that is accepted."""
+    return Case(DONE, name, sheet.write(plan, readings, marks))
+
+
+def no_marks(plan):
+    """Mark 0 on every row."""
+    return [0] * anova.row_count(plan.k)
+
+
+def all_marks(plan):
+    """Mark 1 on every row that may have it."""
+    return [int(kind == KEPT) for kind in anova.row_kinds(plan, no_marks(plan))]
+
+
+def one_reading(plan, run, reading):
+    """A reading for one run, and 0 for the others."""
+    return [reading if own == run else 0 for own in range(factab.run_count(plan.levels, plan.k))]
+
+
+def alternating(plan, first):
+    """A reading and its opposite in turn. At three levels the sum of totals is then as far from 0 as it can be."""
+    return [-first if run % 2 else first for run in range(factab.run_count(plan.levels, plan.k))]
+
+
+def of_size(levels, k):
+    """A sheet of so many levels and factors, with readings spread out and every third row marked."""
+    plan = Plan(levels, k)
+    readings = sheets.spread(factab.run_count(levels, k))
+    return lawful("%d levels, %d factors, spread" % (levels, k), plan, readings, sheets.every_third(plan))
+
+
+# The example of the rules comes first.
+WORKED = ([of_table(tables.RULES_TWO_FACTORS)]
+          + [of_table(own) for own in tables.TABLES if own is not tables.RULES_TWO_FACTORS])
+
+# The largest plans are among the worked tables.
+EVERY_SIZE = [of_size(levels, k) for levels, k in report.SIZES if k < factab.MOST_FACTORS[levels]]
+
+ONE, TWO, THREE, EIGHT_FACTORS, SIX = Plan(2, 1), Plan(2, 2), Plan(2, 3), Plan(2, 8), Plan(3, 6)
+FOUR, EIGHT = [3, 5, 4, 8], [1, 2, 3, 4, 5, 6, 7, 8]
+IN_BLOCKS = Plan(2, 4, (), (row_number("AD"), row_number("ABC")))
+LONGEST = sheets.MOST
+
+LAWFUL = [
+    lawful("readings 0, marks on all rows", THREE, [0] * 8, all_marks(THREE)),
+    lawful("equal readings, all rows but the mean 0", THREE, [7] * 8, no_marks(THREE)),
+    lawful("three levels, readings 0", Plan(3, 2), [0] * 9, no_marks(Plan(3, 2))),
+    lawful("three levels, equal readings", Plan(3, 2), [-7] * 9, all_marks(Plan(3, 2))),
+    lawful("three levels, row A 0", Plan(3, 2), [1, 1, 1, 2, 2, 2, 5, 5, 5], no_marks(Plan(3, 2))),
+    lawful("mean 0, check numbers below 0", TWO, [-3, 1, 1, 1], no_marks(TWO)),
+    lawful("first reading 0, check numbers 0", TWO, [0, 5, -4, 8], no_marks(TWO)),
+    lawful("marks on all rows, one factor", ONE, [-100000, 100000], all_marks(ONE)),
+    lawful("marks on all rows, blocks AD, ABC, BCD", IN_BLOCKS, range(16), all_marks(IN_BLOCKS)),
+    lawful("marks on all rows, three levels", Plan(3, 3), sheets.spread(27), all_marks(Plan(3, 3))),
+    lawful("no kept row: k = 2, block word AB, marks on A and B", Plan(2, 2, (), (3,)), FOUR, [0, 1, 1, 0]),
+    lawful("eight factors, the first reading -100000, others 0", EIGHT_FACTORS, one_reading(EIGHT_FACTORS, 0, -TOP),
+           no_marks(EIGHT_FACTORS)),
+    lawful("the longest sheet, alternating from -100000, marks on all rows",
+           LONGEST, alternating(LONGEST, -TOP), all_marks(LONGEST)),
+    lawful("six factors at three levels, alternating from -100000, marks on all rows",
+           SIX, alternating(SIX, -TOP), all_marks(SIX)),
+    lawful("six factors at three levels, the last reading -100000, others 0",
+           SIX, one_reading(SIX, 728, -TOP), no_marks(SIX)),
+]
+
+
+# ---- sheets with a name: refused ----
+
+def refused(number, name, plan, readings, marks=None):
+    """A sheet that is refused; marks 0 where they are not said."""
+    return Case(number, name, sheet.write(plan, readings, no_marks(plan) if marks is None else marks))
+
+
+AB, ABC, C = row_number("AB"), row_number("ABC"), row_number("C")
+
+
+def small(number, name, plan, readings, marks=None):
+    """The small input of a line."""
+    return refused(number, "small input of %d: %s" % (number, name), plan, readings, marks)
+
+
+# The small inputs in the table of refusals; those of 9 and 10 are no sheets.
+SMALL = [
+    Case(1, "small input of 1: empty sheet", b""),
+    small(2, "levels 4", Plan(4, 2), FOUR),
+    small(3, "three levels, k = 7", Plan(3, 7), FOUR),
+    small(4, "three levels, one block word", Plan(3, 1, (), (1,)), [2, 5, 3]),
+    small(5, "k = 2, block word C", Plan(2, 2, (), (C,)), FOUR),
+    small(6, "AB and AB", Plan(2, 2, ((AB, 0), (AB, 0))), FOUR),
+    small(7, "AB, AB, with k = 3", Plan(2, 3, (), (AB, AB)), EIGHT),
+    small(8, "AB, ABC, with k = 3", Plan(2, 3, (), (AB, ABC)), EIGHT),
+    small(11, "k = 2, 3 readings", TWO, [3, 5, 4]),
+    small(12, "reading 100,001", TWO, [3, 5, 4, 100001]),
+    small(13, "mark 1 on row 0", TWO, FOUR, [1, 0, 0, 0]),
+]
+
+MOST_BYTES_TAKEN = 200
+
+
+def taken(own):
+    """Whether a sheet of sheets.py is used here: it is short, and its number has nothing to do with the column."""
+    return len(own.sheet) <= MOST_BYTES_TAKEN and "column" not in own.why
+
+
+EARLIER = {own.sheet for own in WORKED + SMALL}
+TAKEN = [Case(own.number, own.why, own.sheet) for own in sheets.CASES if taken(own) and own.sheet not in EARLIER]
+
+
+# ---- sheets with a name: 5,187 bytes and more ----
+
+SPREAD = sheets.spread(1024)
+NO_MARKS, TOO_MANY_MARKS = [0] * 1024, [0] * 1025
+FITTING = [
+    refused(12, "5,187 bytes, the last reading 100,001", LONGEST, SPREAD[:1023] + [100001]),
+    refused(13, "5,187 bytes, mark 1 on the last row, which is blocks", LONGEST, SPREAD, [0] * 1023 + [1]),
+]
+
+
+def too_long(alone, name, own_sheet):
+    """A sheet that the program refuses for its length, and what the reader alone would answer."""
+    return Case(1, "%s bytes, %s" % (format(len(own_sheet), ","), name), own_sheet, None, alone)
+
+
+TOO_LONG = [
+    too_long(1, "the longest sheet and a byte more", sheet.write(LONGEST, SPREAD, NO_MARKS) + b"\0"),
+    too_long(11, "the longest sheet with a mark more", sheet.write(LONGEST, SPREAD, TOO_MANY_MARKS)),
+    too_long(2, "the same with levels 4", sheet.write(LONGEST._replace(levels=4), SPREAD, TOO_MANY_MARKS)),
+    too_long(4, "k = 2 and 1,000 added factors", sheet.write(Plan(2, 2, ((AB, 0),) * 1000), FOUR, [0] * 4)),
+]
+
+CASES = WORKED + EVERY_SIZE + LAWFUL + SMALL + TAKEN + FITTING + TOO_LONG
+
+
+# ---- sheets that are made: lawful contents ----
+
+SEED = 706_112
+MADE_COUNT = 400
+
+# Levels and factors of the sheets that are made, each as often as it is here; few have many runs.
+FEW_RUNS = ([(2, 1), (2, 2), (2, 3), (2, 4), (3, 1), (3, 2)] * 6 + [(2, 2), (2, 3), (2, 3), (2, 4)] * 4
+            + [(2, 5), (3, 3)] * 2 + [(2, 6), (2, 7), (3, 4)])
+
+
+def long_words(k):
+    """The words of two or more of k letters."""
+    return [word for word in range(2 ** k) if factab.letter_count(word) > 1]
+
+
+def plan_with(numbers, k, added_count, block_count):
+    """A two-level plan with so many added factors and block words, all of two or more letters; it may be refused."""
+    words = long_words(k)
+    added = tuple((numbers.choose(words), numbers.below(2)) for _ in range(added_count))
+    return Plan(2, k, added, tuple(numbers.choose(words) for _ in range(block_count)))
+
+
+def made_plan(numbers, levels, k):
+    """An accepted plan of so many levels and factors; at two levels with words or without."""
+    if levels == 3 or k == 1:
+        return Plan(levels, k)
+    while True:
+        plan = plan_with(numbers, k, numbers.below(factab.MOST_ADDED + 1), numbers.below(factab.MOST_BLOCK_WORDS + 1))
+        if factab.plan_answer(plan) == DONE:
+            return plan
+
+
+def made_readings(numbers, count):
+    """So many readings: any, of one size, at the limits, all equal, or one that is not 0."""
+    way = numbers.below(8)
+    if way < 4:
+        most = numbers.choose((9, 999, TOP))
+        return [numbers.below(2 * most + 1) - most for _ in range(count)]
+    if way < 6:
+        return [numbers.choose((-TOP, TOP) if way == 4 else sheets.LIMITS) for _ in range(count)]
+    reading, place = numbers.choose(sheets.LIMITS), numbers.below(count)
+    return [reading if way == 6 or run == place else 0 for run in range(count)]
+
+
+def made_marks(numbers, plan):
+    """Marks of a plan: on no row, on all that may have one, or on some."""
+    way = numbers.below(4)
+    return bytes(mark and (way == 1 or way > 1 and numbers.below(2)) for mark in all_marks(plan))
+
+
+def made_contents(numbers, sizes):
+    """Plan, readings and marks that are lawful, of one of some sizes."""
+    levels, k = numbers.choose(sizes)
+    plan = made_plan(numbers, levels, k)
+    return Contents(plan, made_readings(numbers, factab.run_count(levels, k)), made_marks(numbers, plan))
+
+
+# ---- sheets that are made: spoiled ----
+#
+# Each way takes numbers, and contents that are lawful or spoiled for higher lines only. It gives contents to which its
+# line applies, and no lower one.
+
+def with_plan(contents, **values):
+    """The contents with some values of the plan changed."""
+    return contents._replace(plan=contents.plan._replace(**values))
+
+
+def inserted(numbers, items, new, most):
+    """The items, the last left out where there are the most already, and a new one anywhere among them."""
+    kept = items[:most - 1]
+    place = numbers.below(len(kept) + 1)
+    return kept[:place] + (new,) + kept[place:]
+
+
+def with_added(numbers, contents, word, sign):
+    """The contents with an added factor more."""
+    return with_plan(contents, added=inserted(numbers, contents.plan.added, (word, sign), factab.MOST_ADDED))
+
+
+def with_block(numbers, contents, word):
+    """The contents with a block word more."""
+    return with_plan(contents, blocks=inserted(numbers, contents.plan.blocks, word, factab.MOST_BLOCK_WORDS))
+
+
+def spoil_levels(numbers, contents):
+    """Levels other than 2 or 3."""
+    return with_plan(contents, levels=numbers.choose((0, 1, 4, 5, 255)))
+
+
+def spoil_factors(numbers, contents):
+    """k out of range."""
+    most = factab.MOST_FACTORS[contents.plan.levels]
+    return with_plan(contents, k=numbers.choose((0, most + 1, most + 1, most + 2, 255)))
+
+
+def spoil_counts(numbers, contents):
+    """Over 6 added factors, over 4 block words, or either at three levels."""
+    plan, more = contents.plan, numbers.choose((1, 1, 1, 2, 20))
+    most_added, most_blocks = (factab.MOST_ADDED, factab.MOST_BLOCK_WORDS) if plan.levels == 2 else (0, 0)
+    words = [numbers.below(2 ** plan.k) for _ in range(factab.MOST_ADDED + more)]
+    if numbers.below(2):
+        added = plan.added + tuple((word, numbers.below(2)) for word in words)
+        return with_plan(contents, added=added[:most_added + more])
+    return with_plan(contents, blocks=(plan.blocks + tuple(words))[:most_blocks + more])
+
+
+def spoil_words(numbers, contents):
+    """A letter beyond k, an added word under two letters, a sign over 1, or an empty block word."""
+    k, way = contents.plan.k, numbers.below(5)
+    beyond = 1 << k + numbers.below(16 - k) | numbers.below(2 ** k)
+    if way == 0:
+        return with_block(numbers, contents, beyond)
+    if way == 1:
+        return with_block(numbers, contents, 0)
+    if way == 2:
+        return with_added(numbers, contents, beyond, numbers.below(2))
+    if way == 3 or k == 1:
+        return with_added(numbers, contents, numbers.choose((0, 1 << numbers.below(k))), numbers.below(2))
+    return with_added(numbers, contents, numbers.choose(long_words(k)), numbers.choose((2, 3, 128, 255)))
+
+
+def spoil_added(numbers, contents):
+    """Two added factors with one word."""
+    word = numbers.choose(long_words(contents.plan.k))
+    once = inserted(numbers, contents.plan.added, (word, numbers.below(2)), factab.MOST_ADDED - 1)
+    return with_added(numbers, with_plan(contents, added=once), word, numbers.below(2))
+
+
+def spoil_blocks(numbers, contents):
+    """A block word is the combination of one or more others."""
+    blocks = contents.plan.blocks[:factab.MOST_BLOCK_WORDS - 1] or (1 + numbers.below(2 ** contents.plan.k - 1),)
+    combination = numbers.choose(factab.confounded(blocks))
+    return with_block(numbers, with_plan(contents, blocks=blocks), combination)
+
+
+def spoil_factor(numbers, contents):
+    """A block word is one letter or an added factor's word; the other block words do not combine to that."""
+    words = [1 << numbers.below(contents.plan.k)] + [word for word, _ in contents.plan.added]
+    return with_block(numbers, contents, numbers.choose(words))
+
+
+def spoil_lengths(numbers, contents):
+    """Readings or marks too many or too few."""
+    name = numbers.choose(("readings", "marks"))
+    values = getattr(contents, name)
+    return contents._replace(**{name: numbers.choose((values[:-1], values + values[:1], values[:0], values + values))})
+
+
+def spoil_reading(numbers, contents):
+    """A reading beyond 100,000 either way."""
+    readings = list(contents.readings)
+    size = numbers.choose((TOP + 1, TOP + 1, TOP + 1 + numbers.below(TOP), sheets.HIGH))
+    readings[numbers.below(len(readings))] = numbers.choose((size, -size, sheets.LOW))
+    return contents._replace(readings=readings)
+
+
+def spoil_mark(numbers, contents):
+    """A mark over 1, or mark 1 on the mean or a blocks row."""
+    marks = bytearray(contents.marks)
+    if numbers.below(2):
+        marks[numbers.below(len(marks))] = numbers.choose((2, 3, 128, 255))
+    else:
+        marks[numbers.choose([0] + factab.confounded(contents.plan.blocks))] = 1
+    return contents._replace(marks=bytes(marks))
+
+
+SPOILS = {
+    2: spoil_levels,
+    3: spoil_factors,
+    4: spoil_counts,
+    5: spoil_words,
+    6: spoil_added,
+    7: spoil_blocks,
+    8: spoil_factor,
+    11: spoil_lengths,
+    12: spoil_reading,
+    13: spoil_mark,
+}
+
+
+def lines_for(plan):
+    """The lines for which contents of a plan may be spoiled. At three levels words are refused by their count, and with
+    one factor there is no word of two letters."""
+    return [line for line in SPOILS if plan.levels == 2 or line not in (5, 6, 7, 8) if plan.k > 1 or line != 6]
+
+
+def spoiled(numbers, contents):
+    """The contents spoiled for one to three lines, the highest first; and these lines, rising."""
+    possible = lines_for(contents.plan)
+    lines = sorted({numbers.choose(possible) for _ in range(numbers.choose((1, 1, 2, 3)))})
+    for line in reversed(lines):
+        contents = SPOILS[line](numbers, contents)
+    return contents, lines
+
+
+# ---- sheets that are made ----
+
+def unless_too_long(number, own_sheet):
+    """A number, or 1 where the sheet is too long."""
+    return 1 if len(own_sheet) > report.MOST_SHEET else number
+
+
+def made(numbers, sizes):
+    """A sheet that is made: lawful, spoiled or damaged; a sixth of the damaged ones twice."""
+    contents, way = made_contents(numbers, sizes), numbers.below(3)
+    if way == 0:
+        return Case(DONE, "lawful", sheet.write(*contents))
+    if way == 1:
+        contents, lines = spoiled(numbers, contents)
+        own_sheet = sheet.write(*contents)
+        return Case(unless_too_long(lines[0], own_sheet), "spoiled: " + ", ".join(map(str, lines)), own_sheet)
+    ways = [numbers.choose(sheets.WAYS) for _ in range(2 if numbers.below(6) == 0 else 1)]
+    parts = sheet.fields_written(*contents)
+    for way in ways:
+        parts = sheets.damaged(numbers, parts, way)
+    return Case(None, "damaged: " + ", ".join(ways), b"".join(parts))
+
+
+NUMBERS = sheets.Numbers(SEED)
+MADE = [made(NUMBERS, FEW_RUNS) for _ in range(MADE_COUNT)]
+REPORTS = CASES + MADE
+
+
+# ---- the figures of a text ----
+
+# rows are the lines of the rows. blocks, error and total are degrees and numerator, check the two numbers of that line.
+Printed = namedtuple("Printed", "over rows blocks error total check")
+
+# A line of a row; kind is empty for the mean and kept rows.
+Row = namedtuple("Row", "label degrees numerator kind")
+
+NUMBER, SIGNED = "(0|[1-9][0-9]*)", "(0|-?[1-9][0-9]*)"
+REFUSAL = "refused %s\n" % NUMBER
+FIRST = ["over " + NUMBER]
+ROW = "(mean|[A-J]+) %s %s(?: (error|blocks))?" % (NUMBER, NUMBER)
+LAST = ["%s %s %s" % (name, NUMBER, NUMBER) for name in (BLOCKS, ERROR, "total")]
+LAST += ["check %s %s" % (SIGNED, SIGNED), ""]
+
+
+def number_of(text):
+    """The number of which a text is the refusal, and 0 for any other text."""
+    found = re.fullmatch(REFUSAL, text)
+    return int(found[1]) if found else DONE
+
+
+def printed(text):
+    """The figures of the text of a table; None where its lines are not made as the rules say."""
+    lines = text.split("\n")
+    shapes = FIRST + [ROW] * (len(lines) - len(FIRST + LAST)) + LAST
+    found = [re.fullmatch(shape, line) for shape, line in zip(shapes, lines)]
+    if len(shapes) != len(lines) or None in found:
+        return None
+    rows = [Row(own[1], int(own[2]), int(own[3]), own[4] or "") for own in found[1:-len(LAST)]]
+    return Printed(int(found[0][1]), rows, *([int(own[1]), int(own[2])] for own in found[-len(LAST):-1]))
+
+
+def sums(rows):
+    """Degrees and numerators of rows added up."""
+    return [sum(row.degrees for row in rows), sum(row.numerator for row in rows)]
+
+
+# ---- checks ----
+
+@lru_cache(maxsize=None)
+def text_of(own_sheet):
+    """The text of a sheet, made once."""
+    return report.text(own_sheet).decode()
+
+
+def check_rows(figures):
+    """Complaints about labels and degrees. The number of rows says how many factors there are, `over` what levels."""
+    k = len(figures.rows).bit_length() - 1
+    if [row.label for row in figures.rows] != [anova.row_label(row) for row in range(2 ** k)]:
+        return ["labels"]
+    if figures.over not in (2 ** k, 6 ** k):
+        return ["denominator"]
+    two_levels = figures.over == 2 ** k
+    meant = [1 if two_levels or row.label == MEAN else 2 ** len(row.label) for row in figures.rows]
+    complaints = ["degrees"] if [row.degrees for row in figures.rows] != meant else []
+    return complaints + (["degrees of the total"] if figures.total[0] != (2 if two_levels else 3) ** k else [])
+
+
+def check_sums(figures):
+    """Complaints about sums: blocks and error are their rows; mean, kept rows, blocks and error are the total."""
+    complaints = []
+    if figures.rows[0].kind:
+        complaints.append("kind of the mean")
+    for name, meant in ((BLOCKS, figures.blocks), (ERROR, figures.error)):
+        if sums([row for row in figures.rows if row.kind == name]) != meant:
+            complaints.append(name)
+    mean_and_kept = sums([row for row in figures.rows if not row.kind])
+    if [sum(values) for values in zip(mean_and_kept, figures.blocks, figures.error)] != figures.total:
+        complaints.append("total")
+    if figures.check[0] != figures.check[1]:
+        complaints.append("check numbers")
+    return complaints
+
+
+def check_table(own, figures):
+    """Complaints about the sheet of a worked table: its totals and figures are those of the table."""
+    table = tables.table_of(own)
+    kinds = [kind if kind in (BLOCKS, ERROR) else "" for kind in table.kinds]
+    rows = [Row(anova.row_label(row), *part, kind) for row, (part, kind) in enumerate(zip(table.rows, kinds))]
+    meant = Printed(table.denominator, rows, list(table.blocks), list(table.error), list(table.total),
+                    [table.sum_of_totals, table.check_number])
+    complaints = [] if figures == meant else ["figures of the table"]
+    same = report.totals(own.plan.levels, own.plan.k, own.readings) == table.totals
+    return complaints + ([] if same else ["totals of the table"])
+
+
+def check_figures(own, figures):
+    """Complaints about the figures of the text of a sheet that is accepted."""
+    complaints = check_rows(figures) + check_sums(figures)
+    if [row.kind == ERROR for row in figures.rows] != [mark == 1 for mark in sheet.marks_part(own.sheet)]:
+        complaints.append("error rows are not those that are marked")
+    return complaints + (check_table(own.table, figures) if own.table else [])
+
+
+def check_case(own):
+    """Complaints about one sheet: the number that is listed, what the reader alone answers, and what the text says."""
+    text = text_of(own.sheet)
+    number = number_of(text)
+    complaints = []
+    if own.number not in (None, number):
+        complaints.append("%d, listed %d" % (number, own.number))
+    if sheet.sheet_answer(own.sheet) != (number if own.alone is None else own.alone):
+        complaints.append("the reader alone answers another number")
+    if number == DONE:
+        figures = printed(text)
+        complaints += check_figures(own, figures) if figures else ["lines"]
+    return ["%s: %s" % (own.name, complaint) for complaint in complaints]
+
+
+def check_spread():
+    """Complaints about how often answers, lines and ways of damage occur among the sheets that are made."""
+    answers = Counter(number_of(text_of(own.sheet)) for own in MADE)
+    kinds = Counter(own.name.partition(":")[0] for own in MADE)
+    ways = Counter(way for own in MADE for way in own.name.partition(": ")[2].split(", "))
+    complaints = ["made sheets: answer %d %d times" % (number, answers[number]) for number in sheets.ANSWERS
+                  if answers[number] < 4]
+    complaints += ["made sheets: %s %d times" % (way, ways[way]) for way in [*map(str, SPOILS), *sheets.DAMAGES]
+                   if ways[way] < 3]
+    return complaints + ["made sheets: %d %s" % (kinds[kind], kind) for kind in kinds
+                         if not MADE_COUNT / 4 < kinds[kind] < MADE_COUNT / 2]
+
+
+def check_small():
+    """Each line that a sheet may be refused by has its small input, and the first text is that of the rules."""
+    complaints = [] if [own.number for own in SMALL] == list(sheets.ANSWERS[1:]) else ["small inputs"]
+    if text_of(REPORTS[0].sheet).encode() != report.RULES_TEXT:
+        complaints.append("the first text is not that of the rules")
+    return complaints
+
+
+def check():
+    """List of all complaints about the sheets and their texts."""
+    complaints = check_small() + check_spread()
+    for own in REPORTS:
+        complaints += check_case(own)
+    names = Counter(own.name for own in CASES)
+    complaints += ["two sheets named %s" % name for name in names if names[name] > 1]
+    if any(len(own.sheet) >= 2 ** 16 for own in REPORTS):
+        complaints.append("a record does not hold its sheet")
+    if len(inputs()) > MOST_INPUT or len(expected_text()) > MOST_TEXT:
+        complaints.append("too many bytes: %d read, %d written" % (len(inputs()), len(expected_text())))
+    return complaints
+
+
+# ---- expected text ----
+
+def expected_text():
+    """What the program that reads the records must write."""
+    return "".join(text_of(own.sheet) for own in REPORTS).encode()
+
+
+def inputs():
+    """The input of the program: for each sheet its length, two bytes, and the sheet."""
+    return b"".join(len(own.sheet).to_bytes(2, "big") + own.sheet for own in REPORTS)
+
+
+def list_text():
+    """A line for each sheet: its number, what the program answers, how long it is, and its name or how it is made."""
+    return "".join("%d: %d, %d bytes, %s\n" % (number, number_of(text_of(own.sheet)), len(own.sheet), own.name)
+                   for number, own in enumerate(REPORTS, 1))
+
+
+if __name__ == "__main__":
+    found = check()
+    if found:
+        sys.exit("\n".join(found))
+    if "list" in sys.argv[1:]:
+        sys.stdout.write(list_text())
+    else:
+        sys.stdout.buffer.write(inputs() if "inputs" in sys.argv[1:] else expected_text())
