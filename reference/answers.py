@@ -1,20 +1,33 @@
 # Inputs of the table call that are refused, and inputs of the estimate call with their outcomes. Each is listed with the
-# answer that the rules give; check() compares it with what anova.py answers.
+# answer that the rules give; check() compares it with what anova.py answers. And the input and the expected text of the
+# program that tries them.
+#
+# The program reads records, one for each refusal and then one for each estimate: length, a byte, and so many bytes. These
+# are a sheet, which for an estimate has no readings and no marks, and a field 6 of what else the call takes: for a table
+# how many totals and rows are lent, a byte each; for an estimate the effect, two bytes, and its total, eight bytes in two's
+# complement, all big-endian.
+#
+# The program writes a line for each record. Of a table it is `refused` with the number, or `made`; then `unchanged` where
+# all totals and rows hold what they held before the call, else `changed`. Of an estimate it is the outcome, a double as the
+# number that its 64 bits are.
 #
 # Defined here:
 #   FOUR_BLOCKS, SIX_ADDED, TEN, TEN_BLOCKED   words and plans of ten factors, which tables.py uses too
-#   REFUSALS                  refused inputs of the table call: every line of the rules, and inputs to which several apply
-#   ESTIMATES                 inputs of the estimate call: a plan, an effect and a total
-#   check                     list of complaints, empty if all is well
-#   expected_lines            the lines of refusals and estimates in the text that the program must write
-#   input_lines, plan_text    the inputs, a line for each; a plan in words
+#   REFUSALS         refused inputs of the table call: every line of the rules, and inputs to which several apply
+#   ESTIMATES        inputs of the estimate call: a plan, an effect and a total
+#   check            list of complaints, empty if all is well
+#   expected_text    the expected text
+#   inputs           the input of the program (answers.py inputs)
+#   list_text        a line for each record, with its number and what is tried (answers.py list)
 
+import sys
 from collections import namedtuple
 from fractions import Fraction
 
 import anova
 import factab
 import published
+import sheet
 from anova import row_number
 from factab import Plan
 
@@ -28,6 +41,10 @@ FOUR_BLOCKS = tuple(row_number(label) for label in "ABC DEF GH IJ".split())
 SIX_ADDED = tuple((row_number(label), sign) for label, sign in (
     ("AB", 0), ("BCD", 1), ("ADG", 0), ("CEHJ", 1), ("ABCDEFGHI", 0), ("ABCDEFGHJ", 1)))
 TEN, TEN_BLOCKED = Plan(2, 10), Plan(2, 10, (), FOUR_BLOCKS)
+
+# The most readings, totals and rows that the program can lend, and the tag of the field of what else a call takes.
+MOST_LENT = 8
+REST = 6
 
 
 # ---- refusals of the table call ----
@@ -223,44 +240,74 @@ def check_report():
     return complaints
 
 
+def check_lent():
+    """The program can lend as much as every refusal wants."""
+    return ["refusal, %s: over %d places" % (own.why, MOST_LENT) for own in REFUSALS
+            if max(len(own.readings), own.totals_length, own.rows_length) > MOST_LENT]
+
+
 def check():
     """List of all complaints about refusals and estimates."""
-    return check_refusals() + check_estimates() + check_report()
+    return check_refusals() + check_estimates() + check_report() + check_lent()
 
 
 # ---- expected text ----
 
-def estimate_line(number, own):
-    """The line of an estimate, its double as the number that its 64 bits are."""
+def estimate_text(own):
+    """What the program writes of an estimate."""
     outcome = outcome_of(own)
     if outcome == anova.LOST or outcome.startswith("refused"):
-        return "estimate %d: %s" % (number, outcome)
+        return outcome
     name, quotient = outcome.split()
-    return "estimate %d: %s %d" % (number, name, anova.double_pattern(anova.exact_double(Fraction(quotient))))
+    return "%s %d" % (name, anova.double_pattern(anova.exact_double(Fraction(quotient))))
 
 
-def expected_lines():
-    """The lines of all refusals and estimates. The program that writes them sees that what it lent is unchanged."""
-    return (["refusal %d: %d unchanged" % (number, own.number) for number, own in enumerate(REFUSALS, 1)]
-            + [estimate_line(number, own) for number, own in enumerate(ESTIMATES, 1)])
+def numbered(texts):
+    """A line for each text, with its number before it."""
+    return "".join("%d: %s\n" % pair for pair in enumerate(texts, 1))
 
 
-def plan_text(plan):
-    """A plan in words."""
-    added = "".join(" %d/%d" % pair for pair in plan.added)
-    return "levels %d, k %d, added%s, blocks%s" % (plan.levels, plan.k, added, published.values_text(plan.blocks))
+def expected_text():
+    """What the program that tries refusals and estimates must write."""
+    return numbered(["refused %d, unchanged" % own.number for own in REFUSALS] + [estimate_text(own) for own in ESTIMATES])
 
 
-def refusal_line(number, own):
-    """The input of a refusal."""
-    marks = "".join(" %d/%d" % pair for pair in enumerate(own.marks) if pair[1])
-    return "refusal %d, %s, totals %d, rows %d, marks %d%s, readings%s, %s" % (
-        number, plan_text(own.plan), own.totals_length, own.rows_length, len(own.marks), marks,
-        published.values_text(own.readings), own.why)
+# ---- input ----
+
+def record(plan, readings, marks, rest):
+    """A record: length, sheet and field 6."""
+    fields = sheet.write(plan, readings, marks) + sheet.field(REST, rest)
+    return bytes([len(fields)]) + fields
 
 
-def input_lines():
-    """The inputs of all refusals and estimates, a line for each."""
-    return ([refusal_line(number, own) for number, own in enumerate(REFUSALS, 1)]
-            + ["estimate %d, %s, effect %d, total %d" % (number, plan_text(own.plan), own.effect, own.total)
-               for number, own in enumerate(ESTIMATES, 1)])
+def refusal_record(own):
+    """The record of a refusal."""
+    return record(own.plan, own.readings, own.marks, bytes([own.totals_length, own.rows_length]))
+
+
+def estimate_record(own):
+    """The record of an estimate."""
+    return record(own.plan, [], [], own.effect.to_bytes(2, "big") + own.total.to_bytes(8, "big", signed=True))
+
+
+def inputs():
+    """The input of the program: the records of all refusals and estimates."""
+    return b"".join([refusal_record(own) for own in REFUSALS] + [estimate_record(own) for own in ESTIMATES])
+
+
+def list_text():
+    """A line for each record: why a table is refused; of an estimate plan, effect and total."""
+    return numbered(["refusal, " + own.why for own in REFUSALS] + [
+        "estimate, levels %d, k %d, added%s, blocks%s, effect %d, total %d" % (
+            *own.plan[:2], "".join(" %d/%d" % pair for pair in own.plan.added), published.values_text(own.plan.blocks),
+            own.effect, own.total) for own in ESTIMATES])
+
+
+if __name__ == "__main__":
+    found = check()
+    if found:
+        sys.exit("\n".join(found))
+    if "inputs" in sys.argv[1:]:
+        sys.stdout.buffer.write(inputs())
+    else:
+        sys.stdout.write(list_text() if "list" in sys.argv[1:] else expected_text())

@@ -1,16 +1,20 @@
-# Compares the stored inputs and outputs of the programs with what the reference files here make now. Exits with 1 at a difference.
+# Compares the stored inputs and outputs of the programs with what the reference files here make now, and published figures
+# with what the reference programs make of the readings. Exits with 1 at a difference.
 #
 #   crates/worked_plans/stdout    the plans of AMCP 706-112, Tables 12-3 and 12-4: amcp.py
 #   crates/worked_totals/stdout   steps, totals and passes of the published examples: published.py, by factab.py
-#   crates/worked_tables/stdout   tables, refusals and estimates: tables.py and answers.py, by anova.py
-#   crates/worked_tables/stdin    the inputs of these, which that program reads
+#   crates/worked_answers/stdout  refusals of the table call, and estimates: answers.py, by anova.py
+#   crates/worked_answers/stdin   the records of these, which that program reads
 #   crates/worked_sheets/stdout   answers of the two calls that take a sheet: sheets.py, by sheet.py
 #   crates/worked_sheets/stdin    the sheets, which that program reads
+#
+# The published figures of tables are compared with those of anova.py: tables.py.
 
 import sys
 from pathlib import Path
 
 import amcp
+import answers
 import published
 import sheets
 import tables
@@ -21,15 +25,20 @@ ROOT = Path(__file__).resolve().parent.parent
 PROGRAMS = [
     ("worked_plans", amcp),
     ("worked_totals", published),
-    ("worked_tables", tables),
+    ("worked_answers", answers),
     ("worked_sheets", sheets),
 ]
 
 # Each program that reads an input with what makes it.
 INPUTS = [
-    ("worked_tables", tables, lambda: tables.inputs_text().encode()),
+    ("worked_answers", answers, answers.inputs),
     ("worked_sheets", sheets, sheets.inputs),
 ]
+
+
+def complaints_of(module):
+    """The complaints of a reference file about what it has."""
+    return ["reference/%s.py: %s" % (module.__name__, complaint) for complaint in module.check()]
 
 
 def differs(crate, name, module, meant):
@@ -42,9 +51,9 @@ def differs(crate, name, module, meant):
 
 def complaints():
     """What is wrong: published figures that do not hold together, and stored inputs and outputs that differ."""
-    found = []
+    found = complaints_of(tables)
     for crate, module in PROGRAMS:
-        found += ["reference/%s.py: %s" % (module.__name__, complaint) for complaint in module.check()]
+        found += complaints_of(module)
         found += differs(crate, "stdout", module, module.expected_text().encode())
     for crate, module, inputs in INPUTS:
         found += differs(crate, "stdin", module, inputs())

@@ -6,8 +6,8 @@
 # number that no reading may be. The program writes a line for each record: `done` or the refusal; levels and k; the added
 # factors; the block words; the readings, which are the places before the first that kept its number; how many places kept
 # theirs; and the marks. A list is how many there are and then each of them, an added factor as word/sign, the marks with no
-# space between them. Of over 40 readings one number is written (tables.py, counted). Words and signs that are not 0 beyond
-# a plan's counts would be written too, so a refusal with a plan or a column that is not as it should be shows.
+# space between them. Of over 40 readings one number is written (counted). Words and signs that are not 0 beyond a plan's
+# counts would be written too, so a refusal with a plan or a column that is not as it should be shows.
 #
 # Defined here:
 #   Case                 a sheet with the room of its column; number is the answer that the rules give, None if not listed
@@ -16,6 +16,7 @@
 #   DAMAGES              ways to damage the fields of a sheet
 #   made, MADE           a sheet that is made and, four times of five, damaged; the 600 of them
 #   check                list of complaints, empty if all is well
+#   counted              a number by which every value of a list counts
 #   expected_text        the expected text
 #   inputs               the input of the program (sheets.py inputs)
 #   list_text            a line for each sheet, with its number, answer and name (sheets.py list)
@@ -27,7 +28,6 @@ import anova
 import answers
 import factab
 import sheet
-import tables
 from anova import row_number
 from answers import AB, ABC, BC, EIGHT, FOUR, FOUR_BLOCKS, SIX_ADDED, TEN
 from factab import DONE, Plan
@@ -40,6 +40,7 @@ MOST_SHEET = 5_187
 MOST_ROOM = 1_100
 MOST_INPUT = 131_072
 MOST_SHOWN = 40
+MODULUS = 2 ** 31 - 1
 ANSWERS = (DONE, 1, 2, 3, 4, 5, 6, 7, 8, 11, 12, 13)
 
 
@@ -505,10 +506,18 @@ def list_of(texts):
     return "".join(" " + text for text in [str(len(texts))] + texts)
 
 
+def counted(values):
+    """A number by which every value of a list counts: 31 times the one before, and the value, modulo a prime."""
+    number = 0
+    for value in values:
+        number = (number * 31 + value) % MODULUS
+    return number
+
+
 def values_of(readings):
     """The readings, and of over 40 how many they are and one number."""
     if len(readings) > MOST_SHOWN:
-        return " %d %d" % (len(readings), tables.counted(readings))
+        return " %d %d" % (len(readings), counted(readings))
     return list_of([str(reading) for reading in readings])
 
 

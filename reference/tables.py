@@ -1,5 +1,5 @@
-# Worked tables: readings, block words and marks with the published figures of their analysis of variance; extreme readings
-# at the largest plans; and the expected text of the program that works them, with the refusals and estimates of answers.py.
+# Worked tables: readings, block words and marks with the published figures of their analysis of variance, and extreme
+# readings at the largest plans.
 #
 # Sources are named as in published.py, whose readings are used where it has them. Readings of six more tables are here:
 # Yates's squares that interlace and his hay; Daniel's mangolds in pounds, half of the beans, lettuce and air pollution.
@@ -19,32 +19,24 @@
 #   TABLES                 the worked tables, numbered from 1 in this order
 #   MENDS, OFF             damaged figures; figures further off than half a unit
 #   POOLED                 the report's columns in which rows of three levels are pooled, as far as they can be read
-#   table_of               the table of a worked table
+#   KNOWN                  numerators of the extreme tables that are known without adding up
+#   marks_of, table_of     the marks of all rows, and the table, of a worked table
 #   check                  list of complaints, empty if all is well
-#   expected_text          the expected text
-#   inputs_text            the inputs of all tables, refusals and estimates, a line for each (tables.py inputs)
 
 import re
-import sys
 from collections import namedtuple
 from fractions import Fraction
 from itertools import product
 
 import anova
-import answers
 import factab
 import published
-from anova import BLOCKS, ERROR, row_number
+from anova import row_number
 from answers import FOUR_BLOCKS, SIX_ADDED, TEN, TEN_BLOCKED
 from factab import Plan
 
 # places: decimals of the readings in print. plots: how many plots one reading adds up. marked: the rows with mark 1.
-# made: how readings are made that are not printed.
-WorkedTable = namedtuple("WorkedTable", "title plan readings marked places plots printed made", defaults=(None,))
-
-# kind: `signs`, with a field of an effect and the readings where its coefficient is 0, above 0 and below 0; or `numbers`, which
-# are spread out.
-Made = namedtuple("Made", "kind field readings")
+WorkedTable = namedtuple("WorkedTable", "title plan readings marked places plots printed")
 
 # parts: what the figures of the text belong to, see part_of. units: how many units of its last decimal a figure may be off.
 Printed = namedtuple("Printed", "where measure parts text units", defaults=(Fraction(1, 2),))
@@ -57,8 +49,6 @@ EXACT = 0
 LACKING, NOT_PRINTED = published.LACKING, published.NOT_PRINTED
 
 MOST_NUMERATOR = 340_122_240_000_000_000
-MOST_ROWS_SHOWN = 64
-MODULUS = 2 ** 31 - 1
 
 
 def mended(figure):
@@ -311,18 +301,6 @@ RULES_TWO_FACTORS = worked(published.RULES_TWO_FACTORS, "AB", [
     Printed("Reference runs", "sum of totals", "total", "12", EXACT),
 ])
 
-RULES_TEXT = """\
-over 4
-mean 1 400
-A 1 36
-B 1 16
-AB 1 4 error
-blocks 0 0
-error 1 4
-total 4 456
-check 12 12
-"""
-
 RULES_THREE_LEVELS = worked(published.RULES_THREE_LEVELS, "", [
     Printed("Reference runs", "effect total", "mean, A1, A2", "10 -1 -5", EXACT),
     Printed("Reference runs", "numerator", "mean, A1, A2, A", "200 3 25 28", EXACT),
@@ -345,36 +323,26 @@ RULES_LIMITS = worked(published.RULES_LIMITS, "A", [
 TOP = factab.MOST_READING
 
 
-def signs_of(levels, k, effect, top, at_zero):
+def by_signs(plan, effect, top, at_zero):
     """For each run top where the effect's coefficient is above 0, minus top where it is below, else the number at_zero."""
-    coefficients = [factab.coefficient(levels, k, effect, run) for run in range(factab.run_count(levels, k))]
+    coefficients = [factab.coefficient(plan.levels, plan.k, effect, run)
+                    for run in range(factab.run_count(plan.levels, plan.k))]
     return [top if own > 0 else -top if own < 0 else at_zero for own in coefficients]
 
 
-def spread_out(levels, k):
+def by_spreading(plan):
     """Numbers less 100000: the first is 0, and each next is the one before times 9973 plus 12345, modulo 200001. No total
     is 0."""
     readings, number = [], 0
-    for _ in range(factab.run_count(levels, k)):
+    for _ in range(factab.run_count(plan.levels, plan.k)):
         readings.append(number - TOP)
         number = (number * 9973 + 12345) % 200001
     return readings
 
 
-def by_signs(plan, effect, top, at_zero):
-    """Readings by the signs of an effect."""
-    readings = signs_of(plan.levels, plan.k, effect, top, at_zero)
-    return Made("signs", "effect %d %d %d %d" % (effect, at_zero, top, -top), readings)
-
-
-def by_spreading(plan):
-    """Numbers that are spread out."""
-    return Made("numbers", "spread out", spread_out(plan.levels, plan.k))
-
-
-def extreme(title, plan, made, marked):
+def extreme(title, plan, readings, marked):
     """A table of made-up readings."""
-    return WorkedTable(title, plan, made.readings, rows_of(marked), 0, 1, [], made)
+    return WorkedTable(title, plan, readings, rows_of(marked), 0, 1, [])
 
 
 SIX = Plan(3, 6)
@@ -867,87 +835,9 @@ def check_arrangement():
     return [] if [way for way in ways if interlaces(way)] == [SQUARES] else ["Yates, squares that interlace: arrangement"]
 
 
-def check_rules_text():
-    """The text that the rules print for 3, 5, 4, 8."""
-    lines = table_lines(table_of(RULES_TWO_FACTORS))
-    return [] if "".join(line + "\n" for line in lines) == RULES_TEXT else ["rules: text of 3, 5, 4, 8"]
-
-
 def check():
-    """List of all complaints about tables, refusals and estimates."""
-    complaints = check_lists() + check_rules_text() + check_pooled() + check_sums() + check_pounds()
-    complaints += check_half() + check_arrangement()
+    """List of all complaints about tables."""
+    complaints = check_lists() + check_pooled() + check_sums() + check_pounds() + check_half() + check_arrangement()
     for own in TABLES:
         complaints += check_worked(own)
-    return complaints + answers.check()
-
-
-# ---- expected text ----
-
-def counted(values):
-    """A number by which every value of a list counts: 31 times the one before, and the value, modulo a prime."""
-    number = 0
-    for value in values:
-        number = (number * 31 + value) % MODULUS
-    return number
-
-
-def row_line(table, row):
-    """The line of a row: label, degrees, numerator and, if so, `error` or `blocks`."""
-    part, kind = table.rows[row], table.kinds[row]
-    return "%s %d %d" % (anova.row_label(row), *part) + (" " + kind if kind in (ERROR, BLOCKS) else "")
-
-
-def rows_lines(table):
-    """The lines of all rows. Of more than 64 rows only the mean, blocks and error, and then a line that every row is in."""
-    rows = range(len(table.rows))
-    if len(rows) <= MOST_ROWS_SHOWN:
-        return [row_line(table, row) for row in rows]
-    shown = [row_line(table, row) for row in rows if table.kinds[row] != anova.KEPT]
-    return shown + ["rows %d" % counted(part.numerator for part in table.rows)]
-
-
-def table_lines(table):
-    """The lines that the rules give for a table."""
-    return (["over %d" % table.denominator] + rows_lines(table)
-            + ["blocks %d %d" % table.blocks, "error %d %d" % table.error, "total %d %d" % table.total,
-               "check %d %d" % (table.sum_of_totals, table.check_number)])
-
-
-def worked_lines(number, own):
-    """The lines of one worked table."""
-    table = table_of(own)
-    return (["example %d: %d levels, %d factors" % (number, own.plan.levels, own.plan.k)] + table_lines(table)
-            + ["totals %d" % counted(table.totals)])
-
-
-def expected_text():
-    """What the program that works the tables must write."""
-    lines = []
-    for number, own in enumerate(TABLES, 1):
-        lines += worked_lines(number, own)
-    return "".join(line + "\n" for line in lines + answers.expected_lines())
-
-
-def input_line(number, own):
-    """The line of a worked table."""
-    kind, field = ("table", "readings" + published.values_text(own.readings)) if own.made is None else own.made[:2]
-    marks = "".join(" %d/1" % row for row in own.marked)
-    runs, rows = len(own.readings), anova.row_count(own.plan.k)
-    return "%s %d, %s, totals %d, rows %d, marks %d%s, %s, %s" % (
-        kind, number, answers.plan_text(own.plan), runs, rows, rows, marks, field, own.title)
-
-
-def inputs_text():
-    """The input of the program: a line for each table, refusal and estimate. Words and rows are numbers; an added factor is
-    its word and sign, and marks are how many there are and then the rows whose marks are not 0, each with its mark. Title
-    or reason stand last."""
-    lines = [input_line(number, own) for number, own in enumerate(TABLES, 1)] + answers.input_lines()
-    return "".join(line + "\n" for line in lines)
-
-
-if __name__ == "__main__":
-    found = check()
-    if found:
-        sys.exit("\n".join(found))
-    sys.stdout.write(inputs_text() if "inputs" in sys.argv[1:] else expected_text())
+    return complaints

@@ -1,0 +1,47 @@
+// Tries the table call on plans, readings and marks that it refuses, and the estimate call, by the records of its input.
+// `reference/answers.py` makes the input and the text that this program must write, and says how both are laid out.
+mod estimated;
+mod refused;
+mod text;
+
+use contents::plan_in;
+use estimated::try_estimate;
+use fields::body;
+use refused::try_refusal;
+use text::print;
+
+// Field 6 is what else the call takes: two bytes for a table, ten for an estimate.
+fn work(number: u64, record: &[u8]) {
+    io::print_decimal(1, number);
+    print(b":");
+    let p = plan_in(record);
+    let rest = body(record, 6, 0);
+    if rest.len() == 2 {
+        try_refusal(p, record, rest[0], rest[1]);
+    } else {
+        try_estimate(p, rest);
+    }
+}
+
+// A record is its length, a byte, and so many bytes.
+fn work_records(text: &[u8]) {
+    let mut number = 0;
+    let mut at = 0;
+    while at < text.len() {
+        let length = text[at] as usize;
+        let start = at + 1;
+        if text.len() - start < length {
+            return;
+        }
+        let end = start + length;
+        number += 1;
+        work(number, &text[start..end]);
+        at = end;
+    }
+}
+
+fn main() {
+    let mut space = io::large_buffer();
+    let n = io::read_full(0, &mut space);
+    work_records(&space[..n]);
+}
