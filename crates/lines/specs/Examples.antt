@@ -6,25 +6,25 @@ use Rattle.text.specs.Fields.{letterOf, lettersIn, decimalIn}
 use Rattle.lines.specs.Lines.{lineOf, labelOf, kindWords, rowLine, namedLine, sourceLine, checkLine}
 
 over-line : namedLine (ascii "over") 4 ≡ ascii "over 4\n"
-unfolding namedLine lineOf decimalIn ascii
+unfolding namedLine lineOf decimalIn
 over-line = refl
 
 mean-line : rowLine 0 1 400 2 ≡ ascii "mean 1 400\n"
-unfolding rowLine lineOf labelOf kindWords lettersIn letterOf decimalIn ascii
+unfolding rowLine lineOf labelOf kindWords lettersIn letterOf decimalIn
 mean-line = refl
 
 error-line : rowLine 3 1 4 1 ≡ ascii "AB 1 4 error\n"
-unfolding rowLine lineOf labelOf kindWords lettersIn letterOf decimalIn ascii
+unfolding rowLine lineOf labelOf kindWords lettersIn letterOf decimalIn
 error-line = refl
 
 blocks-line : rowLine 7 1 0 3 ≡ ascii "ABC 1 0 blocks\n"
-unfolding rowLine lineOf labelOf kindWords lettersIn letterOf decimalIn ascii
+unfolding rowLine lineOf labelOf kindWords lettersIn letterOf decimalIn
 blocks-line = refl
 
 total-line : sourceLine (ascii "total") 4 456 ≡ ascii "total 4 456\n"
-unfolding sourceLine lineOf decimalIn ascii
+unfolding sourceLine lineOf decimalIn
 total-line = refl
 
 negative-check : checkLine (negsuc 199_999) (pos 0) ≡ ascii "check -200000 0\n"
-unfolding checkLine lineOf decimalIn ascii
+unfolding checkLine lineOf decimalIn
 negative-check = refl

@@ -29,8 +29,8 @@ module _ {a b c : List ℕ} {at next last : ℕ} where
 
 module _ {a b : List ℕ} {at next : ℕ} where
   module _ (w : ℕ) where
-    pub mean-label : w ≡ 0 → Wrote a at (109 ∷ 101 ∷ 97 ∷ 110 ∷ []) b next → Wrote a at (labelOf w) b next
-    unfolding labelOf ascii
+    pub mean-label : w ≡ 0 → Wrote a at (ascii "mean") b next → Wrote a at (labelOf w) b next
+    unfolding labelOf
     mean-label e f = rw (eq-eqb w 0 e) f
 
     pub letters-label : (w ≡ 0 → ⊥) → Wrote a at (lettersOf w) b next → Wrote a at (labelOf w) b next
@@ -38,12 +38,12 @@ module _ {a b : List ℕ} {at next : ℕ} where
     letters-label h f = rw (ne-eqb w 0 h) f
 
   module _ (c : ℕ) where
-    pub error-text : c ≡ 1 → Wrote a at (32 ∷ 101 ∷ 114 ∷ 114 ∷ 111 ∷ 114 ∷ []) b next → Wrote a at (kindText c) b next
-    unfolding kindText ascii
+    pub error-text : c ≡ 1 → Wrote a at (ascii " error") b next → Wrote a at (kindText c) b next
+    unfolding kindText
     error-text e f = rw (eq-eqb c 1 e) f
 
-    pub blocks-text : (c ≡ 1 → ⊥) → c ≡ 3 → Wrote a at (32 ∷ 98 ∷ 108 ∷ 111 ∷ 99 ∷ 107 ∷ 115 ∷ []) b next → Wrote a at (kindText c) b next
-    unfolding kindText ascii
+    pub blocks-text : (c ≡ 1 → ⊥) → c ≡ 3 → Wrote a at (ascii " blocks") b next → Wrote a at (kindText c) b next
+    unfolding kindText
     blocks-text h e f = rw (ne-eqb c 1 h, eq-eqb c 3 e) f
 
 pub no-text : (a : List ℕ) (at c : ℕ) → (c ≡ 1 → ⊥) → (c ≡ 3 → ⊥) → Wrote a at (kindText c) a at
@@ -54,7 +54,7 @@ no-text a at c h k = rw (ne-eqb c 1 h, ne-eqb c 3 k) (nothing a at)
 
 -- the last fields of a row's line
 ends-with : (c : ℕ) (n : List ℕ) → n ++ (kindText c ++ (newline ∷ [])) ≡ lineOf (n ∷ kindWords c)
-unfolding kindText kindWords lineOf ascii
+unfolding kindText kindWords lineOf
 ends-with c n = by (eqb c 1) (eqb c 3)
   where
     by : (e f : Bool)
@@ -76,10 +76,10 @@ module _ {a b c d e : List ℕ} {at p q r s : ℕ} where
   unfolding sourceLine lineOf
   source-made m n w x y z = then w (then x (then y z))
 
-  pub check-made : {x y : ℤ} → SFits w64 x → SFits w64 y → Wrote a at (99 ∷ 104 ∷ 101 ∷ 99 ∷ 107 ∷ []) b p
+  pub check-made : {x y : ℤ} → SFits w64 x → SFits w64 y → Wrote a at (ascii "check") b p
       → Wrote b p (space ∷ signed (wrap x)) c q → Wrote c q (space ∷ signed (wrap y)) d r → Wrote d r (newline ∷ []) e s
       → Wrote a at (checkLine x y) e s
-  unfolding checkLine lineOf ascii
+  unfolding checkLine lineOf
   check-made f g w x y z =
       then w (then (retext (ap (λ t. space ∷ t) (signed-kept f)) x) (then (retext (ap (λ t. space ∷ t) (signed-kept g)) y) z))
 

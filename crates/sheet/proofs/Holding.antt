@@ -2,7 +2,7 @@
 --
 --   held-with      a plan that is held gives its sheet the same number
 --   narrow-by      the column beside the number of runs, as the code compares
-use mathlib.Core.Path.{_≡_, refl, sym, ap, _∙_}
+use mathlib.Core.Path.{_≡_, sym, ap, _∙_}
 use mathlib.Core.Bool.{Bool, cond}
 use Prim.Native.Nat.{ℕ}
 use native.Mathlib.Decide.{ℕ-discrete}
@@ -10,18 +10,13 @@ use lib.Dec.{ltb}
 use Rattle.plan.specs.declared.types.Plan.{Plan}
 use Rattle.plan.specs.Check.{planNumber, runCount}
 use Rattle.plan.specs.Plan.{runsOf}
-use Rattle.plan.specs.Laws.Answers.{plan-first}
 use Rattle.plan.specs.Laws.Sizes.{run-count}
 use Rattle.fields.specs.Fields.{Fields}
 use Rattle.fields.specs.Rules.{badFields}
 use Rattle.contents.specs.Held.{held}
 use Rattle.contents.specs.Laws.Holding.{held-number, held-all}
 use Rattle.sheet.specs.Sheet.{numberWith}
-
--- a plan's own number comes before the lines that name the readings and the marks
-own : (fs : Fields) (p : Plan) (narrow : Bool) → (planNumber p ≡ 0 → ⊥) → numberWith fs p narrow ≡ cond (badFields fs) 1 (planNumber p)
-unfolding numberWith
-own fs p narrow h = ap (cond (badFields fs) 1) (sym (plan-first p _ refl h))
+use Rattle.sheet.specs.Laws.Admitted.{own-number}
 
 module _ (fs : Fields) (p : Plan) where
   pub held-with : (narrow : Bool) → numberWith fs (held p) narrow ≡ numberWith fs p narrow
@@ -29,11 +24,11 @@ module _ (fs : Fields) (p : Plan) where
     where
       by : Dec (planNumber p ≡ 0) → numberWith fs (held p) narrow ≡ numberWith fs p narrow
       by (yes z) = ap (λ q. numberWith fs q narrow) (held-all p z)
-      by (no z) = own fs (held p) narrow (λ d. z (sym (held-number p) ∙ d)) ∙ ap (cond (badFields fs) 1) (held-number p) ∙ sym (own fs p narrow z)
+      by (no z) = own-number fs (held p) narrow (λ d. z (sym (held-number p) ∙ d)) ∙ ap (cond (badFields fs) 1) (held-number p) ∙ sym (own-number fs p narrow z)
 
   pub narrow-by : (room : ℕ) → numberWith fs p (ltb room (runCount p)) ≡ numberWith fs p (ltb room (runsOf p))
   narrow-by room = by (ℕ-discrete (planNumber p) 0)
     where
       by : Dec (planNumber p ≡ 0) → numberWith fs p (ltb room (runCount p)) ≡ numberWith fs p (ltb room (runsOf p))
       by (yes z) = ap (λ n. numberWith fs p (ltb room n)) (run-count p z)
-      by (no z) = own fs p (ltb room (runCount p)) z ∙ sym (own fs p (ltb room (runsOf p)) z)
+      by (no z) = own-number fs p (ltb room (runCount p)) z ∙ sym (own-number fs p (ltb room (runsOf p)) z)

@@ -7,38 +7,36 @@ use Rattle.text.specs.Text.{ascii}
 use Rattle.text.specs.Fields.{letterOf, lettersIn, lettersOf, decimalIn, decimal, signed}
 
 row-AC : lettersOf 5 ≡ ascii "AC"
-unfolding lettersIn letterOf ascii
+unfolding lettersIn letterOf
 row-AC = refl
 
 all-letters : lettersOf 65535 ≡ ascii "ABCDEFGHIJKLMNOP"
-unfolding lettersIn letterOf ascii
+unfolding lettersIn letterOf
 all-letters = refl
 
 nothing : decimal 0 ≡ ascii "0"
-unfolding decimalIn ascii
+unfolding decimalIn
 nothing = refl
 
 hundred : decimal 100 ≡ ascii "100"
-unfolding decimalIn ascii
+unfolding decimalIn
 hundred = refl
 
 most : decimal 340_122_240_000_000_000 ≡ ascii "340122240000000000"
-unfolding decimalIn ascii
+unfolding decimalIn
 most = refl
 
 below : signed (negsuc 11) ≡ ascii "-12"
-unfolding decimalIn ascii
+unfolding decimalIn
 below = refl
 
 zero-unsigned : signed (pos 0) ≡ ascii "0"
-unfolding decimalIn ascii
+unfolding decimalIn
 zero-unsigned = refl
 
 -- a text in the middle of a buffer, and one for which there is no room
 within : sets (ascii "uvwx") 1 (ascii "ab") ≡ ascii "uabx"
-unfolding ascii
 within = refl
 
 cut-short : sets (ascii "uvwx") 3 (ascii "ab") ≡ ascii "uvwa"
-unfolding ascii
 cut-short = refl

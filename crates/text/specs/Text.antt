@@ -12,7 +12,7 @@ use lib.ListN.{length}
 use lib.Seq.{sets}
 
 -- the code of each character
-unfoldable pub ascii : String → List ℕ
+abbrev pub ascii : String → List ℕ
 ascii string.[] = []
 ascii (string._∷_ c s) = code c ∷ ascii s
 

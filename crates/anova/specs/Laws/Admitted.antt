@@ -1,14 +1,16 @@
 -- What is known of a table that is not refused.
 --
 --   table-admitted             lengths and bounds, from the number
+--   table-admits               and this is all that is asked, with readings within the limit and marks that are lawful
 --   rows-power                 R is 2 to the power of the number of factors
 --   limit-fits                 the limit of numerators fits an i64
 --   within-limit               the total, by the sum of squares, is within that limit
-use mathlib.Core.Path.{_≡_, ap}
-use mathlib.Core.Bool.{_||_}
+use mathlib.Core.Path.{_≡_, refl, _∙_, ap}
+use mathlib.Core.Bool.{false, _||_}
 use mathlib.Core.List.{List}
 use Prim.Native.Nat.{ℕ, _*_, _^_, _<_, _≤_}
 use native.Mathlib.Omega.{arith}
+use borrow.Author.Tests.{eq-eqb}
 use lib.Dec.{lit<}
 use lib.IntN.{ℤ}
 use lib.ListN.{length, length-replicate}
@@ -19,12 +21,13 @@ use Rattle.contrasts.specs.Tables.{ofLevels}
 use Rattle.contrasts.specs.Totals.{denominator, squared}
 use Rattle.contrasts.specs.Laws.Limits.{total-fits}
 use Rattle.plan.specs.declared.types.Plan.{Plan}
-use Rattle.plan.specs.Plan.{factorsOf}
-use Rattle.plan.specs.Laws.Answers.{passed, plan-passed}
+use Rattle.plan.specs.Check.{planNumber}
+use Rattle.plan.specs.Plan.{factorsOf, runsOf}
+use Rattle.plan.specs.Laws.Answers.{passed, plan-passed, after-plan}
 use Rattle.plan.specs.Laws.Sizes.{plan-within}
 use Rattle.columns.specs.Lines.{wrongLength, anyBeyond}
 use Rattle.columns.specs.Laws.Admitted.{all-within, as-long}
-use Rattle.rows.specs.Kinds.{rowsIn, wrongRows}
+use Rattle.rows.specs.Kinds.{rowsIn, wrongRows, badMarks}
 use Rattle.rows.specs.Laws.{rows-as-long}
 use Rattle.anova.specs.Ready.{TableReady}
 use Rattle.anova.specs.Table.{wrongLengths, tableNumber}
@@ -46,6 +49,16 @@ table-admitted p readings marks totals rows e =
       rows-long = rows-as-long p (length rows) (c .0);
       within = all-within readingLimit readings (l12 .0);
     }
+
+module _ (p : Plan) (readings : List ℤ) (marks : List ℕ) (totals : List ℤ) (rows : List ℕ) where
+  pub table-admits : planNumber p ≡ 0 → length readings ≡ runsOf p → length totals ≡ runsOf p → length rows ≡ rowsIn p → length marks ≡ rowsIn p
+      → anyBeyond readingLimit readings ≡ false → badMarks p marks ≡ false → tableNumber p readings marks totals rows ≡ 0
+  unfolding tableNumber wrongLengths wrongLength wrongRows
+  table-admits ok n m r q within lawful =
+      after-plan p _ ok
+      ∙ rw
+      (eq-eqb (length readings) (runsOf p) n, eq-eqb (length totals) (runsOf p) m, eq-eqb (length rows) (rowsIn p) r, eq-eqb (length marks) (rowsIn p) q, within, lawful)
+      refl
 
 -- ---- sizes
 

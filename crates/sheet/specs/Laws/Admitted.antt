@@ -3,9 +3,10 @@
 --   Admitted fs p narrow    its fields, plan, readings and marks are as the rules ask, and the column is wide enough
 --   admitted                so they are where there is no number
 --   admits                  and this is all that is asked
+--   own-number              a plan's own number comes before the lines that name the column, the readings and the marks
 --   read-admitted, marks-admitted    of a sheet that the reader accepts, and of one that the marks call does
-use mathlib.Core.Path.{_≡_, refl, _∙_}
-use mathlib.Core.Bool.{Bool, false, _||_}
+use mathlib.Core.Path.{_≡_, refl, sym, ap, _∙_}
+use mathlib.Core.Bool.{Bool, false, cond, _||_}
 use mathlib.Core.List.{List}
 use Prim.Native.Nat.{ℕ}
 use native.Mathlib.Omega.{arith}
@@ -15,7 +16,7 @@ use Rattle.algebra.specs.Tests.{neither}
 use Rattle.contrasts.specs.Limits.{readingLimit}
 use Rattle.plan.specs.declared.types.Plan.{Plan}
 use Rattle.plan.specs.Check.{planNumber}
-use Rattle.plan.specs.Laws.Answers.{passed, plan-passed, after-plan}
+use Rattle.plan.specs.Laws.Answers.{passed, plan-first, plan-passed, after-plan}
 use Rattle.plan.specs.Plan.{runsOf}
 use Rattle.columns.specs.Lines.{wrongLength, anyBeyond}
 use Rattle.rows.specs.Kinds.{wrongRows, badMarks}
@@ -60,6 +61,10 @@ module _ (fs : Fields) (p : Plan) (narrow : Bool) where
   pub admits : Admitted fs p narrow → numberWith fs p narrow ≡ 0
   unfolding numberWith
   admits a = rw (a .fields) (after-plan p _ (a .plan) ∙ rw (a .wide, a .readings, a .marks, a .within, a .lawful) refl)
+
+  pub own-number : (planNumber p ≡ 0 → ⊥) → numberWith fs p narrow ≡ cond (badFields fs) 1 (planNumber p)
+  unfolding numberWith
+  own-number h = ap (cond (badFields fs) 1) (sym (plan-first p _ refl h))
 
 pub read-admitted : (sheet : List ℕ) (room : ℕ) → readNumber sheet room ≡ 0
     → Admitted (fieldsOf sheet) (planIn (fieldsOf sheet)) (ltb room (runsOf (planIn (fieldsOf sheet))))

@@ -1,27 +1,46 @@
 -- What the reader accepts, the marks call hands back: R bytes, each 0 or 1.
 --
 --   accepted-without    a sheet that the reader accepts is accepted without the column too
+--   same-number         a column that has room for every plan changes no number
 --   small-marks         marks to which line 13 does not apply are 0 or 1
 --   Lawful p marks      so many marks as the plan has rows, each 0 or 1
 --   marks-lawful        the marks of a sheet that the reader accepts
-use mathlib.Core.Path.{_≡_, refl}
+use mathlib.Core.Path.{_≡_, refl, sym, ap, _∙_}
 use mathlib.Core.Bool.{false, _&&_, _||_}
 use mathlib.Core.List.{List, []}
 use Prim.Native.Nat.{ℕ, _<_, _≤_}
-use borrow.Author.Tests.{ltb-false}
+use native.Mathlib.Decide.{ℕ-discrete}
+use native.Mathlib.Nat.{le-trans}
+use borrow.Author.Tests.{le-ltb, ltb-false}
 use lib.Dec.{eqb, ltb}
 use lib.ListN.{length, getD}
 use Rattle.algebra.specs.Search.{none-at}
 use Rattle.algebra.specs.Tests.{neither}
 use Rattle.plan.specs.declared.types.Plan.{Plan}
-use Rattle.plan.specs.Plan.{confoundedIn}
+use Rattle.plan.specs.Check.{planNumber}
+use Rattle.plan.specs.Plan.{runsOf, confoundedIn}
 use Rattle.plan.specs.Laws.Answers.{written-new}
+use Rattle.plan.specs.Laws.Sizes.{runs-few}
 use Rattle.rows.specs.Kinds.{rowsIn, badMark, badMarks}
 use Rattle.rows.specs.Laws.{rows-as-long}
-use Rattle.fields.specs.Fields.{fieldsOf}
+use Rattle.fields.specs.Fields.{Fields, fieldsOf}
 use Rattle.contents.specs.Contents.{planIn, marksIn}
-use Rattle.sheet.specs.Sheet.{readNumber, noPlan, readPlan, marksNumber, marksOf}
-use Rattle.sheet.specs.Laws.Admitted.{admits, read-admitted}
+use Rattle.sheet.specs.Sheet.{numberWith, readNumber, noPlan, readPlan, marksNumber, marksOf}
+use Rattle.sheet.specs.Laws.Admitted.{admits, own-number, read-admitted}
+
+pub same-number : (sheet : List ℕ) (room : ℕ) → 1024 ≤ room → readNumber sheet room ≡ marksNumber sheet
+unfolding readNumber marksNumber
+same-number sheet room h = by (ℕ-discrete (planNumber p) 0)
+  where
+    fs : Fields
+    fs = fieldsOf sheet
+
+    p : Plan
+    p = planIn fs
+
+    by : Dec (planNumber p ≡ 0) → numberWith fs p (ltb room (runsOf p)) ≡ numberWith fs p false
+    by (yes z) = ap (numberWith fs p) (le-ltb room (runsOf p) (le-trans (runs-few p z) h))
+    by (no z) = own-number fs p (ltb room (runsOf p)) z ∙ sym (own-number fs p false z)
 
 pub record Lawful (p : Plan) (marks : List ℕ) : Type 0 where
   pub long : length marks ≡ rowsIn p

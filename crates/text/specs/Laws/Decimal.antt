@@ -63,7 +63,6 @@ module _ {a b : List ℕ} {at next n d : ℕ} where
       w
 
 below : (z : ℤ) → ltZ z (pos 0) ≡ true → signed z ≡ 45 ∷ decimal (natAbs z)
-unfolding ascii
 below (pos n) t = absurd (omega (arith, ltb-true n 0 t))
 below (negsuc n) t = refl
 

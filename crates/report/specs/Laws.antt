@@ -1,0 +1,8 @@
+-- Laws on the text of a sheet.
+--
+--   Rows      the lines of rows, as the loop writes them
+--   Tables    the text of a table, and of what the table call answers
+--   Sheets    the text of a sheet
+pub mod Rows
+pub mod Tables
+pub mod Sheets

@@ -1,0 +1,11 @@
+-- What is printed of a sheet.
+--
+--   Report      the text of a sheet
+--   Ready       what the inner functions ask
+--   Written     what the loop over the rows writes
+--   Examples    the text of the rules' example, computed from the bytes of its sheet
+--   Laws        laws on texts of sheets
+pub mod Report
+pub mod Ready
+pub mod Written
+pub mod Laws
