@@ -2,11 +2,12 @@
 --
 -- Whatever readings and marks the table call accepts, and whatever the slices held that it is lent to write.
 --
---   AddsUp p readings f          what is claimed of the figures
+--   totalNumerator p readings    the total
+--   AddsUp p readings f          what is claimed of the figures f
 --   NoneBeyond p readings f      no number of the table exceeds the limit
 --   TableAddsUp, table-adds-up   THE CLAIM, and its proof
 use mathlib.Core.Path.{_≡_, refl, _∙_}
-use mathlib.Core.Bool.{cond}
+use mathlib.Core.Bool.{Bool, cond}
 use mathlib.Core.List.{List}
 use Prim.Native.Nat.{ℕ, _+_, _*_, _<_, _≤_}
 use native.Mathlib.Omega.{arith}
@@ -18,7 +19,7 @@ use Rattle.algebra.specs.Tab.{getD-tab}
 use Rattle.contrasts.specs.Columns.{read, totalsOf}
 use Rattle.contrasts.specs.Limits.{numeratorLimit}
 use Rattle.contrasts.specs.Rows.{degreesOf, rowNumerator}
-use Rattle.contrasts.specs.Totals.{total, denominator, squared}
+use Rattle.contrasts.specs.Totals.{total, denominator, numerator, squared}
 use Rattle.contrasts.specs.Laws.CheckSum.{check-rounds}
 use Rattle.plan.specs.declared.types.Plan.{Plan}
 use Rattle.plan.specs.Plan.{factorsOf, runsOf}
@@ -28,19 +29,15 @@ use Rattle.anova.specs.declared.types.Figures.{Figures}
 use Rattle.anova.specs.Ready.{TableReady}
 use Rattle.anova.specs.Table.{tableNumber, sourceOf, totalSource, checksOf, tableFigures, rowsOf}
 use Rattle.anova.specs.Laws.Admitted.{table-admitted}
-use Rattle.anova.specs.Laws.Within.{SourceWithin, all-rows, all-degrees, fit, row-within, kind-within, total-source-within, total-within-limit, checks-within}
+use Rattle.anova.specs.Laws.Within.{SourceWithin, all-rows, all-degrees, fit, some-within, row-within, kind-within, total-source-within, total-within-limit, checks-within}
 
--- "denominator times the sum of squared readings"
-abbrev pub whole : Plan → List ℤ → ℕ
-whole p readings = denominator (factorsOf p) * squared (factorsOf p) (read readings)
-
--- the figures that the call promises to answer
-abbrev pub figures : Plan → List ℤ → List ℕ → Figures
-figures p readings marks = tableFigures p readings marks
+-- "the total (denominator times the sum of squared readings)"
+abbrev pub totalNumerator : Plan → List ℤ → ℕ
+totalNumerator p readings = denominator (factorsOf p) * squared (factorsOf p) (read readings)
 
 pub record AddsUp (p : Plan) (readings : List ℤ) (f : Figures) : Type 0 where
-  pub numerators : f .mean .numerator + f .kept .numerator + f .blocks .numerator + f .error .numerator ≡ whole p readings
-  pub total : f .total .numerator ≡ whole p readings
+  pub numerators : f .mean .numerator + f .kept .numerator + f .blocks .numerator + f .error .numerator ≡ totalNumerator p readings
+  pub total : f .total .numerator ≡ totalNumerator p readings
   -- "The degrees of mean, kept effects, blocks and error add up to the total's", which are N
   pub degrees : f .mean .degrees + f .kept .degrees + f .blocks .degrees + f .error .degrees ≡ f .total .degrees
   pub total-degrees : f .total .degrees ≡ runsOf p
@@ -49,6 +46,9 @@ pub record AddsUp (p : Plan) (readings : List ℤ) (f : Figures) : Type 0 where
 -- "No numerator, and no sum of them in one table, exceeds 340,122,240,000,000,000"; nor does any other number of the table in size
 pub record NoneBeyond (p : Plan) (readings : List ℤ) (f : Figures) : Type 0 where
   pub totals : (e : ℕ) → e < runsOf p → natAbs (read (totalsOf (factorsOf p) readings) e) ≤ numeratorLimit
+  -- any sum of some of the first n effects' numerators, and so each of them
+  pub some-numerators : (n : ℕ) (some : ℕ → Bool) → n ≤ runsOf p
+      → Σℕ n (λ e. cond (some e) (numerator (factorsOf p) (read readings) e) 0) ≤ numeratorLimit
   pub rows : (w : ℕ) → w < rowsIn p → getD (rowsOf p readings) w 0 ≤ numeratorLimit
   pub denominator : f .denominator ≤ numeratorLimit
   pub mean : SourceWithin (f .mean)
@@ -62,7 +62,7 @@ abbrev pub TableAddsUp : Type 0
 TableAddsUp =
     (p : Plan) (readings : List ℤ) (marks : List ℕ) (totals : List ℤ) (rows : List ℕ)
     → tableNumber p readings marks totals rows ≡ 0
-    → AddsUp p readings (figures p readings marks) × NoneBeyond p readings (figures p readings marks)
+    → AddsUp p readings (tableFigures p readings marks) × NoneBeyond p readings (tableFigures p readings marks)
 
 -- ---- the proof
 
@@ -74,7 +74,7 @@ unfolding Σℕ
 four r kind g h = omega (arith, Σℕ-by r 4 kind g (λ w _. h w))
 
 module _ {p : Plan} {readings : List ℤ} {marks : List ℕ} {totals : List ℤ} {rows : List ℕ} (a : TableReady p readings marks totals rows) where
-  adds-up : AddsUp p readings (figures p readings marks)
+  adds-up : AddsUp p readings (tableFigures p readings marks)
   unfolding tableFigures sourceOf totalSource checksOf
   adds-up =
       record {
@@ -85,11 +85,12 @@ module _ {p : Plan} {readings : List ℤ} {marks : List ℕ} {totals : List ℤ}
         checks = check-rounds (factorsOf p) (read readings);
       }
 
-  none-beyond : NoneBeyond p readings (figures p readings marks)
+  none-beyond : NoneBeyond p readings (tableFigures p readings marks)
   unfolding tableFigures totalsOf rowsOf
   none-beyond =
       record {
         totals = λ e h. rw (getD-tab (pos 0) (runsOf p) (total (factorsOf p) (read readings)) e h) (total-within-limit a e h);
+        some-numerators = some-within a;
         rows = λ w h. rw (getD-tab 0 (rowsIn p) (rowNumerator (factorsOf p) (read readings)) w h) (row-within a w);
         denominator = fit a .0;
         mean = kind-within a 2;
