@@ -1,6 +1,7 @@
 -- The table call: its number, its figures, and the columns that it leaves.
 --
 --   wrongLengths               line 11, of all four slices
+--   tableLines                 the lines of the call besides those of the plan
 --   tableNumber                the lowest number that applies, 0 where the table is made
 --   sourceOf p xs marks c      degrees and numerator of the rows of one kind
 --   totalSource p xs           those of the total
@@ -25,7 +26,7 @@ use Rattle.contrasts.specs.Rows.{degreesOf, rowNumerator}
 use Rattle.contrasts.specs.Totals.{total, denominator, squared, rounds}
 use Rattle.plan.specs.declared.types.Plan.{Plan}
 use Rattle.plan.specs.Check.{withPlan}
-use Rattle.plan.specs.Outcome.{line, Outcome, given, refused, written}
+use Rattle.plan.specs.Outcome.{Line, line, Outcome, given, refused, written}
 use Rattle.plan.specs.Plan.{factorsOf, runsOf}
 use Rattle.columns.specs.Lines.{wrongLength, anyBeyond}
 use Rattle.rows.specs.Kinds.{rowsIn, wrongRows, keptKind, errorKind, meanKind, blocksKind, kindOf, badMarks}
@@ -43,13 +44,15 @@ unfoldable pub wrongLengths : Plan → ℕ → ℕ → ℕ → ℕ → Bool
 wrongLengths p readings marks totals rows = wrongLength p readings || (wrongLength p totals || (wrongRows p rows || wrongRows p marks))
 
 -- "the table 11, 12, 13", after the plan's own numbers
-unfoldable pub tableNumber : Plan → List ℤ → List ℕ → List ℤ → List ℕ → ℕ
-tableNumber p readings marks totals rows =
-    withPlan p
-    (line 11 (wrongLengths p (length readings) (length marks) (length totals) (length rows))
+abbrev pub tableLines : Plan → List ℤ → List ℕ → List ℤ → List ℕ → List Line
+tableLines p readings marks totals rows =
+    line 11 (wrongLengths p (length readings) (length marks) (length totals) (length rows))
     ∷ line 12 (anyBeyond readingLimit readings)
     ∷ line 13 (badMarks p marks)
-    ∷ [])
+    ∷ []
+
+unfoldable pub tableNumber : Plan → List ℤ → List ℕ → List ℤ → List ℕ → ℕ
+tableNumber p readings marks totals rows = withPlan p (tableLines p readings marks totals rows)
 
 -- ---- the figures
 

@@ -2,64 +2,53 @@
 --
 -- Whatever readings and marks the table call accepts, and whatever the slices held that it is lent to write.
 --
---   AddsUp p readings f          what is claimed of the figures
---   SourceWithin, NoneBeyond     no number of the table exceeds the limit
+--   totalNumerator p readings    the total
+--   AddsUp p readings f          what is claimed of the figures f
+--   NoneBeyond p readings f      no number of the table exceeds the limit
 --   TableAddsUp, table-adds-up   THE CLAIM, and its proof
 use mathlib.Core.Path.{_≡_, refl, _∙_}
-use mathlib.Core.Bool.{cond}
+use mathlib.Core.Bool.{Bool, cond}
 use mathlib.Core.List.{List}
-use Prim.Native.Nat.{ℕ, _+_, _*_, _^_, _<_, _≤_}
-use native.Mathlib.Nat.{le-trans}
+use Prim.Native.Nat.{ℕ, _+_, _*_, _<_, _≤_}
 use native.Mathlib.Omega.{arith}
 use lib.Dec.{eqb}
 use lib.IntN.{ℤ, pos, natAbs}
-use lib.ListN.{length, getD}
-use Rattle.algebra.specs.Naturals.{Σℕ, Σℕ-by, Σℕ-some}
-use Rattle.algebra.specs.Sorted.{sumAt, sum-least}
+use lib.ListN.{getD}
+use Rattle.algebra.specs.Naturals.{Σℕ, Σℕ-by}
 use Rattle.algebra.specs.Tab.{getD-tab}
 use Rattle.contrasts.specs.Columns.{read, totalsOf}
 use Rattle.contrasts.specs.Limits.{numeratorLimit}
-use Rattle.contrasts.specs.Rows.{rowOf, degreesOf, rowNumerator}
-use Rattle.contrasts.specs.Tables.{ofLevels}
-use Rattle.contrasts.specs.Totals.{total, denominator, numerator, squared, rounds}
+use Rattle.contrasts.specs.Rows.{degreesOf, rowNumerator}
+use Rattle.contrasts.specs.Totals.{total, denominator, numerator, squared}
 use Rattle.contrasts.specs.Laws.CheckSum.{check-rounds}
-use Rattle.contrasts.specs.Laws.Degrees.{row-lt, degrees-sum}
-use Rattle.contrasts.specs.Laws.Limits.{sizes-fit}
-use Rattle.contrasts.specs.Laws.Squares.{numerators, total-within, check-within}
 use Rattle.plan.specs.declared.types.Plan.{Plan}
 use Rattle.plan.specs.Plan.{factorsOf, runsOf}
-use Rattle.plan.specs.Laws.Sizes.{plan-within}
 use Rattle.rows.specs.Kinds.{rowsIn, kindOf}
 use Rattle.rows.specs.Laws.{four-kinds}
-use Rattle.anova.specs.declared.types.Source.{Source}
 use Rattle.anova.specs.declared.types.Figures.{Figures}
 use Rattle.anova.specs.Ready.{TableReady}
 use Rattle.anova.specs.Table.{tableNumber, sourceOf, totalSource, checksOf, tableFigures, rowsOf}
-use Rattle.anova.specs.Laws.Admitted.{table-admitted, rows-power, within-limit}
+use Rattle.anova.specs.Laws.Admitted.{table-admitted}
+use Rattle.anova.specs.Laws.Within.{SourceWithin, all-rows, all-degrees, fit, some-within, row-within, kind-within, total-source-within, total-within-limit, checks-within}
 
--- "denominator times the sum of squared readings"
-abbrev pub whole : Plan → List ℤ → ℕ
-whole p readings = denominator (factorsOf p) * squared (factorsOf p) (read readings)
-
--- the figures that the call promises to answer
-abbrev pub figures : Plan → List ℤ → List ℕ → Figures
-figures p readings marks = tableFigures p readings marks
+-- "the total (denominator times the sum of squared readings)"
+abbrev pub totalNumerator : Plan → List ℤ → ℕ
+totalNumerator p readings = denominator (factorsOf p) * squared (factorsOf p) (read readings)
 
 pub record AddsUp (p : Plan) (readings : List ℤ) (f : Figures) : Type 0 where
-  pub numerators : f .mean .numerator + f .kept .numerator + f .blocks .numerator + f .error .numerator ≡ whole p readings
-  pub total : f .total .numerator ≡ whole p readings
+  pub numerators : f .mean .numerator + f .kept .numerator + f .blocks .numerator + f .error .numerator ≡ totalNumerator p readings
+  pub total : f .total .numerator ≡ totalNumerator p readings
   -- "The degrees of mean, kept effects, blocks and error add up to the total's", which are N
   pub degrees : f .mean .degrees + f .kept .degrees + f .blocks .degrees + f .error .degrees ≡ f .total .degrees
   pub total-degrees : f .total .degrees ≡ runsOf p
   pub checks : f .checks .totals ≡ f .checks .readings
 
 -- "No numerator, and no sum of them in one table, exceeds 340,122,240,000,000,000"; nor does any other number of the table in size
-pub record SourceWithin (s : Source) : Type 0 where
-  pub degrees : s .degrees ≤ numeratorLimit
-  pub numerator : s .numerator ≤ numeratorLimit
-
 pub record NoneBeyond (p : Plan) (readings : List ℤ) (f : Figures) : Type 0 where
   pub totals : (e : ℕ) → e < runsOf p → natAbs (read (totalsOf (factorsOf p) readings) e) ≤ numeratorLimit
+  -- any sum of some of the first n effects' numerators, and so each of them
+  pub some-numerators : (n : ℕ) (some : ℕ → Bool) → n ≤ runsOf p
+      → Σℕ n (λ e. cond (some e) (numerator (factorsOf p) (read readings) e) 0) ≤ numeratorLimit
   pub rows : (w : ℕ) → w < rowsIn p → getD (rowsOf p readings) w 0 ≤ numeratorLimit
   pub denominator : f .denominator ≤ numeratorLimit
   pub mean : SourceWithin (f .mean)
@@ -73,7 +62,7 @@ abbrev pub TableAddsUp : Type 0
 TableAddsUp =
     (p : Plan) (readings : List ℤ) (marks : List ℕ) (totals : List ℤ) (rows : List ℕ)
     → tableNumber p readings marks totals rows ≡ 0
-    → AddsUp p readings (figures p readings marks) × NoneBeyond p readings (figures p readings marks)
+    → AddsUp p readings (tableFigures p readings marks) × NoneBeyond p readings (tableFigures p readings marks)
 
 -- ---- the proof
 
@@ -85,61 +74,32 @@ unfolding Σℕ
 four r kind g h = omega (arith, Σℕ-by r 4 kind g (λ w _. h w))
 
 module _ {p : Plan} {readings : List ℤ} {marks : List ℕ} {totals : List ℤ} {rows : List ℕ} (a : TableReady p readings marks totals rows) where
-  all-rows : Σℕ (rowsIn p) (rowNumerator (factorsOf p) (read readings)) ≡ whole p readings
-  unfolding sumAt
-  all-rows =
-      (rw (rows-power a) at (Σℕ-by (runsOf p) (2 ^ length (factorsOf p)) (rowOf (factorsOf p)) (numerator (factorsOf p) (read readings)) (λ e _. row-lt (factorsOf p) e)))
-      ∙ numerators (factorsOf p) (read readings)
-
-  all-degrees : Σℕ (rowsIn p) (degreesOf (factorsOf p)) ≡ runsOf p
-  all-degrees = rw (rows-power a) at (degrees-sum (factorsOf p))
-
-  adds-up : AddsUp p readings (figures p readings marks)
+  adds-up : AddsUp p readings (tableFigures p readings marks)
   unfolding tableFigures sourceOf totalSource checksOf
   adds-up =
       record {
-        numerators = four (rowsIn p) (kindOf p marks) (rowNumerator (factorsOf p) (read readings)) (four-kinds p marks) ∙ all-rows;
+        numerators = four (rowsIn p) (kindOf p marks) (rowNumerator (factorsOf p) (read readings)) (four-kinds p marks) ∙ all-rows a;
         total = refl;
-        degrees = four (rowsIn p) (kindOf p marks) (degreesOf (factorsOf p)) (four-kinds p marks) ∙ all-degrees;
+        degrees = four (rowsIn p) (kindOf p marks) (degreesOf (factorsOf p)) (four-kinds p marks) ∙ all-degrees a;
         total-degrees = refl;
         checks = check-rounds (factorsOf p) (read readings);
       }
 
-  -- the denominator and the number of runs
-  fit : (denominator (factorsOf p) ≤ numeratorLimit) × (runsOf p ≤ numeratorLimit)
-  unfolding factorsOf
-  fit = sizes-fit (ofLevels (p .levels)) (p .k) (plan-within p (a .plan))
-
-  kind-within : (c : ℕ) → SourceWithin (sourceOf p readings marks c)
-  unfolding sourceOf
-  kind-within c =
-      record {
-        degrees = le-trans (Σℕ-some (rowsIn p) (rowsIn p) (λ w. eqb (kindOf p marks w) c) (degreesOf (factorsOf p)) (omega arith)) (rw all-degrees (fit .1));
-        numerator = le-trans (Σℕ-some (rowsIn p) (rowsIn p) (λ w. eqb (kindOf p marks w) c) (rowNumerator (factorsOf p) (read readings)) (omega arith)) (rw all-rows (within-limit a));
-      }
-
-  check-small : natAbs (rounds (factorsOf p) (read readings)) ≤ numeratorLimit
-  check-small = rw (← (check-rounds (factorsOf p) (read readings))) (le-trans (check-within (factorsOf p) (read readings)) (within-limit a))
-
-  none-beyond : NoneBeyond p readings (figures p readings marks)
-  unfolding tableFigures totalSource checksOf totalsOf rowsOf
+  none-beyond : NoneBeyond p readings (tableFigures p readings marks)
+  unfolding tableFigures totalsOf rowsOf
   none-beyond =
       record {
-        totals = λ e h. rw (getD-tab (pos 0) (runsOf p) (total (factorsOf p) (read readings)) e h) (le-trans (total-within (factorsOf p) (read readings) e h) (within-limit a));
-        rows = λ w h. rw (getD-tab 0 (rowsIn p) (rowNumerator (factorsOf p) (read readings)) w h) (row-within w);
-        denominator = fit .0;
-        mean = kind-within 2;
-        kept = kind-within 0;
-        blocks = kind-within 3;
-        error = kind-within 1;
-        total = record { degrees = fit .1; numerator = within-limit a };
-        checks = (le-trans (check-within (factorsOf p) (read readings)) (within-limit a), check-small);
+        totals = λ e h. rw (getD-tab (pos 0) (runsOf p) (total (factorsOf p) (read readings)) e h) (total-within-limit a e h);
+        some-numerators = some-within a;
+        rows = λ w h. rw (getD-tab 0 (rowsIn p) (rowNumerator (factorsOf p) (read readings)) w h) (row-within a w);
+        denominator = fit a .0;
+        mean = kind-within a 2;
+        kept = kind-within a 0;
+        blocks = kind-within a 3;
+        error = kind-within a 1;
+        total = total-source-within a;
+        checks = checks-within a;
       }
-    where
-      row-within : (w : ℕ) → rowNumerator (factorsOf p) (read readings) w ≤ numeratorLimit
-      row-within w =
-          le-trans (rw (numerators (factorsOf p) (read readings)) at (sum-least (rowOf (factorsOf p)) (numerator (factorsOf p) (read readings)) (runsOf p) (runsOf p) w (omega arith)))
-          (within-limit a)
 
 pub table-adds-up : TableAddsUp
 table-adds-up p readings marks totals rows e =

@@ -3,7 +3,7 @@
 --   wrongLength p n               line 11: a column of n places is not N long
 --   isBeyond, anyBeyond limit xs  line 12: a value beyond a limit, and a column that has one
 --   lengthsNumber p m n           the lowest number of a call that reads a column of m places and writes one of n, by these lengths
---   columnsNumber limit p xs ys   and of one that reads the column xs and writes the column ys
+--   columnsLines, columnsNumber limit p xs ys   its lines besides those of the plan, and its lowest number, where it reads the column xs and writes ys
 --   answerOutcome                 the cases of the answer
 use mathlib.Core.Bool.{Bool, not, _||_}
 use mathlib.Core.List.{List, [], _∷_}
@@ -15,7 +15,7 @@ use Rattle.algebra.specs.Search.{some}
 use Rattle.contrasts.specs.Columns.{read}
 use Rattle.plan.specs.declared.types.Plan.{Plan}
 use Rattle.plan.specs.Check.{withPlan}
-use Rattle.plan.specs.Outcome.{line, Outcome, given, refused}
+use Rattle.plan.specs.Outcome.{Line, line, Outcome, given, refused}
 use Rattle.plan.specs.Plan.{runsOf}
 use Rattle.columns.specs.declared.types.Answer.{Answer}
 use Rattle.columns.specs.declared.types.Answer.the-variants.{Done, Refused}
@@ -36,8 +36,11 @@ unfoldable pub lengthsNumber : Plan → ℕ → ℕ → ℕ
 lengthsNumber p m n = withPlan p (line 11 (wrongLength p m || wrongLength p n) ∷ [])
 
 -- and by the values that it reads; the column that it writes may hold any
+abbrev pub columnsLines : ℕ → Plan → List ℤ → List ℤ → List Line
+columnsLines limit p xs ys = line 11 (wrongLength p (length xs) || wrongLength p (length ys)) ∷ line 12 (anyBeyond limit xs) ∷ []
+
 unfoldable pub columnsNumber : ℕ → Plan → List ℤ → List ℤ → ℕ
-columnsNumber limit p xs ys = withPlan p (line 11 (wrongLength p (length xs) || wrongLength p (length ys)) ∷ line 12 (anyBeyond limit xs) ∷ [])
+columnsNumber limit p xs ys = withPlan p (columnsLines limit p xs ys)
 
 -- what a call makes is in the column, so the answer has no values
 abbrev pub answerOutcome : Answer → Outcome Unit

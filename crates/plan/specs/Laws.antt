@@ -4,6 +4,7 @@
 --   Accepted       what is known of a plan that is accepted
 --   Accepts        that this is all that acceptance asks
 --   Answers        the answers of calls that take a plan
+--   Lowest         the number of a call is the lowest that applies
 --   Confounded     the confounded effects of an accepted plan
 --   Sizes          the factors and the runs of an accepted plan
 --   Alike          places beyond the counts are ignored
@@ -11,6 +12,7 @@ pub mod Combinations
 pub mod Accepted
 pub mod Accepts
 pub mod Answers
+pub mod Lowest
 pub mod Confounded
 pub mod Sizes
 pub mod Alike

@@ -1,5 +1,6 @@
 -- The number of a sheet, and what the two calls give.
 --
+--   sheetLines fs p narrow                  the lines besides line 1 and those of the plan
 --   numberWith fs p narrow                  the lowest number of a sheet whose plan is p, 0 where it is accepted
 --   sheetNumber fs narrow                   of a sheet
 --   noPlan                                  the plan of all zeros
@@ -14,7 +15,7 @@ use lib.ListN.{length, drop, replicate}
 use Rattle.contrasts.specs.Limits.{readingLimit}
 use Rattle.plan.specs.declared.types.Plan.{Plan}
 use Rattle.plan.specs.Check.{withPlan}
-use Rattle.plan.specs.Outcome.{line, written}
+use Rattle.plan.specs.Outcome.{Line, line, written}
 use Rattle.plan.specs.Plan.{runsOf}
 use Rattle.columns.specs.Lines.{wrongLength, anyBeyond}
 use Rattle.rows.specs.Kinds.{wrongRows, badMarks}
@@ -24,19 +25,17 @@ use Rattle.contents.specs.Contents.{planIn, readingsIn, marksIn}
 
 -- ---- what is refused
 
--- line 1 before all others, then the plan's own numbers, then
 -- 11: "readings [..] or marks not N, [..] R long; [..] reader's column under N", where `narrow` says the last
-unfoldable pub numberWith : Fields → Plan → Bool → ℕ
-numberWith fs p narrow =
-    cond
-    (badFields fs)
-    1
-    (withPlan
-    p
-    (line 11 (narrow || (wrongLength p (length (readingsIn fs)) || wrongRows p (length (marksIn fs))))
+abbrev pub sheetLines : Fields → Plan → Bool → List Line
+sheetLines fs p narrow =
+    line 11 (narrow || (wrongLength p (length (readingsIn fs)) || wrongRows p (length (marksIn fs))))
     ∷ line 12 (anyBeyond readingLimit (readingsIn fs))
     ∷ line 13 (badMarks p (marksIn fs))
-    ∷ []))
+    ∷ []
+
+-- line 1 before all others, then the plan's own numbers, then these
+unfoldable pub numberWith : Fields → Plan → Bool → ℕ
+numberWith fs p narrow = cond (badFields fs) 1 (withPlan p (sheetLines fs p narrow))
 
 abbrev pub sheetNumber : Fields → Bool → ℕ
 sheetNumber fs narrow = numberWith fs (planIn fs) narrow

@@ -1,5 +1,6 @@
 -- The step call: its number, and the column that it leaves.
 --
+--   stepLines p from to     the lines of the call besides those of the plan
 --   stepNumber p from to    the lowest number that applies, 0 where the step is done
 --   stepColumn p from to    the written column at exit
 use mathlib.Core.List.{List}
@@ -9,11 +10,14 @@ use Rattle.contrasts.specs.Columns.{stepOf}
 use Rattle.contrasts.specs.Limits.{valueLimit}
 use Rattle.contrasts.specs.Tables.{ofLevels}
 use Rattle.plan.specs.declared.types.Plan.{Plan}
-use Rattle.plan.specs.Outcome.{written}
+use Rattle.plan.specs.Outcome.{Line, written}
 use Rattle.plan.specs.Plan.{runsOf}
-use Rattle.columns.specs.Lines.{columnsNumber}
+use Rattle.columns.specs.Lines.{columnsLines, columnsNumber}
 
 -- 11: "pass or step column not N"; 12: "pass or step value beyond 409,600,000 either way"
+abbrev pub stepLines : Plan → List ℤ → List ℤ → List Line
+stepLines p from to = columnsLines valueLimit p from to
+
 abbrev pub stepNumber : Plan → List ℤ → List ℤ → ℕ
 stepNumber p from to = columnsNumber valueLimit p from to
 
