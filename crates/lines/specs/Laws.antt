@@ -3,21 +3,25 @@
 --   next-value                                       a value after a space
 --   mean-label, letters-label                        the label of a row
 --   error-text, blocks-text, no-text                 what a row is marked as
+--   named-long, source-long, check-long, row-long    how long lines are at the most
 --   named-made, source-made, check-made, row-made    the lines
 use mathlib.Core.Path.{_≡_, refl, sym, ap, _∙_}
 use mathlib.Core.Bool.{Bool, true, false, cond}
 use mathlib.Core.List.{List, [], _∷_, _++_}
-use Prim.Native.Nat.{ℕ}
+use Prim.Native.Nat.{ℕ, _+_, _≤_}
+use native.Mathlib.Nat.{le-refl}
+use native.Mathlib.Omega.{arith}
 use borrow.Author.Tests.{eq-eqb, ne-eqb}
 use lib.Dec.{eqb}
 use lib.IntN.{ℤ}
+use lib.ListN.{length, length-append}
 use mir.Syntax.{w64}
 use mir.Val.{SFits}
 use Rattle.algebra.specs.Size.{wrap}
 use Rattle.text.specs.Text.{ascii, Wrote}
 use Rattle.text.specs.Fields.{lettersOf, decimal, signed}
-use Rattle.text.specs.Laws.Decimal.{signed-kept}
-use Rattle.text.specs.Laws.Writing.{nothing, then, retext}
+use Rattle.text.specs.Laws.Decimal.{signed-kept, decimal-long, signed-long}
+use Rattle.text.specs.Laws.Writing.{nothing, then, retext, letters-long}
 use Rattle.lines.specs.Lines.{space, newline, lineOf, labelOf, kindWords, rowLine, namedLine, sourceLine, checkLine}
 use Rattle.lines.specs.Written.{kindText}
 
@@ -88,3 +92,53 @@ module _ {a b c d e : List ℕ} {at p q r s : ℕ} where
   unfolding rowLine lineOf
   row-made w m n k u v x y z =
       retext (ap (λ l. labelOf w ++ (space ∷ (decimal m ++ (space ∷ l)))) (ends-with k (decimal n))) (then u (then v (then x (then y z))))
+
+-- ---- how long they are
+
+-- a field, a space and what follows
+joined : (f rest : List ℕ) {m n : ℕ} → length f ≤ m → length rest ≤ n → length (f ++ (space ∷ rest)) ≤ m + n + 1
+joined f rest h k = rw (length-append f (space ∷ rest)) (omega (arith, h, k))
+
+ended : (f : List ℕ) {m : ℕ} → length f ≤ m → length (f ++ (newline ∷ [])) ≤ m + 1
+ended f h = rw (length-append f (newline ∷ [])) (omega (arith, h))
+
+pub named-long : (name : List ℕ) (n : ℕ) → length (namedLine name n) ≤ length name + 22
+unfolding namedLine lineOf
+named-long name n = omega (arith, joined name (decimal n ++ (newline ∷ [])) (le-refl (length name)) (ended (decimal n) (decimal-long n)))
+
+pub source-long : (name : List ℕ) (m n : ℕ) → length (sourceLine name m n) ≤ length name + 43
+unfolding sourceLine lineOf
+source-long name m n =
+    omega (arith, joined name (decimal m ++ (space ∷ (decimal n ++ (newline ∷ [])))) (le-refl (length name))
+    (joined (decimal m) (decimal n ++ (newline ∷ [])) (decimal-long m) (ended (decimal n) (decimal-long n))))
+
+pub check-long : (x y : ℤ) → length (checkLine x y) ≤ 50
+unfolding checkLine lineOf
+check-long x y =
+    omega (arith, joined (ascii "check") (signed x ++ (space ∷ (signed y ++ (newline ∷ [])))) (le-refl 5)
+    (joined (signed x) (signed y ++ (newline ∷ [])) (signed-long x) (ended (signed y) (signed-long y))))
+
+label-long : (w : ℕ) → length (labelOf w) ≤ 16
+unfolding labelOf
+label-long w = by (eqb w 0)
+  where
+    by : (b : Bool) → length (cond b (ascii "mean") (lettersOf w)) ≤ 16
+    by true = omega arith
+    by false = letters-long w
+
+kind-long : (c : ℕ) → length (kindText c) ≤ 7
+unfolding kindText
+kind-long c = by (eqb c 1) (eqb c 3)
+  where
+    by : (e f : Bool) → length (cond e (ascii " error") (cond f (ascii " blocks") [])) ≤ 7
+    by true f = omega arith
+    by false true = omega arith
+    by false false = omega arith
+
+pub row-long : (w m n c : ℕ) → length (rowLine w m n c) ≤ 66
+unfolding rowLine lineOf
+row-long w m n c =
+    let last : length (lineOf (decimal n ∷ kindWords c)) ≤ 28 =
+    rw (← (ends-with c (decimal n)), length-append (decimal n) (kindText c ++ (newline ∷ []))) (omega (arith, decimal-long n, ended (kindText c) (kind-long c))) in
+    omega (arith, joined (labelOf w) (decimal m ++ (space ∷ lineOf (decimal n ∷ kindWords c))) (label-long w)
+    (joined (decimal m) (lineOf (decimal n ∷ kindWords c)) (decimal-long m) last))

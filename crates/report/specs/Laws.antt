@@ -2,7 +2,9 @@
 --
 --   Rows      the lines of rows, as the loop writes them
 --   Tables    the text of a table, and of what the table call answers
---   Sheets    the text of a sheet
+--   Sheets    the text of a sheet, whatever its length
+--   Lengths   how long texts are, and the text of a sheet
 pub mod Rows
 pub mod Tables
 pub mod Sheets
+pub mod Lengths

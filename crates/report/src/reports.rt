@@ -23,7 +23,7 @@ const MOST: usize = 1024;
 // The most bytes of a sheet, and of a text.
 const LONGEST: usize = 5187;
 
-pub const TEXT: usize = 65536;
+pub const TEXT: usize = 69632;
 
 // The table of an accepted sheet. The readings are the first of the column.
 fn lend(text: &mut [u8], p: Plan, column: &[i32], marks: &[u8]) -> usize

@@ -2,7 +2,6 @@
 --
 --   sheet-ready                          of an accepted sheet all that the table asks is known
 --   sheet-made, sheet-stopped            the text of an accepted sheet, and of one that is refused
---   too-long, long-enough                with the length of the sheet
 use mathlib.Core.Path.{_≡_, refl, sym, ap, _∙_}
 use mathlib.Core.List.{List, [], _++_}
 use Prim.Native.Nat.{ℕ, _<_, _≤_}

@@ -4,7 +4,7 @@
 --   few-digits, more-digits       a number below 10 is written as its digit, and one from 10 on as its tenth part and its last digit
 --   signed-below, signed-above    a value below 0, as code holds it, and one that is not
 --   signed-kept                   a value as code holds it is that value
---   decimal-long                  how many digits a number has at the most
+--   decimal-long, signed-long     no number has over 20 digits, and no value over 21 bytes
 use mathlib.Core.Path.{_≡_, refl, sym, ap, _∙_, subst}
 use mathlib.Core.Bool.{true, false, cond}
 use mathlib.Core.List.{List, [], _∷_, _++_}
@@ -80,12 +80,20 @@ module _ {a b : List ℕ} {at next : ℕ} {z : ℤ} (f : SFits w64 z) where
 pub signed-kept : {z : ℤ} → SFits w64 z → signed (wrap z) ≡ signed z
 signed-kept f = ap signed (toZ-ofZ f)
 
-pub decimal-long : (g f n : ℕ) → n < 10 ^ suc f → length (decimalIn g n) ≤ suc f
+-- ---- how long they are
+
+decimal-in : (f n : ℕ) → length (decimalIn f n) ≤ suc f
 unfolding decimalIn
-decimal-long zero f n h = omega arith
-decimal-long (suc g) zero n h = rw (few (suc g) n h) (omega arith)
-decimal-long (suc g) (suc f) n h = by (decLt n 10) (decimal-long g f (n / 10) (tenth (suc f) n h))
+decimal-in zero n = omega arith
+decimal-in (suc f) n = by (decLt n 10) (decimal-in f (n / 10))
   where
-    by : Dec (n < 10) → length (decimalIn g (n / 10)) ≤ suc f → length (decimalIn (suc g) n) ≤ suc (suc f)
-    by (yes l) e = rw (few (suc g) n l) (omega arith)
-    by (no l) e = rw (more g n (omega arith), length-append (decimalIn g (n / 10)) (digit n ∷ [])) (omega (arith, e))
+    by : Dec (n < 10) → length (decimalIn f (n / 10)) ≤ suc f → length (decimalIn (suc f) n) ≤ suc (suc f)
+    by (yes l) e = rw (few (suc f) n l) (omega arith)
+    by (no l) e = rw (more f n (omega arith), length-append (decimalIn f (n / 10)) (digit n ∷ [])) (omega (arith, e))
+
+pub decimal-long : (n : ℕ) → length (decimal n) ≤ 20
+decimal-long n = decimal-in 19 n
+
+pub signed-long : (z : ℤ) → length (signed z) ≤ 21
+signed-long (pos n) = omega (arith, decimal-long n)
+signed-long (negsuc n) = omega (arith, decimal-long (suc n))

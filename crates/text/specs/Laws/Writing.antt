@@ -6,13 +6,14 @@
 --   retext               the same text, written otherwise
 --   with-letter, without-letter             a letter that a word has, and one that it has not
 --   no-letters, letter-more, all-letters    the letters of a word: none yet, one more, all
+--   letters-long         they are at most 16
 --   part-more            the bytes of a part, and one byte more
 --   same-size            a text leaves the buffer's length
 --   from-start           a text from the first place on, for which there is room
 use mathlib.Core.Path.{_≡_, refl, sym, ap, _∙_, subst}
-use mathlib.Core.Bool.{true, false}
+use mathlib.Core.Bool.{Bool, true, false, cond}
 use mathlib.Core.List.{List, [], _∷_, _++_}
-use Prim.Native.Nat.{ℕ, suc, min, _+_, _-_, _<_, _≤_}
+use Prim.Native.Nat.{ℕ, zero, suc, min, _+_, _-_, _<_, _≤_}
 use native.Mathlib.Decide.{decLe}
 use native.Mathlib.Nat.{add-zero, zero-add, add-suc, suc-add}
 use native.Mathlib.Numerals.{add-one}
@@ -78,6 +79,18 @@ no-letters a at w = nothing a at
 
 pub all-letters : {a b : List ℕ} {at next i : ℕ} (w : ℕ) → i ≡ 16 → Wrote a at (lettersIn i w) b next → Wrote a at (lettersOf w) b next
 all-letters w e f = retext (ap (λ n. lettersIn n w) e) f
+
+letters-in : (n w : ℕ) → length (lettersIn n w) ≤ n
+unfolding lettersIn letterOf
+letters-in zero w = omega arith
+letters-in (suc i) w = rw (length-append (lettersIn i w) (cond (has w i) ((65 + i) ∷ []) [])) (omega (arith, letters-in i w, one (has w i)))
+  where
+    one : (b : Bool) → length (cond b ((65 + i) ∷ []) []) ≤ 1
+    one true = omega arith
+    one false = omega arith
+
+pub letters-long : (w : ℕ) → length (lettersOf w) ≤ 16
+letters-long w = letters-in 16 w
 
 pub letter-more : {a b c : List ℕ} {at next last : ℕ} (w i : ℕ) → Wrote a at (lettersIn i w) b next → Wrote b next (letterOf w i) c last
     → Wrote a at (lettersIn (i + 1) w) c last
