@@ -7,7 +7,7 @@
 --   named-made, source-made, check-made, row-made    the lines
 use mathlib.Core.Path.{_≡_, refl, sym, ap, _∙_}
 use mathlib.Core.Bool.{Bool, true, false, cond}
-use mathlib.Core.List.{List, [], _∷_, _++_}
+use mathlib.Core.List.{List, [], _∷_, _++_, append-assoc}
 use Prim.Native.Nat.{ℕ, _+_, _≤_}
 use native.Mathlib.Nat.{le-refl}
 use native.Mathlib.Omega.{arith}
@@ -74,12 +74,13 @@ module _ {a b c d : List ℕ} {at p q r : ℕ} where
   unfolding namedLine lineOf
   named-made n w x y = then w (then x y)
 
-module _ {a b c d e : List ℕ} {at p q r s : ℕ} where
-  pub source-made : {name : List ℕ} (m n : ℕ) → Wrote a at name b p → Wrote b p (space ∷ decimal m) c q → Wrote c q (space ∷ decimal n) d r
-      → Wrote d r (newline ∷ []) e s → Wrote a at (sourceLine name m n) e s
+  pub source-made : {name : List ℕ} (m n : ℕ) → Wrote a at name b p → Wrote b p ((space ∷ decimal m) ++ (space ∷ decimal n)) c q
+      → Wrote c q (newline ∷ []) d r → Wrote a at (sourceLine name m n) d r
   unfolding sourceLine lineOf
-  source-made m n w x y z = then w (then x (then y z))
+  source-made {name} m n w x y =
+      retext (ap (λ l. name ++ (space ∷ l)) (append-assoc (decimal m) (space ∷ decimal n) (newline ∷ []))) (then w (then x y))
 
+module _ {a b c d e : List ℕ} {at p q r s : ℕ} where
   pub check-made : {x y : ℤ} → SFits w64 x → SFits w64 y → Wrote a at (ascii "check") b p
       → Wrote b p (space ∷ signed (wrap x)) c q → Wrote c q (space ∷ signed (wrap y)) d r → Wrote d r (newline ∷ []) e s
       → Wrote a at (checkLine x y) e s
@@ -87,11 +88,14 @@ module _ {a b c d e : List ℕ} {at p q r s : ℕ} where
   check-made f g w x y z =
       then w (then (retext (ap (λ t. space ∷ t) (signed-kept f)) x) (then (retext (ap (λ t. space ∷ t) (signed-kept g)) y) z))
 
-  pub row-made : {f : List ℕ} {t : ℕ} (w m n k : ℕ) → Wrote a at (labelOf w) b p → Wrote b p (space ∷ decimal m) c q
-      → Wrote c q (space ∷ decimal n) d r → Wrote d r (kindText k) e s → Wrote e s (newline ∷ []) f t → Wrote a at (rowLine w m n k) f t
+  pub row-made : (w m n k : ℕ) → Wrote a at (labelOf w) b p → Wrote b p ((space ∷ decimal m) ++ (space ∷ decimal n)) c q
+      → Wrote c q (kindText k) d r → Wrote d r (newline ∷ []) e s → Wrote a at (rowLine w m n k) e s
   unfolding rowLine lineOf
-  row-made w m n k u v x y z =
-      retext (ap (λ l. labelOf w ++ (space ∷ (decimal m ++ (space ∷ l)))) (ends-with k (decimal n))) (then u (then v (then x (then y z))))
+  row-made w m n k u v x y =
+      retext
+      (ap (λ l. labelOf w ++ (space ∷ l))
+      (append-assoc (decimal m) (space ∷ decimal n) (kindText k ++ (newline ∷ [])) ∙ ap (λ l. decimal m ++ (space ∷ l)) (ends-with k (decimal n))))
+      (then u (then v (then x y)))
 
 -- ---- how long they are
 

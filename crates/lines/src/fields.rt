@@ -1,5 +1,5 @@
 // The fields of a line. All but the first have a space before them.
-ghost use mathlib.Core.List.{_∷_};
+ghost use mathlib.Core.List.{[], _∷_, _++_};
 use text::copy;
 use text::letters;
 use text::number;
@@ -7,7 +7,7 @@ use text::put;
 use text::value;
 ghost use Rattle.text.specs.Text.{Wrote};
 ghost use Rattle.text.specs.Fields.{decimal, signed};
-ghost use Rattle.lines.specs.Lines.{labelOf, space};
+ghost use Rattle.lines.specs.Lines.{space, newline, labelOf};
 ghost use Rattle.lines.specs.Written.{kindText};
 
 const ERROR: u8 = 1;
@@ -31,6 +31,14 @@ pub fn next_number(text: &mut [u8], at: usize, n: u64) -> usize
     number(text, next, n)
 }
 
+// Degrees and numerator.
+pub fn next_pair(text: &mut [u8], at: usize, degrees: u64, numerator: u64) -> usize
+    ensures { λ r. ⌜ Wrote (now (text .entry)) at ((space ∷ decimal degrees) ++ (space ∷ decimal numerator)) (now (text .exit)) r ⌝ }
+{
+    let next = next_number(text, at, degrees);
+    next_number(text, next, numerator)
+}
+
 pub fn next_value(text: &mut [u8], at: usize, x: i64) -> usize
     ensures { λ r. ⌜ Wrote (now (text .entry)) at (space ∷ signed x) (now (text .exit)) r ⌝ }
 {
@@ -49,4 +57,11 @@ pub fn next_kind(text: &mut [u8], at: usize, kind: u8) -> usize
         return copy(text, at, b" blocks");
     }
     at
+}
+
+// The end of a line.
+pub fn end_line(text: &mut [u8], at: usize) -> usize
+    ensures { λ r. ⌜ Wrote (now (text .entry)) at (newline ∷ []) (now (text .exit)) r ⌝ }
+{
+    put(text, at, b'\n')
 }

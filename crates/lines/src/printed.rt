@@ -1,10 +1,11 @@
 // The lines.
+use super::fields::end_line;
 use super::fields::label;
 use super::fields::next_kind;
 use super::fields::next_number;
+use super::fields::next_pair;
 use super::fields::next_value;
 use text::copy;
-use text::put;
 ghost use Rattle.text.specs.Text.{Wrote};
 ghost use Rattle.lines.specs.Lines.{namedLine, sourceLine, checkLine, rowLine};
 
@@ -14,7 +15,7 @@ pub fn named_line(text: &mut [u8], at: usize, name: &[u8], n: u64) -> usize
 {
     let next = copy(text, at, name);
     let next = next_number(text, next, n);
-    put(text, next, b'\n')
+    end_line(text, next)
 }
 
 // The lines `blocks`, `error` and `total`.
@@ -22,9 +23,8 @@ pub fn source_line(text: &mut [u8], at: usize, name: &[u8], degrees: u64, numera
     ensures { λ r. ⌜ Wrote (now (text .entry)) at (sourceLine (now (name .entry)) degrees numerator) (now (text .exit)) r ⌝ }
 {
     let next = copy(text, at, name);
-    let next = next_number(text, next, degrees);
-    let next = next_number(text, next, numerator);
-    put(text, next, b'\n')
+    let next = next_pair(text, next, degrees, numerator);
+    end_line(text, next)
 }
 
 // The line `check`: the sum of the totals, then the number from the readings.
@@ -34,7 +34,7 @@ pub fn check_line(text: &mut [u8], at: usize, totals: i64, readings: i64) -> usi
     let next = copy(text, at, b"check");
     let next = next_value(text, next, totals);
     let next = next_value(text, next, readings);
-    put(text, next, b'\n')
+    end_line(text, next)
 }
 
 // The line of a row.
@@ -49,8 +49,7 @@ pub fn row_line(
     ensures { λ r. ⌜ Wrote (now (text .entry)) at (rowLine row degrees numerator kind) (now (text .exit)) r ⌝ }
 {
     let next = label(text, at, row);
-    let next = next_number(text, next, degrees);
-    let next = next_number(text, next, numerator);
+    let next = next_pair(text, next, degrees, numerator);
     let next = next_kind(text, next, kind);
-    put(text, next, b'\n')
+    end_line(text, next)
 }

@@ -8,4 +8,5 @@
 pub mod Report
 pub mod Ready
 pub mod Written
+pub mod Examples
 pub mod Laws

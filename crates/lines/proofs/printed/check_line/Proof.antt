@@ -13,4 +13,4 @@ check-line-spec =
     (λ c κs. tt)
     (λ c κs. tt)
     (λ c. search needs)
-    (λ c. check-made (c .before .before .before .before .before .before .before .before .before .before .before .before .before .before .before .before .before .before .fits .totals) (c .before .before .before .before .before .before .before .before .before .before .before .before .before .before .before .before .before .before .fits .readings) (c .before .before .before .before .before .before .before .before .before .before .before .before .before .before .copy .ensures) (c .before .before .before .before .before .before .before .before .before .before .next-value .ensures) (c .before .before .before .before .before .before .next-value2 .ensures) (c .before .before .put .ensures)))
+    (λ c. check-made (c .before .before .before .before .before .before .before .before .before .before .before .before .before .before .before .before .before .before .fits .totals) (c .before .before .before .before .before .before .before .before .before .before .before .before .before .before .before .before .before .before .fits .readings) (c .before .before .before .before .before .before .before .before .before .before .before .before .before .before .copy .ensures) (c .before .before .before .before .before .before .before .before .before .before .next-value .ensures) (c .before .before .before .before .before .before .next-value2 .ensures) (c .before .before .end-line .ensures)))

@@ -11,4 +11,4 @@ named-line-spec =
     (λ c κs. tt)
     (λ c κs. tt)
     (λ c. search needs)
-    (λ c. named-made _ (c .before .before .before .before .before .before .before .before .before .before .copy .ensures) (c .before .before .before .before .before .before .next-number .ensures) (c .before .before .put .ensures)))
+    (λ c. named-made _ (c .before .before .before .before .before .before .before .before .before .before .copy .ensures) (c .before .before .before .before .before .before .next-number .ensures) (c .before .before .end-line .ensures)))

@@ -11,6 +11,5 @@ row-line-spec =
     (λ c κs. tt)
     (λ c κs. tt)
     (λ c κs. tt)
-    (λ c κs. tt)
     (λ c. search needs)
-    (λ c. row-made _ _ _ _ (c .before .before .before .before .before .before .before .before .before .before .before .before .before .before .before .before .before .before .label .ensures) (c .before .before .before .before .before .before .before .before .before .before .before .before .before .before .next-number .ensures) (c .before .before .before .before .before .before .before .before .before .before .next-number2 .ensures) (c .before .before .before .before .before .before .next-kind .ensures) (c .before .before .put .ensures)))
+    (λ c. row-made _ _ _ _ (c .before .before .before .before .before .before .before .before .before .before .before .before .before .before .label .ensures) (c .before .before .before .before .before .before .before .before .before .before .next-pair .ensures) (c .before .before .before .before .before .before .next-kind .ensures) (c .before .before .end-line .ensures)))

@@ -10,6 +10,5 @@ source-line-spec =
     (λ c κs. tt)
     (λ c κs. tt)
     (λ c κs. tt)
-    (λ c κs. tt)
     (λ c. search needs)
-    (λ c. source-made _ _ (c .before .before .before .before .before .before .before .before .before .before .before .before .before .before .copy .ensures) (c .before .before .before .before .before .before .before .before .before .before .next-number .ensures) (c .before .before .before .before .before .before .next-number2 .ensures) (c .before .before .put .ensures)))
+    (λ c. source-made _ _ (c .before .before .before .before .before .before .before .before .before .before .copy .ensures) (c .before .before .before .before .before .before .next-pair .ensures) (c .before .before .end-line .ensures)))
