@@ -7,6 +7,11 @@
 --   afterCalls p calls column    the column after a list of pass calls, each on what the last one left
 --   Readings p column            a column of N readings within the limit
 --   EachOnce p calls             the list names each base factor once; other numbers may stand anywhere in it
+--   call calls n                 the factor that call n asks for
+--   found p calls column n       the column that it finds
+--   answer p calls column n      what it answers
+--   doneOrTen p f                what a call of the factor f is to answer
+--   ownPass p f column           what it is to leave
 --   InAnyOrder p column calls    what is claimed of such a list
 --   AnyOrder, any-order          THE CLAIM, and its proof
 use mathlib.Core.Path.{_≡_, refl, sym, _∙_, ap}
@@ -110,7 +115,7 @@ module _ (p : Plan) (ok : planNumber p ≡ 0) (xs : List ℤ) (start : Readings 
   as-long : (n : ℕ) → length (passed n) ≡ runsOf p
   as-long n = rw (as-table n) (length-tab (runsOf p) (passes (factorsOf p) (take n calls) (read xs)))
 
-  -- "That 12 never strikes": no value is beyond the pass's limit on the way
+  -- no value is beyond the pass's limit on the way, so 12 is never given
   small : (n : ℕ) → AllWithin valueLimit (passed n)
   unfolding factorsOf
   small n =

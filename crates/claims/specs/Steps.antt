@@ -5,6 +5,7 @@
 --
 --   afterSteps p lent column n    the column after n calls of the step; call n writes the column `lent n`
 --   Lent p lent                   each column that is lent is one of N
+--   answer p lent column n        what call n answers
 --   InSteps p lent column         what is claimed of these calls
 --   Steps, in-steps               THE CLAIM, and its proof
 use mathlib.Core.Path.{_≡_, refl, sym, _∙_, ap}

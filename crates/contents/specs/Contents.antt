@@ -1,5 +1,7 @@
 -- What the fields of a sheet say: the plan, the readings and the marks.
 --
+--   byteAt i body            the byte of a body at a place
+--   wordIn body              the word of its first two bytes
 --   planIn fs                the plan
 --   readingAt, readingsOf    the readings of the body of field 4
 --   readingsIn fs            those of the sheet

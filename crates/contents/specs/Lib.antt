@@ -1,4 +1,4 @@
--- What the calls on the fields of a sheet promise.
+-- What the calls on the contents of a sheet promise.
 --
 --   Contents    what fields say
 --   Held        the plan as the code holds it

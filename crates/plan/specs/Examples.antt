@@ -1,5 +1,6 @@
 -- The small inputs of the table of refusals, 2 to 8, and the starred run on block words AD and ABC, computed over the definitions.
 --
+--   A, AB, C, BC, ABC, AD, BCD          words by their letters
 --   plan levels k words signs blocks    a plan with these words, whose other places hold 0 (`filled`)
 --   small-inputs, other-numbers         the numbers of plans that are refused
 --   all-accepted, BCD-lost              plans that are accepted, and the confounded effects of one

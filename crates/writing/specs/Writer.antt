@@ -5,6 +5,8 @@
 --   each t n body rest      n fields of one tag, and then the rest
 --   complement z            z in two's complement of 32 bits
 --   readingBytes xs         the bytes of readings
+--   addedBody p i           the body of the field of added factor i
+--   blockBody p i           and of block word i
 --   sheetFields, sheetOf    the fields and the bytes of the whole sheet
 --   settled p               the plan p with 0 at the places beyond its counts
 use mathlib.Core.Bool.{cond}
