@@ -26,12 +26,12 @@ use lib.IntN.{ℤ}
 use lib.ListN.{length, getD, take, length-replicate}
 use lib.Seq.{take-length}
 use Rattle.algebra.specs.Tab.{tab, length-tab}
-use Rattle.contrasts.specs.Columns.{read, passOf, passesOf, totalsOf}
+use Rattle.contrasts.specs.Columns.{read, AllWithin, passOf, passesOf, totalsOf}
 use Rattle.contrasts.specs.Limits.{readingLimit, valueLimit}
 use Rattle.contrasts.specs.Tables.{ofLevels}
 use Rattle.contrasts.specs.Totals.{count, passes}
 use Rattle.contrasts.specs.Laws.Limits.{values-fit}
-use Rattle.contrasts.specs.Laws.Lists.{AllWithin, tab-read, passes-list, passes-more, order-list, within-tab, pass-past}
+use Rattle.contrasts.specs.Laws.Lists.{tab-read, passes-list, passes-more, order-list, within-tab, pass-past}
 use Rattle.plan.specs.declared.types.Plan.{Plan}
 use Rattle.plan.specs.Check.{planNumber}
 use Rattle.plan.specs.Outcome.{Outcome, given, refused, outcome}

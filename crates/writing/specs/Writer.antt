@@ -16,6 +16,7 @@ use lib.Dec.{ltb}
 use lib.IntN.{ℤ, pos, negsuc}
 use lib.ListN.{length, getD}
 use Rattle.algebra.specs.Tab.{tab}
+use Rattle.contrasts.specs.Limits.{mostAdded, mostBlocks}
 use Rattle.plan.specs.declared.types.Plan.{Plan}
 use Rattle.fields.specs.Fields.{Fields, end, cut, field}
 
@@ -66,8 +67,8 @@ settled p = record {
   levels = p .levels;
   k = p .k;
   added = p .added;
-  words = tab 6 (λ i. cond (ltb i (p .added)) (getD (p .words) i 0) 0);
-  signs = tab 6 (λ i. cond (ltb i (p .added)) (getD (p .signs) i 0) 0);
+  words = tab mostAdded (λ i. cond (ltb i (p .added)) (getD (p .words) i 0) 0);
+  signs = tab mostAdded (λ i. cond (ltb i (p .added)) (getD (p .signs) i 0) 0);
   blocks = p .blocks;
-  blockwords = tab 4 (λ i. cond (ltb i (p .blocks)) (getD (p .blockwords) i 0) 0);
+  blockwords = tab mostBlocks (λ i. cond (ltb i (p .blocks)) (getD (p .blockwords) i 0) 0);
 }
