@@ -67,6 +67,7 @@ readColumn sheet column =
 unfoldable pub marksNumber : List ℕ → ℕ
 marksNumber sheet = sheetNumber (fieldsOf sheet) false
 
--- "hands back the marks as the part of the sheet that holds them; [..] if the sheet is refused, an empty part"
+-- "hands back the marks as the part of the sheet that holds them; [..] if the sheet is refused, an empty part"; its bytes, and not
+-- where they lie (docs/DECISIONS.md 76)
 unfoldable pub marksOf : List ℕ → List ℕ
 marksOf sheet = written (marksNumber sheet) (marksIn (fieldsOf sheet)) []
