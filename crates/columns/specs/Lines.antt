@@ -2,7 +2,8 @@
 --
 --   wrongLength p n               line 11: a column of n places is not N long
 --   isBeyond, anyBeyond limit xs  line 12: a value beyond a limit, and a column that has one
---   columnsLines, columnsNumber limit p xs ys   its lines besides those of the plan, and its lowest number, where it reads the column xs and writes ys
+--   columnsLines limit p xs ys    the lines, besides those of the plan, of a call that reads the column xs and writes the column ys
+--   columnsNumber limit p xs ys   its lowest number that applies, 0 where it is done
 --   answerOutcome                 the cases of the answer
 use mathlib.Core.Bool.{Bool, not, _||_}
 use mathlib.Core.List.{List, [], _∷_}

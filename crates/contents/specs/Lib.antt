@@ -2,7 +2,9 @@
 --
 --   Contents    what fields say
 --   Held        the plan as the code holds it
+--   Examples    plans as they are held, computed
 --   Laws        laws on readings and on plans that are held
 pub mod Contents
 pub mod Held
+pub mod Examples
 pub mod Laws
