@@ -38,8 +38,8 @@ use Rattle.rows.specs.Laws.{four-kinds, rows-few}
 use Rattle.anova.specs.declared.walks.Sums.{Sums}
 use Rattle.anova.specs.Laws.Admitted.{rows-power, limit-fits, within-limit}
 use Rattle.anova.specs.Ready.{Walkable, TableReady}
-use Rattle.anova.specs.Table.{sourceOf, sumsOf, rowsOf}
-use Rattle.anova.specs.Walk.{walkNumerator, walkRow, walkKind, rowsAfter, numeratorsAfter, degreesAfter, zeros}
+use Rattle.anova.specs.Table.{sourceOf, rowsOf}
+use Rattle.anova.specs.Walk.{walkNumerator, walkRow, walkKind, rowsAfter, numeratorsAfter, degreesAfter, zeros, sumsOf}
 
 -- ---- the lists that the walk is handed
 

@@ -41,8 +41,8 @@ use Rattle.anova.specs.declared.types.Figures.{Figures}
 use Rattle.anova.specs.declared.walks.Sums.{Sums}
 use Rattle.anova.specs.Laws.Admitted.{within-limit, limit-fits}
 use Rattle.anova.specs.Ready.{SquaresFit, Checkable, TableReady}
-use Rattle.anova.specs.Table.{sourceOf, totalSource, checksOf, sumsOf, tableFigures}
-use Rattle.anova.specs.Walk.{squaresOf}
+use Rattle.anova.specs.Table.{sourceOf, totalSource, checksOf, tableFigures}
+use Rattle.anova.specs.Walk.{squaresOf, sumsOf}
 
 at-most-six : (k : ℕ) → k ≤ mostThree → k ≤ 6
 unfolding mostThree

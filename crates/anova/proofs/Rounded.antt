@@ -20,12 +20,12 @@ use lib.IntN.{ℤ, pos, natAbs, _+ℤ_, _-ℤ_, _*ℤ_}
 use lib.ListN.{length, set, replicate}
 use Rattle.algebra.specs.Fill.{Filled, filled-none, filled-long, filled-old, filled-more}
 use Rattle.algebra.specs.Tab.{length-tab, getD-tab}
-use Rattle.contrasts.specs.Columns.{read}
+use Rattle.contrasts.specs.Columns.{read, AllWithin}
 use Rattle.contrasts.specs.Limits.{readingLimit, valueLimit}
 use Rattle.contrasts.specs.Tables.{three}
 use Rattle.contrasts.specs.Totals.{round, rounds}
 use Rattle.contrasts.specs.Laws.CheckSum.{rounds-cong}
-use Rattle.contrasts.specs.Laws.Lists.{AllWithin, within-tab}
+use Rattle.contrasts.specs.Laws.Lists.{within-tab}
 use Rattle.contrasts.specs.Laws.ThreeLevels.{round-three, round-bound, size-three}
 use Rattle.contrasts.specs.Laws.Turns.{Small}
 use Rattle.anova.specs.Ready.{Sets, Rounds}

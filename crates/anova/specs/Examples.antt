@@ -79,9 +79,12 @@ lengths : tableNumber four (pos 3 ∷ pos 5 ∷ pos 4 ∷ []) noMarks readings n
 unfolding tableNumber wrongLengths wrongRows wrongLength anyBeyond isBeyond badMarks badMark withPlan planNumber badLevels badFactors mostTwo mostThree badCounts badWords badWord badSign repeated dependent losesFactor factorWord any among beyond letters combined times someCombination combinesTo some bits Σℕ readingLimit factorsOf size two
 lengths = refl
 
--- "reading 100,001"; "mark 1 on row 0", a mark of 2, mark 1 on BCD, which AD and ABC combine to; then 11 and 12, 12 and 13, and 2 and all of these
+-- "reading 100,001", and as much below 0; "mark 1 on row 0", a mark of 2, mark 1 on BCD, which AD and ABC combine to; then 11 and 12, 12 and 13, and 2 and all of these
 abbrev large : List ℤ
-large = pos 3 ∷ pos 5 ∷ neg 100_001 ∷ pos 8 ∷ []
+large = pos 3 ∷ pos 5 ∷ pos 100_001 ∷ pos 8 ∷ []
+
+abbrev low : List ℤ
+low = pos 3 ∷ pos 5 ∷ neg 100_001 ∷ pos 8 ∷ []
 
 abbrev sixteen : List ℤ
 sixteen = pos 0 ∷ pos 0 ∷ pos 0 ∷ pos 0 ∷ pos 0 ∷ pos 0 ∷ pos 0 ∷ pos 0 ∷ pos 0 ∷ pos 0 ∷ pos 0 ∷ pos 0 ∷ pos 0 ∷ pos 0 ∷ pos 0 ∷ pos 0 ∷ []
@@ -90,6 +93,7 @@ abbrev onBCD : List ℕ
 onBCD = 0 ∷ 0 ∷ 0 ∷ 0 ∷ 0 ∷ 0 ∷ 0 ∷ 0 ∷ 0 ∷ 0 ∷ 0 ∷ 0 ∷ 0 ∷ 0 ∷ 1 ∷ 0 ∷ []
 
 small-inputs : tableNumber four large noMarks readings noMarks
+    ∷ tableNumber four low noMarks readings noMarks
     ∷ tableNumber four readings (1 ∷ 0 ∷ 0 ∷ 0 ∷ []) readings noMarks
     ∷ tableNumber four readings (0 ∷ 0 ∷ 2 ∷ 0 ∷ []) readings noMarks
     ∷ tableNumber (plan 2 4 [] [] (AD ∷ ABC ∷ [])) sixteen onBCD sixteen onBCD
@@ -97,7 +101,7 @@ small-inputs : tableNumber four large noMarks readings noMarks
     ∷ tableNumber four large (1 ∷ 0 ∷ 0 ∷ 0 ∷ []) readings noMarks
     ∷ tableNumber (plan 4 2 [] [] []) large (1 ∷ []) readings []
     ∷ []
-    ≡ 12 ∷ 13 ∷ 13 ∷ 13 ∷ 11 ∷ 12 ∷ 2 ∷ []
+    ≡ 12 ∷ 12 ∷ 13 ∷ 13 ∷ 13 ∷ 11 ∷ 12 ∷ 2 ∷ []
 unfolding tableNumber wrongLengths wrongRows wrongLength anyBeyond isBeyond badMarks badMark withPlan planNumber badLevels badFactors mostTwo mostThree badCounts badWords badWord badSign repeated dependent losesFactor factorWord any among beyond letters combined times someCombination combinesTo some bits Σℕ readingLimit factorsOf size two
 small-inputs = refl
 

@@ -14,9 +14,9 @@ use Prim.Native.Nat.{ℕ, _*_, _/_, _^_, _<_, _≤_}
 use lib.IntN.{ℤ, natAbs}
 use lib.ListN.{length, getD}
 use Rattle.algebra.specs.Naturals.{Σℕ}
+use Rattle.contrasts.specs.Columns.{AllWithin}
 use Rattle.contrasts.specs.Limits.{readingLimit, valueLimit}
 use Rattle.contrasts.specs.Tables.{ofLevels}
-use Rattle.contrasts.specs.Laws.Lists.{AllWithin}
 use Rattle.plan.specs.declared.types.Plan.{Plan}
 use Rattle.plan.specs.Check.{planNumber}
 use Rattle.plan.specs.Plan.{runsOf}

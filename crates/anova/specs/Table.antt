@@ -6,7 +6,6 @@
 --   sourceOf p xs marks c      degrees and numerator of the rows of one kind
 --   totalSource p xs           those of the total
 --   checksOf p xs              both check numbers
---   sumsOf p xs marks          all sums of the walk
 --   tableFigures p xs marks    the figures
 --   rowsOf p xs                the row numerators
 --   tableTotals, tableRows     the lent slices at exit
@@ -33,7 +32,6 @@ use Rattle.rows.specs.Kinds.{rowsIn, wrongRows, keptKind, errorKind, meanKind, 
 use Rattle.anova.specs.declared.types.Source.{Source}
 use Rattle.anova.specs.declared.types.Checks.{Checks}
 use Rattle.anova.specs.declared.types.Figures.{Figures}
-use Rattle.anova.specs.declared.walks.Sums.{Sums}
 use Rattle.anova.specs.declared.types.Table.{Table}
 use Rattle.anova.specs.declared.types.Table.the-variants.{Made, Refused}
 
@@ -76,14 +74,6 @@ unfoldable pub checksOf : Plan → List ℤ → Checks
 checksOf p readings = record {
   totals = Σ (runsOf p) (total (factorsOf p) (read readings));
   readings = rounds (factorsOf p) (read readings);
-}
-
--- the four kinds by their numbers, and the sum of the totals, as the walk leaves them
-unfoldable pub sumsOf : Plan → List ℤ → List ℕ → Sums
-sumsOf p readings marks = record {
-  numerators = tab 4 (λ c. sourceOf p readings marks c .numerator);
-  degrees = tab 4 (λ c. sourceOf p readings marks c .degrees);
-  totals = Σ (runsOf p) (total (factorsOf p) (read readings));
 }
 
 -- "denominator, degrees and numerators of mean, kept effects, blocks and error, the total [..] and both check numbers"

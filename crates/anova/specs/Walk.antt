@@ -3,6 +3,7 @@
 --   walkNumerator ts d ds e       the numerator of effect e, from its total, the denominator and its divisor
 --   walkRow, walkKind             the row of effect e, and its kind
 --   rowsAfter, numeratorsAfter, degreesAfter    the rows, and the sums of the four kinds, after e totals
+--   sumsOf p xs marks             all sums of the walk, of a plan's readings and marks
 --   zeros n                       a column of n zeros
 --   squaresOf xs                  the sum of the squares of a column
 --   afterRound n xs               a column after a round of n sets
@@ -14,10 +15,15 @@ use lib.IntN.{ℤ, natAbs}
 use lib.ListN.{length, getD}
 use Rattle.algebra.specs.Naturals.{Σℕ}
 use Rattle.algebra.specs.Sorted.{sorted}
+use Rattle.algebra.specs.Sum.{Σ}
 use Rattle.algebra.specs.Tab.{tab}
 use Rattle.contrasts.specs.Columns.{read}
 use Rattle.contrasts.specs.Tables.{three}
-use Rattle.contrasts.specs.Totals.{round}
+use Rattle.contrasts.specs.Totals.{total, round}
+use Rattle.plan.specs.declared.types.Plan.{Plan}
+use Rattle.plan.specs.Plan.{factorsOf, runsOf}
+use Rattle.anova.specs.declared.walks.Sums.{Sums}
+use Rattle.anova.specs.Table.{sourceOf}
 
 -- ---- the walk
 
@@ -39,6 +45,14 @@ numeratorsAfter ts effects d ds kinds e = sorted 4 (walkKind effects kinds) (wal
 
 unfoldable pub degreesAfter : List ℕ → List ℕ → ℕ → List ℕ
 degreesAfter effects kinds e = sorted 4 (walkKind effects kinds) (λ i. 1) e
+
+-- the four kinds by their numbers, and the sum of the totals, as the walk leaves them
+unfoldable pub sumsOf : Plan → List ℤ → List ℕ → Sums
+sumsOf p readings marks = record {
+  numerators = tab 4 (λ c. sourceOf p readings marks c .numerator);
+  degrees = tab 4 (λ c. sourceOf p readings marks c .degrees);
+  totals = Σ (runsOf p) (total (factorsOf p) (read readings));
+}
 
 -- ---- the other inner functions
 

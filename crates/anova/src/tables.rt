@@ -23,7 +23,8 @@ ghost use Rattle.contrasts.specs.Totals.{denominator};
 ghost use Rattle.plan.specs.Outcome.{outcome};
 ghost use Rattle.plan.specs.Plan.{factorsOf};
 ghost use Rattle.anova.specs.Ready.{TableReady};
-ghost use Rattle.anova.specs.Table.{tableNumber, tableFigures, tableTotals, tableRows, tableOutcome, rowsOf, sumsOf};
+ghost use Rattle.anova.specs.Table.{tableNumber, tableFigures, tableTotals, tableRows, tableOutcome, rowsOf};
+ghost use Rattle.anova.specs.Walk.{sumsOf};
 
 const KEPT: usize = 0;
 

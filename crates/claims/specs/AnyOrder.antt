@@ -7,6 +7,11 @@
 --   afterCalls p calls column    the column after a list of pass calls, each on what the last one left
 --   Readings p column            a column of N readings within the limit
 --   EachOnce p calls             the list names each base factor once; other numbers may stand anywhere in it
+--   call calls n                 the factor that call n asks for
+--   found p calls column n       the column that it finds
+--   answer p calls column n      what it answers
+--   doneOrTen p f                what a call of the factor f is to answer
+--   ownPass p f column           what it is to leave
 --   InAnyOrder p column calls    what is claimed of such a list
 --   AnyOrder, any-order          THE CLAIM, and its proof
 use mathlib.Core.Path.{_≡_, refl, sym, _∙_, ap}
@@ -21,12 +26,12 @@ use lib.IntN.{ℤ}
 use lib.ListN.{length, getD, take, length-replicate}
 use lib.Seq.{take-length}
 use Rattle.algebra.specs.Tab.{tab, length-tab}
-use Rattle.contrasts.specs.Columns.{read, passOf, passesOf, totalsOf}
+use Rattle.contrasts.specs.Columns.{read, AllWithin, passOf, passesOf, totalsOf}
 use Rattle.contrasts.specs.Limits.{readingLimit, valueLimit}
 use Rattle.contrasts.specs.Tables.{ofLevels}
 use Rattle.contrasts.specs.Totals.{count, passes}
 use Rattle.contrasts.specs.Laws.Limits.{values-fit}
-use Rattle.contrasts.specs.Laws.Lists.{AllWithin, tab-read, passes-list, passes-more, order-list, within-tab, pass-past}
+use Rattle.contrasts.specs.Laws.Lists.{tab-read, passes-list, passes-more, order-list, within-tab, pass-past}
 use Rattle.plan.specs.declared.types.Plan.{Plan}
 use Rattle.plan.specs.Check.{planNumber}
 use Rattle.plan.specs.Outcome.{Outcome, given, refused, outcome}
@@ -110,7 +115,7 @@ module _ (p : Plan) (ok : planNumber p ≡ 0) (xs : List ℤ) (start : Readings 
   as-long : (n : ℕ) → length (passed n) ≡ runsOf p
   as-long n = rw (as-table n) (length-tab (runsOf p) (passes (factorsOf p) (take n calls) (read xs)))
 
-  -- "That 12 never strikes": no value is beyond the pass's limit on the way
+  -- no value is beyond the pass's limit on the way, so 12 is never given
   small : (n : ℕ) → AllWithin valueLimit (passed n)
   unfolding factorsOf
   small n =

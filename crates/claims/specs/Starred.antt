@@ -2,6 +2,7 @@
 --
 --   Run                      what the calls' definitions give of a run, and what the rules say of it
 --   whole, sense             a double that is a whole number; a test as 1 or 0
+--   ofTable, ofEstimate      the numbers of a table, and of an estimate
 --   fourReadings, .. , lostFactor    the starred runs, in the order of "Reference runs"
 --   starredRuns              all of them
 --   Starred, starred         THE CLAIM, and its proof
@@ -29,7 +30,7 @@ use Rattle.plan.specs.Examples.{plan, AB, BC, ABC, AD, BCD}
 use Rattle.plan.specs.Outcome.{Outcome, given, refused, outcome}
 use Rattle.plan.specs.Plan.{factorsOf, someCombination, combinesTo, confoundedIn}
 use Rattle.plan.specs.Check.{badLevels, badFactors, badCounts, badWord, badSign, badWords, dependent, factorWord, losesFactor, planNumber, withPlan}
-use Rattle.aliases.specs.Alias.{baseWord, turnsOf, turns, aliasNumber}
+use Rattle.aliases.specs.Alias.{baseWord, turnsOf, turns, aliasValues, aliasNumber}
 use Rattle.columns.specs.Lines.{wrongLength, isBeyond, anyBeyond}
 use Rattle.rows.specs.Kinds.{wrongRows, kindByMark, kindOf, badMark, badMarks}
 use Rattle.estimates.specs.Quotient.{quotient}
@@ -77,12 +78,15 @@ zeros2 = pos 0 ∷ pos 0 ∷ []
 
 -- ---- the runs
 
--- "Readings 3, 5, 4, 8: totals 20, -6, -4, 2; numerators 400, 36, 16, 4; sum 456, which is 4 times 114; check 12."
+-- "Readings 3, 5, 4, 8: totals 20, -6, -4, 2; numerators 400, 36, 16, 4; sum 456, which is 4 times 114; check 12." After the table the sum of
+-- the four numerators and that of the squared readings.
 abbrev fourReadings : Run
 fourReadings = record {
   gives = ofTable (plan 2 2 [] [] []) (pos 3 ∷ pos 5 ∷ pos 4 ∷ pos 8 ∷ []) (0 ∷ 0 ∷ 0 ∷ 0 ∷ []) (zeros2 ++ zeros2) (0 ∷ 0 ∷ 0 ∷ 0 ∷ [])
-      ++ (pos (squared (factorsOf (plan 2 2 [] [] [])) (read (pos 3 ∷ pos 5 ∷ pos 4 ∷ pos 8 ∷ []))) ∷ []);
-  says = pos 0 ∷ pos 20 ∷ neg 6 ∷ neg 4 ∷ pos 2 ∷ pos 400 ∷ pos 36 ∷ pos 16 ∷ pos 4 ∷ pos 4 ∷ pos 456 ∷ pos 12 ∷ pos 12 ∷ pos 114 ∷ [];
+      ++ (pos (Σℕ 4 (numerator (factorsOf (plan 2 2 [] [] [])) (read (pos 3 ∷ pos 5 ∷ pos 4 ∷ pos 8 ∷ []))))
+      ∷ pos (squared (factorsOf (plan 2 2 [] [] [])) (read (pos 3 ∷ pos 5 ∷ pos 4 ∷ pos 8 ∷ [])))
+      ∷ []);
+  says = pos 0 ∷ pos 20 ∷ neg 6 ∷ neg 4 ∷ pos 2 ∷ pos 400 ∷ pos 36 ∷ pos 16 ∷ pos 4 ∷ pos 4 ∷ pos 456 ∷ pos 12 ∷ pos 12 ∷ pos 456 ∷ pos 114 ∷ [];
 }
 
 -- "Three levels, 2, 5, 3: totals 10, -1, -5; numerators 200, 3, 25; row A 28 with 2 degrees; check 4."
@@ -115,7 +119,10 @@ atLimits = record {
 -- "k = 3, D = ABC: AD reduces to BC, unturned; with sign 1, turned."
 abbrev aliasOf : ℕ → List ℤ
 aliasOf sign =
-    pos (aliasNumber (plan 2 3 (ABC ∷ []) (sign ∷ []) []) AD) ∷ pos (baseWord 3 (ABC ∷ []) AD) ∷ sense (turns 3 (sign ∷ []) AD) ∷ []
+    pos (aliasNumber (plan 2 3 (ABC ∷ []) (sign ∷ []) []) AD)
+    ∷ pos (aliasValues (plan 2 3 (ABC ∷ []) (sign ∷ []) []) AD .0)
+    ∷ sense (aliasValues (plan 2 3 (ABC ∷ []) (sign ∷ []) []) AD .1)
+    ∷ []
 
 abbrev reduced : Run
 reduced = record {

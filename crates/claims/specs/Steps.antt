@@ -5,6 +5,7 @@
 --
 --   afterSteps p lent column n    the column after n calls of the step; call n writes the column `lent n`
 --   Lent p lent                   each column that is lent is one of N
+--   answer p lent column n        what call n answers
 --   InSteps p lent column         what is claimed of these calls
 --   Steps, in-steps               THE CLAIM, and its proof
 use mathlib.Core.Path.{_≡_, refl, sym, _∙_, ap}
@@ -15,13 +16,13 @@ use lib.Dec.{T}
 use lib.IntN.{ℤ}
 use lib.ListN.{length, replicate}
 use Rattle.algebra.specs.Tab.{length-tab}
-use Rattle.contrasts.specs.Columns.{read, stepsOf, totalsOf}
+use Rattle.contrasts.specs.Columns.{read, AllWithin, stepsOf, totalsOf}
 use Rattle.contrasts.specs.Factor.{Factor}
 use Rattle.contrasts.specs.Limits.{readingLimit, valueLimit}
 use Rattle.contrasts.specs.Tables.{ofLevels}
 use Rattle.contrasts.specs.Totals.{size, steps}
 use Rattle.contrasts.specs.Laws.Limits.{withinLimits, steps-fit}
-use Rattle.contrasts.specs.Laws.Lists.{AllWithin, steps-list, steps-alike, steps-more, within-tab}
+use Rattle.contrasts.specs.Laws.Lists.{steps-list, steps-alike, steps-more, within-tab}
 use Rattle.plan.specs.declared.types.Plan.{Plan}
 use Rattle.plan.specs.Check.{planNumber}
 use Rattle.plan.specs.Outcome.{Outcome, given, outcome}

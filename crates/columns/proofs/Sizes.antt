@@ -14,9 +14,9 @@ use lib.IntN.{ℤ, natAbs}
 use lib.ListN.{length}
 use lib.Signed.{mag}
 use Rattle.algebra.specs.Signs.{size-mag}
-use Rattle.contrasts.specs.Columns.{read}
+use Rattle.contrasts.specs.Columns.{read, AllWithin}
 use Rattle.contrasts.specs.Limits.{valueLimit}
-use Rattle.contrasts.specs.Laws.Lists.{AllWithin, within-upto}
+use Rattle.contrasts.specs.Laws.Lists.{within-upto}
 use Rattle.columns.specs.Lines.{anyBeyond}
 use Rattle.columns.specs.Laws.Admitted.{none-beyond}
 

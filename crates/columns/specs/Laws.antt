@@ -2,5 +2,7 @@
 --
 --   Lengths     line 11, of an accepted plan, as the code compares
 --   Admitted    what is known of columns that are not refused, and that this is all that is asked
+--   Alike       places beyond a plan's counts are ignored
 pub mod Lengths
 pub mod Admitted
+pub mod Alike

@@ -2,8 +2,8 @@
 --
 --   wrongLength p n               line 11: a column of n places is not N long
 --   isBeyond, anyBeyond limit xs  line 12: a value beyond a limit, and a column that has one
---   lengthsNumber p m n           the lowest number of a call that reads a column of m places and writes one of n, by these lengths
---   columnsLines, columnsNumber limit p xs ys   its lines besides those of the plan, and its lowest number, where it reads the column xs and writes ys
+--   columnsLines limit p xs ys    the lines, besides those of the plan, of a call that reads the column xs and writes the column ys
+--   columnsNumber limit p xs ys   its lowest number that applies, 0 where it is done
 --   answerOutcome                 the cases of the answer
 use mathlib.Core.Bool.{Bool, not, _||_}
 use mathlib.Core.List.{List, [], _∷_}
@@ -31,11 +31,7 @@ isBeyond limit z = ltb limit (natAbs z)
 unfoldable pub anyBeyond : ℕ → List ℤ → Bool
 anyBeyond limit xs = some (length xs) (λ i. isBeyond limit (read xs i))
 
--- a call that reads one column and writes another, by their lengths alone
-unfoldable pub lengthsNumber : Plan → ℕ → ℕ → ℕ
-lengthsNumber p m n = withPlan p (line 11 (wrongLength p m || wrongLength p n) ∷ [])
-
--- and by the values that it reads; the column that it writes may hold any
+-- a call that reads one column and writes another goes by their lengths, and by the values that it reads; the column that it writes may hold any
 abbrev pub columnsLines : ℕ → Plan → List ℤ → List ℤ → List Line
 columnsLines limit p xs ys = line 11 (wrongLength p (length xs) || wrongLength p (length ys)) ∷ line 12 (anyBeyond limit xs) ∷ []
 

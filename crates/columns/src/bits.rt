@@ -2,7 +2,7 @@
 ghost use mathlib.Core.Path.{_≡_};
 ghost use Prim.Native.Nat.{suc};
 ghost use lib.Signed.{mag};
-ghost use Rattle.contrasts.specs.Laws.Lists.{AllWithin};
+ghost use Rattle.contrasts.specs.Columns.{AllWithin};
 
 // A value's size, less 1 where it is negative.
 fn magnitude(x: i64) -> u64

@@ -6,7 +6,8 @@ use plan::Plan;
 use plan::lowest;
 use sizes::runs;
 ghost use Rattle.contrasts.specs.Limits.{readingLimit, valueLimit};
-ghost use Rattle.columns.specs.Lines.{lengthsNumber, columnsNumber};
+ghost use Rattle.columns.specs.Judged.{lengthsNumber};
+ghost use Rattle.columns.specs.Lines.{columnsNumber};
 
 // The lowest number that applies to the plan and to the lengths of the two columns, and 0 where none does.
 fn lengths_number(p: Plan, read: usize, written: usize) -> u8

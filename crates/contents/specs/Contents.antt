@@ -1,5 +1,7 @@
 -- What the fields of a sheet say: the plan, the readings and the marks.
 --
+--   byteAt i body            the byte of a body at a place
+--   wordIn body              the word of its first two bytes
 --   planIn fs                the plan
 --   readingAt, readingsOf    the readings of the body of field 4
 --   readingsIn fs            those of the sheet
@@ -9,6 +11,7 @@ use Prim.Native.Nat.{ℕ, _+_, _*_, _/_}
 use lib.IntN.{ℤ}
 use lib.ListN.{length, getD}
 use Rattle.algebra.specs.Tab.{tab}
+use Rattle.contrasts.specs.Limits.{mostAdded, mostBlocks}
 use Rattle.plan.specs.declared.types.Plan.{Plan}
 use Rattle.numerals.specs.Numbers.{big, twos}
 use Rattle.fields.specs.Fields.{Fields, bodies, bodyAt}
@@ -28,10 +31,10 @@ planIn fs = record {
   levels = byteAt 0 (bodyAt 1 0 fs);
   k = byteAt 1 (bodyAt 1 0 fs);
   added = length (bodies 2 fs);
-  words = tab 6 (λ i. wordIn (bodyAt 2 i fs));
-  signs = tab 6 (λ i. byteAt 2 (bodyAt 2 i fs));
+  words = tab mostAdded (λ i. wordIn (bodyAt 2 i fs));
+  signs = tab mostAdded (λ i. byteAt 2 (bodyAt 2 i fs));
   blocks = length (bodies 3 fs);
-  blockwords = tab 4 (λ i. wordIn (bodyAt 3 i fs));
+  blockwords = tab mostBlocks (λ i. wordIn (bodyAt 3 i fs));
 }
 
 -- "readings, 4 bytes each in two's complement"

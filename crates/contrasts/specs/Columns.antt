@@ -1,14 +1,15 @@
 -- The same over columns that are lists of N values, as code holds them.
 --
 --   read xs              the column of a list
+--   AllWithin M xs       no value of a list exceeds M in size
 --   totalsOf Fs xs       the N totals, "place e of a column of totals holds the total of effect e"
 --   passOf Fs f xs       the column after the pass of position f
 --   passesOf Fs fs xs    after the passes of a list of positions, one after the other
 --   stepOf N F xs        the column of N that the step writes
 --   stepsOf N Fs xs      after a step for each factor, one after the other
 use mathlib.Core.List.{List, [], _∷_}
-use Prim.Native.Nat.{ℕ}
-use lib.IntN.{ℤ, pos}
+use Prim.Native.Nat.{ℕ, _≤_}
+use lib.IntN.{ℤ, pos, natAbs}
 use lib.ListN.{getD}
 use Rattle.algebra.specs.Tab.{tab}
 use Rattle.contrasts.specs.Factor.{Factor}
@@ -16,6 +17,10 @@ use Rattle.contrasts.specs.Totals.{Column, size, total, pass, step}
 
 abbrev pub read : List ℤ → Column
 read xs i = getD xs i (pos 0)
+
+-- no value of a list exceeds M in size; a place past the end reads as 0
+abbrev pub AllWithin : ℕ → List ℤ → Type 0
+AllWithin M xs = (i : ℕ) → natAbs (read xs i) ≤ M
 
 unfoldable pub totalsOf : List Factor → List ℤ → List ℤ
 totalsOf Fs xs = tab (size Fs) (total Fs (read xs))

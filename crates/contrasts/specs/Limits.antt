@@ -4,6 +4,7 @@
 --   valueLimit        the size of a value that a pass or a step admits
 --   numeratorLimit    a numerator, or a sum of some of one table
 --   mostTwo, mostThree    how many factors a plan may have
+--   mostAdded, mostBlocks    how many added factors and block words
 use Prim.Native.Nat.{ℕ}
 
 -- "Readings are i32 from -100,000 to 100,000."
@@ -24,3 +25,10 @@ mostTwo = 10
 
 unfoldable pub mostThree : ℕ
 mostThree = 6
+
+-- "up to 6 added factors and up to 4 block words"
+abbrev pub mostAdded : ℕ
+mostAdded = 6
+
+abbrev pub mostBlocks : ℕ
+mostBlocks = 4

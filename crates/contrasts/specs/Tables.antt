@@ -184,6 +184,7 @@ unfoldable pub five : Factor
 unfolding tables
 five = factorOf fiveTable (table-lawful 3 (lit< tt))
 
--- the kind of a plan's base factors, which are alike
+-- the kind of a plan's base factors, which are alike: two, or three for any other number; a plan of other levels is refused before this is
+-- asked
 abbrev pub ofLevels : ℕ → Factor
 ofLevels n = cond (eqb n 2) two three

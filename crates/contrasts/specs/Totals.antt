@@ -3,6 +3,7 @@
 --
 --   Column                       a value at each place
 --   size Fs                      how many runs there are
+--   spacing Fs f                 how far apart the values of the factor at position f lie
 --   digitAt, withDigit           a place's digit that stands for s, and the place with another digit there
 --   passAt s F x                 the pass of a factor whose values lie s apart
 --   passFrom, pass Fs f x        the pass of the factor at position f
@@ -25,6 +26,7 @@ use mathlib.Core.List.{List, [], _∷_}
 use Prim.Native.Nat.{ℕ, zero, suc, _+_, _*_, _-_, _/_, _%_}
 use lib.Dec.{eqb}
 use lib.IntN.{ℤ, pos, natAbs, _*ℤ_}
+use lib.ListN.{take}
 use Rattle.algebra.specs.Sum.{Σ}
 use Rattle.algebra.specs.Naturals.{Σℕ}
 use Rattle.contrasts.specs.Factor.{Factor}
@@ -38,6 +40,10 @@ size [] = 1
 size (F ∷ Fs) = F .levels * size Fs
 
 -- ---- passes
+
+-- "levels to the power f places apart": the product of the levels of the factors before position f
+abbrev pub spacing : List Factor → ℕ → ℕ
+spacing Fs f = size (take f Fs)
 
 -- the digit of the place i that stands for s, to the base l; and the place that has the digit j there instead
 abbrev pub digitAt : ℕ → ℕ → ℕ → ℕ

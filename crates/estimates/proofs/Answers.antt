@@ -16,7 +16,7 @@ use Rattle.plan.specs.Check.{confoundedAccepted}
 use Rattle.plan.specs.Outcome.{Outcome, given, refused, outcome}
 use Rattle.plan.specs.Laws.Answers.{refused-with, given-with}
 use Rattle.plan.specs.Laws.Sizes.{confounded-is}
-use Rattle.estimates.specs.Quotient.{Held}
+use Rattle.estimates.specs.Quotient.{InDouble}
 use Rattle.estimates.specs.Estimate.{Value, valueBy, estimateNumber, estimateValue}
 use Rattle.estimates.specs.Laws.Given.{Admitted, admitted, some-factor, held}
 
@@ -31,7 +31,7 @@ module _ (p : Plan) (e : ℕ) {t : ℤ} (f : SFits w64 t) {n : ℕ} (d : n ≡ e
     none : estimateNumber p e t ≡ 0
     none = sym found ∙ z
 
-    pub ready : (0 < p .k) × Held (wrap t) (p .k)
+    pub ready : (0 < p .k) × InDouble (wrap t) (p .k)
     ready = let a : Admitted p e t = admitted p e t none in (some-factor a, rw (toZ-ofZ f) (held a))
 
     pub answered : {b : Bool} → b ≡ confoundedAccepted p e → {x : Outcome Value} → x ≡ given (valueBy b (p .k) e (wrap t))

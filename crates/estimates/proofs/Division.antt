@@ -20,7 +20,7 @@ use mir.Syntax.{w64}
 use mir.Val.{SFits}
 use Rattle.algebra.specs.Bits.{one-shifted}
 use Rattle.algebra.specs.Size.{wrap}
-use Rattle.estimates.specs.Quotient.{negative, quotient, Held}
+use Rattle.estimates.specs.Quotient.{negative, quotient, InDouble}
 use Rattle.estimates.specs.Laws.Exact.{exact, of-value}
 
 -- ---- the quotient of two doubles that are whole numbers is the fraction, rounded once
@@ -75,7 +75,7 @@ in-double (negsuc n) h = lt→ltb n (2 ^ 53) h
 
 -- ---- the code's numbers
 
-module _ {t : ℤ} {j : ℕ} (f : SFits w64 t) (h : Held t j) where
+module _ {t : ℤ} {j : ℕ} (f : SFits w64 t) (h : InDouble t j) where
   power : 1 * 2 ^ j % 2 ^ 64 ≡ 2 ^ j
   power = one-shifted j 64 (omega (arith, h .power))
 

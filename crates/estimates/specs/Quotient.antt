@@ -2,7 +2,7 @@
 --
 --   negative t       the whole number t is below zero
 --   quotient t j     the double that is t / 2 ^ j
---   Held t j         a double holds t and 2 ^ j, as whole numbers
+--   InDouble t j     a double holds t and 2 ^ j, as whole numbers
 use mathlib.Core.Bool.{Bool, true, false}
 use Prim.Native.Nat.{ℕ, _^_, _<_, _≤_}
 use lib.IntN.{ℤ, pos, negsuc, natAbs}
@@ -17,6 +17,6 @@ negative (negsuc n) = true
 unfoldable pub quotient : ℤ → ℕ → Float
 quotient t j = odd (prec binary64) (negative t) (natAbs t) 0 j
 
-pub record Held (t : ℤ) (j : ℕ) : Type 0 where
+pub record InDouble (t : ℤ) (j : ℕ) : Type 0 where
   pub number : natAbs t < 2 ^ 53
   pub power : j ≤ 52

@@ -11,7 +11,7 @@ use plan::lowest;
 use words::has_beyond;
 ghost use Rattle.contrasts.specs.Limits.{readingLimit};
 ghost use Rattle.plan.specs.Outcome.{outcome, given};
-ghost use Rattle.estimates.specs.Quotient.{Held};
+ghost use Rattle.estimates.specs.Quotient.{InDouble};
 ghost use Rattle.estimates.specs.Estimate.{valueBy, estimateNumber, estimateValue, estimateOutcome};
 
 const READING_LIMIT: u64 = 100_000;
@@ -52,7 +52,7 @@ fn estimate_number(p: Plan, effect: u16, total: i64) -> u8
 
 // The answer where nothing is refused, by whether the effect is lost.
 fn value(lost: bool, k: usize, effect: u16, total: i64) -> Estimate
-    requires { ⌜ (0 < k) × Held total k ⌝ }
+    requires { ⌜ (0 < k) × InDouble total k ⌝ }
     ensures { λ r. ⌜ estimateOutcome r ≡ given (valueBy lost k effect total) ⌝ }
 {
     if lost {

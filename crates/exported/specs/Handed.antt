@@ -1,7 +1,7 @@
 -- The table as numbers in slices that a program in C lends.
 --
 --   figureNumbers, checkNumbers   the figures as 11 numbers, and the checks as 2, in the order of the slices
---   wrongRoom m n                 slices of m and n places are not as long
+--   wrongRoom m n                 the slices for figures and checks are not 11 and 2 long
 --   roomNumber p                  the number of a call that has no such room
 --   callNumber                    the lowest number that applies, 0 where the table is made
 --   callTotals, callRows, callFigures, callChecks    the lent slices at exit

@@ -1,7 +1,9 @@
 -- Small sheets, computed over the definitions.
 --
---   sample        levels 2, k = 1, readings 3 and 5, marks 0 and 0
---   good, bad     sheets that line 1 lets pass, and sheets that it refuses
+--   one, added, block, readings, marks    fields: levels 2 and k = 1; AB with sign 1; the block word A; readings 3 and -5; marks 0 and 1
+--   isBad sheet            line 1 applies to a sheet
+--   good; bad, all-bad     sheets that line 1 lets pass; sheets that it refuses
+--   in-order, not-there    the bodies of a tag; none, where there is no such field
 use mathlib.Core.Path.{_≡_, refl}
 use mathlib.Core.Bool.{Bool, true, false}
 use mathlib.Core.List.{List, [], _∷_, _++_, map}

@@ -1,6 +1,8 @@
 -- The fields of a sheet, from its bytes.
 --
 --   Fields            fields one after the other, up to the end of the sheet or to one that is cut short
+--   first rest bytes  the first field of some bytes, and what `rest` makes of those after it
+--   parse n bytes     the fields of at most n bytes
 --   fieldsOf sheet    those of a sheet
 --   bodies t fs       the bodies of the fields of tag t, in order
 --   bodyAt t i fs     the body of field i of tag t, and no bytes where there is none
@@ -27,7 +29,7 @@ first rest (t ∷ h ∷ l ∷ bytes) =
     (field t (take (big (h ∷ l ∷ [])) bytes) (rest (drop (big (h ∷ l ∷ [])) bytes)))
     cut
 
--- the fields of some bytes, of which there are no more than n
+-- the fields of at most n bytes; n bounds the steps, and any n from the number of bytes on gives the same (`Laws/Steps.antt` `enough`)
 unfoldable pub parse : ℕ → List ℕ → Fields
 parse zero bytes = first (λ rest. cut) bytes
 parse (suc n) bytes = first (parse n) bytes

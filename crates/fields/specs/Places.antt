@@ -1,6 +1,7 @@
 -- What the inner functions of a walk give.
 --
---   endAt s at    where the field that begins at a place ends; 0 where it is cut short
+--   lengthAt s at    the length that the field at a place has
+--   endAt s at       where the field that begins at a place ends; 0 where it is cut short
 use mathlib.Core.Bool.{cond}
 use mathlib.Core.List.{List, [], _∷_}
 use Prim.Native.Nat.{ℕ, _+_}

@@ -113,14 +113,20 @@ named-long name n = omega (arith, joined name (decimal n ++ (newline ∷ [])) (l
 pub source-long : (name : List ℕ) (m n : ℕ) → length (sourceLine name m n) ≤ length name + 43
 unfolding sourceLine lineOf
 source-long name m n =
-    omega (arith, joined name (decimal m ++ (space ∷ (decimal n ++ (newline ∷ [])))) (le-refl (length name))
-    (joined (decimal m) (decimal n ++ (newline ∷ [])) (decimal-long m) (ended (decimal n) (decimal-long n))))
+    omega (
+      arith,
+      joined name (decimal m ++ (space ∷ (decimal n ++ (newline ∷ [])))) (le-refl (length name))
+          (joined (decimal m) (decimal n ++ (newline ∷ [])) (decimal-long m) (ended (decimal n) (decimal-long n))),
+    )
 
 pub check-long : (x y : ℤ) → length (checkLine x y) ≤ 50
 unfolding checkLine lineOf
 check-long x y =
-    omega (arith, joined (ascii "check") (signed x ++ (space ∷ (signed y ++ (newline ∷ [])))) (le-refl 5)
-    (joined (signed x) (signed y ++ (newline ∷ [])) (signed-long x) (ended (signed y) (signed-long y))))
+    omega (
+      arith,
+      joined (ascii "check") (signed x ++ (space ∷ (signed y ++ (newline ∷ [])))) (le-refl 5)
+          (joined (signed x) (signed y ++ (newline ∷ [])) (signed-long x) (ended (signed y) (signed-long y))),
+    )
 
 label-long : (w : ℕ) → length (labelOf w) ≤ 16
 unfolding labelOf
@@ -144,5 +150,8 @@ unfolding rowLine lineOf
 row-long w m n c =
     let last : length (lineOf (decimal n ∷ kindWords c)) ≤ 28 =
     rw (← (ends-with c (decimal n)), length-append (decimal n) (kindText c ++ (newline ∷ []))) (omega (arith, decimal-long n, ended (kindText c) (kind-long c))) in
-    omega (arith, joined (labelOf w) (decimal m ++ (space ∷ lineOf (decimal n ∷ kindWords c))) (label-long w)
-    (joined (decimal m) (lineOf (decimal n ∷ kindWords c)) (decimal-long m) last))
+    omega (
+      arith,
+      joined (labelOf w) (decimal m ++ (space ∷ lineOf (decimal n ∷ kindWords c))) (label-long w)
+          (joined (decimal m) (lineOf (decimal n ∷ kindWords c)) (decimal-long m) last),
+    )

@@ -1,4 +1,6 @@
 -- Numbers of four bytes, computed over the definitions.
+--
+--   numbers    the largest and the least of 32 bits, -1 and 100,001
 use mathlib.Core.Path.{_≡_, refl}
 use mathlib.Core.List.{[], _∷_, map}
 use lib.IntN.{pos, negsuc}

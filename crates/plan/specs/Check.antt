@@ -13,8 +13,8 @@ use mathlib.Core.Bool.{Bool, false, not, cond, _||_}
 use mathlib.Core.List.{List, [], _∷_}
 use Prim.Native.Nat.{ℕ}
 use lib.Dec.{eqb, leb, ltb}
-use Rattle.contrasts.specs.Limits.{mostTwo, mostThree}
-use Rattle.contrasts.specs.Laws.Stretches.{spacing}
+use Rattle.contrasts.specs.Limits.{mostTwo, mostThree, mostAdded, mostBlocks}
+use Rattle.contrasts.specs.Totals.{spacing}
 use Rattle.plan.specs.declared.types.Plan.{Plan}
 use Rattle.plan.specs.declared.types.Check.{Check}
 use Rattle.plan.specs.declared.types.Check.the-variants as check
@@ -34,7 +34,7 @@ badFactors levels k = eqb k 0 || cond (eqb levels 2) (ltb mostTwo k) (ltb mostTh
 
 -- 4: "over 6 added, over 4 block words, or either at three levels"
 unfoldable pub badCounts : ℕ → ℕ → ℕ → Bool
-badCounts levels added blocks = ltb 6 added || (ltb 4 blocks || cond (eqb levels 3) (ltb 0 added || ltb 0 blocks) false)
+badCounts levels added blocks = ltb mostAdded added || (ltb mostBlocks blocks || cond (eqb levels 3) (ltb 0 added || ltb 0 blocks) false)
 
 -- 5: "letter beyond k, added word under two letters, sign over 1, empty block word"; an empty word is one under one letter
 unfoldable pub badWord : ℕ → ℕ → ℕ → Bool

@@ -1,8 +1,10 @@
 -- The small inputs of the table of refusals, 2 to 8, and the starred run on block words AD and ABC, computed over the definitions.
 --
+--   A, AB, C, BC, ABC, AD, BCD          words by their letters
 --   plan levels k words signs blocks    a plan with these words, whose other places hold 0 (`filled`)
 --   small-inputs, other-numbers         the numbers of plans that are refused
 --   all-accepted, BCD-lost              plans that are accepted, and the confounded effects of one
+--   of-any-plan                         how many runs there are, and how far apart a factor's values lie, for any plan
 use mathlib.Core.Path.{_≡_, refl}
 use mathlib.Core.Bool.{_||_}
 use mathlib.Core.List.{List, [], _∷_, _++_, map}
@@ -14,10 +16,12 @@ use Rattle.algebra.specs.Bits.{bits}
 use Rattle.algebra.specs.Search.{some}
 use Rattle.algebra.specs.Tab.{tab, tabFrom}
 use Rattle.contrasts.specs.Limits.{mostTwo, mostThree}
+use Rattle.contrasts.specs.Tables.{two, three}
+use Rattle.contrasts.specs.Totals.{size}
 use Rattle.words.specs.Words.{letters, beyond, times, combined, any, among, repeated}
 use Rattle.plan.specs.declared.types.Plan.{Plan}
-use Rattle.plan.specs.Plan.{someCombination, combinesTo, confoundedIn}
-use Rattle.plan.specs.Check.{badLevels, badFactors, badCounts, badWord, badSign, badWords, dependent, factorWord, losesFactor, planNumber}
+use Rattle.plan.specs.Plan.{factorsOf, someCombination, combinesTo, confoundedIn}
+use Rattle.plan.specs.Check.{badLevels, badFactors, badCounts, badWord, badSign, badWords, dependent, factorWord, losesFactor, planNumber, runCount, spacingAt}
 
 -- ---- words by their letters
 
@@ -120,3 +124,16 @@ all-accepted = refl
 BCD-lost : tab 16 (confoundedIn (plan 2 4 [] [] (AD ∷ ABC ∷ []))) ≡ tab 16 (λ w. eqb w AD || (eqb w ABC || eqb w BCD))
 unfolding combinesTo someCombination combined times some bits Σℕ tabFrom
 BCD-lost = refl
+
+-- ---- for the crates above, of any plan
+
+-- three two-level factors, two three-level ones, levels 4; the third factor of three at three levels, and a fourth, which is not there
+of-any-plan : runCount (plan 2 3 [] [] [])
+    ∷ runCount (plan 3 2 [] [] [])
+    ∷ runCount (plan 4 2 [] [] [])
+    ∷ spacingAt (plan 3 3 [] [] []) 2
+    ∷ spacingAt (plan 3 3 [] [] []) 3
+    ∷ []
+    ≡ 8 ∷ 9 ∷ 0 ∷ 9 ∷ 0 ∷ []
+unfolding runCount spacingAt badLevels badFactors mostTwo mostThree factorsOf size two three
+of-any-plan = refl

@@ -3,10 +3,8 @@
 --   rowsIn p, rowCount p         how many rows there are; for any plan, 0 where k is beyond every plan's
 --   wrongRows p n                line 11: rows or marks are not R
 --   keptKind, errorKind, meanKind, blocksKind    the four kinds, as numbers; the first two are the marks
---   marked marks w               row w has mark 1
 --   kindByMark, kindOf           what a row is, by its mark alone and in a plan
 --   kindsOf p marks              the kinds of as many rows as the largest plan has
---   anyOver marks                a mark is over 1
 --   badMark, badMarks            line 13, of one row and of all
 use mathlib.Core.Bool.{Bool, not, cond, _&&_, _||_}
 use mathlib.Core.List.{List}
@@ -44,9 +42,6 @@ meanKind = 2
 abbrev pub blocksKind : ℕ
 blocksKind = 3
 
-abbrev pub marked : List ℕ → ℕ → Bool
-marked marks w = eqb (getD marks w 0) 1
-
 -- "Rows with mark 1 are error; mark 0 keeps any other row."
 unfoldable pub kindByMark : ℕ → ℕ
 kindByMark m = cond (eqb m 1) errorKind keptKind
@@ -59,9 +54,6 @@ unfoldable pub kindsOf : Plan → List ℕ → List ℕ
 kindsOf p marks = tab 1024 (kindOf p marks)
 
 -- ---- line 13
-
-unfoldable pub anyOver : List ℕ → Bool
-anyOver marks = some (length marks) (λ w. ltb 1 (getD marks w 0))
 
 -- 13: "mark over 1, or mark 1 on the mean or a blocks row"
 unfoldable pub badMark : Plan → ℕ → ℕ → Bool

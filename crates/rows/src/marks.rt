@@ -6,7 +6,8 @@ use super::choices::choices;
 use plan::Plan;
 use words::combine;
 ghost use Rattle.plan.specs.Plan.{someCombination};
-ghost use Rattle.rows.specs.Kinds.{marked, anyOver, badMarks};
+ghost use Rattle.rows.specs.Kinds.{badMarks};
+ghost use Rattle.rows.specs.Written.{marked, anyOver};
 
 // Whether a mark is neither 0 nor 1. The loop does not stop early, so it is compiled to work several marks at a time.
 fn any_over(marks: &[u8]) -> bool

@@ -12,7 +12,7 @@ use Prim.Native.Nat.{ℕ, _+_}
 use lib.Dec.{ltb}
 use lib.IntN.{ℤ}
 use lib.ListN.{length, drop, replicate}
-use Rattle.contrasts.specs.Limits.{readingLimit}
+use Rattle.contrasts.specs.Limits.{readingLimit, mostAdded, mostBlocks}
 use Rattle.plan.specs.declared.types.Plan.{Plan}
 use Rattle.plan.specs.Check.{withPlan}
 use Rattle.plan.specs.Outcome.{Line, line, written}
@@ -47,7 +47,7 @@ unfoldable pub readNumber : List ℕ → ℕ → ℕ
 readNumber sheet room = sheetNumber (fieldsOf sheet) (ltb room (runsOf (planIn (fieldsOf sheet))))
 
 abbrev pub noPlan : Plan
-noPlan = record { levels = 0; k = 0; added = 0; words = replicate 6 0; signs = replicate 6 0; blocks = 0; blockwords = replicate 4 0 }
+noPlan = record { levels = 0; k = 0; added = 0; words = replicate mostAdded 0; signs = replicate mostAdded 0; blocks = 0; blockwords = replicate mostBlocks 0 }
 
 -- "The reader returns the plan"
 unfoldable pub readPlan : List ℕ → ℕ → Plan
@@ -67,6 +67,7 @@ readColumn sheet column =
 unfoldable pub marksNumber : List ℕ → ℕ
 marksNumber sheet = sheetNumber (fieldsOf sheet) false
 
--- "hands back the marks as the part of the sheet that holds them; [..] if the sheet is refused, an empty part"
+-- "hands back the marks as the part of the sheet that holds them; [..] if the sheet is refused, an empty part"; its bytes, and not
+-- where they lie (docs/DECISIONS.md 76)
 unfoldable pub marksOf : List ℕ → List ℕ
 marksOf sheet = written (marksNumber sheet) (marksIn (fieldsOf sheet)) []

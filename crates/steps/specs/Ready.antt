@@ -6,9 +6,9 @@ use mathlib.Core.List.{List}
 use Prim.Native.Nat.{ℕ, _*_, _<_}
 use lib.IntN.{ℤ}
 use lib.ListN.{length}
+use Rattle.contrasts.specs.Columns.{AllWithin}
 use Rattle.contrasts.specs.Limits.{valueLimit}
 use Rattle.contrasts.specs.Tables.{ofLevels}
-use Rattle.contrasts.specs.Laws.Lists.{AllWithin}
 
 pub record Sets (levels n : ℕ) (from to : List ℤ) : Type 0 where
   pub kind : ofLevels levels .levels ≡ levels

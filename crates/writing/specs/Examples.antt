@@ -1,7 +1,10 @@
 -- Sheets, computed over the definitions of the reader, the marks call and the writer.
 --
---   sample          the sheet of 01's run: readings 3, 5, 4, 8 and marks 0, 0, 0, 1, byte by byte
---   small-inputs    the small input of each line that a sheet can show
+--   sample          the sheet of the rules' run: readings 3, 5, 4, 8 and marks 0, 0, 0, 1, byte by byte
+--   sample-written, sample-plan, sample-column, sample-marks    it is written so, and what both calls give of it
+--   narrow          a column that is too short for it
+--   refusedSheets, small-inputs    the small input of each line that a sheet can show
+--   no-marks        the marks call gives an empty part of each of these
 use mathlib.Core.Path.{_≡_, refl}
 use mathlib.Core.List.{List, [], _∷_, map}
 use Prim.Native.Nat.{ℕ}
@@ -78,3 +81,8 @@ refusedSheets =
 small-inputs : map (λ sheet. readNumber sheet 8) refusedSheets ≡ 1 ∷ 2 ∷ 3 ∷ 4 ∷ 5 ∷ 6 ∷ 7 ∷ 8 ∷ 11 ∷ 12 ∷ 13 ∷ 4 ∷ []
 unfolding sheetOf sheetFields bytesOf each readingBytes bytes readNumber numberWith planIn readingsOf readingAt twos big fieldsOf parse bodies bodyAt badFields badFrom wrongLength wrongRows anyBeyond isBeyond badMarks badMark withPlan planNumber badLevels badFactors mostTwo mostThree badCounts badWords badWord badSign repeated dependent losesFactor factorWord any among beyond letters combined times someCombination combinesTo some bits Σℕ readingLimit factorsOf size two three tabFrom
 small-inputs = refl
+
+-- "if the sheet is refused, an empty part"; of `sample`, which only a narrow column has refused, it gives the marks all the same
+no-marks : map marksOf refusedSheets ≡ replicate 12 []
+unfolding sheetOf sheetFields bytesOf each readingBytes bytes marksOf marksNumber numberWith planIn readingsOf readingAt twos big fieldsOf parse bodies bodyAt badFields badFrom wrongLength wrongRows anyBeyond isBeyond badMarks badMark withPlan planNumber badLevels badFactors mostTwo mostThree badCounts badWords badWord badSign repeated dependent losesFactor factorWord any among beyond letters combined times someCombination combinesTo some bits Σℕ readingLimit factorsOf size two three tabFrom
+no-marks = refl

@@ -5,6 +5,8 @@
 --   each t n body rest      n fields of one tag, and then the rest
 --   complement z            z in two's complement of 32 bits
 --   readingBytes xs         the bytes of readings
+--   addedBody p i           the body of the field of added factor i
+--   blockBody p i           and of block word i
 --   sheetFields, sheetOf    the fields and the bytes of the whole sheet
 --   settled p               the plan p with 0 at the places beyond its counts
 use mathlib.Core.Bool.{cond}
@@ -14,6 +16,7 @@ use lib.Dec.{ltb}
 use lib.IntN.{ℤ, pos, negsuc}
 use lib.ListN.{length, getD}
 use Rattle.algebra.specs.Tab.{tab}
+use Rattle.contrasts.specs.Limits.{mostAdded, mostBlocks}
 use Rattle.plan.specs.declared.types.Plan.{Plan}
 use Rattle.fields.specs.Fields.{Fields, end, cut, field}
 
@@ -64,8 +67,8 @@ settled p = record {
   levels = p .levels;
   k = p .k;
   added = p .added;
-  words = tab 6 (λ i. cond (ltb i (p .added)) (getD (p .words) i 0) 0);
-  signs = tab 6 (λ i. cond (ltb i (p .added)) (getD (p .signs) i 0) 0);
+  words = tab mostAdded (λ i. cond (ltb i (p .added)) (getD (p .words) i 0) 0);
+  signs = tab mostAdded (λ i. cond (ltb i (p .added)) (getD (p .signs) i 0) 0);
   blocks = p .blocks;
-  blockwords = tab 4 (λ i. cond (ltb i (p .blocks)) (getD (p .blockwords) i 0) 0);
+  blockwords = tab mostBlocks (λ i. cond (ltb i (p .blocks)) (getD (p .blockwords) i 0) 0);
 }

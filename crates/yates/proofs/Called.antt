@@ -16,14 +16,14 @@ use lib.Pow.{pow-add}
 use lib.ListN.{length, replicate, length-replicate, getD-replicate, take}
 use lib.Seq.{take-length}
 use Rattle.algebra.specs.Tab.{tab, length-tab, getD-tab}
-use Rattle.contrasts.specs.Columns.{read, passOf, passesOf, totalsOf}
+use Rattle.contrasts.specs.Columns.{read, AllWithin, passOf, passesOf, totalsOf}
 use Rattle.contrasts.specs.Limits.{readingLimit, valueLimit}
 use Rattle.contrasts.specs.Tables.{ofLevels}
 use Rattle.contrasts.specs.Totals.{size, passes, count}
 use Rattle.contrasts.specs.Laws.Alike.{size-alike, spacing-alike}
 use Rattle.contrasts.specs.Laws.Kinds.{some-levels}
 use Rattle.contrasts.specs.Laws.Limits.{values-fit}
-use Rattle.contrasts.specs.Laws.Lists.{AllWithin, tab-read, pass-over, passes-list, passes-more, order-list, within-tab}
+use Rattle.contrasts.specs.Laws.Lists.{tab-read, pass-over, passes-list, passes-more, order-list, within-tab}
 use Rattle.contrasts.specs.Laws.Order.{inOrder, in-order}
 use Rattle.contrasts.specs.Laws.Stretches.{passOver}
 use Rattle.plan.specs.declared.types.Plan.{Plan}

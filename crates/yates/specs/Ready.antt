@@ -9,10 +9,10 @@ use Prim.Native.Nat.{ℕ, _*_, _<_, _^_}
 use lib.Dec.{T}
 use lib.IntN.{ℤ}
 use lib.ListN.{length}
+use Rattle.contrasts.specs.Columns.{AllWithin}
 use Rattle.contrasts.specs.Limits.{readingLimit, valueLimit}
 use Rattle.contrasts.specs.Tables.{ofLevels}
 use Rattle.contrasts.specs.Laws.Limits.{withinLimits}
-use Rattle.contrasts.specs.Laws.Lists.{AllWithin}
 
 pub record Stretch (levels h : ℕ) (xs : List ℤ) : Type 0 where
   pub kind : ofLevels levels .levels ≡ levels

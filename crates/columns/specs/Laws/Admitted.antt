@@ -15,8 +15,8 @@ use lib.IntN.{ℤ, natAbs}
 use lib.ListN.{length}
 use Rattle.algebra.specs.Search.{some-false, none-at}
 use Rattle.algebra.specs.Tests.{neither}
-use Rattle.contrasts.specs.Columns.{read}
-use Rattle.contrasts.specs.Laws.Lists.{AllWithin, within-upto}
+use Rattle.contrasts.specs.Columns.{read, AllWithin}
+use Rattle.contrasts.specs.Laws.Lists.{within-upto}
 use Rattle.plan.specs.declared.types.Plan.{Plan}
 use Rattle.plan.specs.Check.{planNumber}
 use Rattle.plan.specs.Plan.{runsOf}

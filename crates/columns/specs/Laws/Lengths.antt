@@ -17,7 +17,8 @@ use Rattle.plan.specs.Check.{planNumber, runCount}
 use Rattle.plan.specs.Plan.{runsOf}
 use Rattle.plan.specs.Laws.Answers.{passed, plan-passed, plan-first, after-plan}
 use Rattle.plan.specs.Laws.Sizes.{run-count}
-use Rattle.columns.specs.Lines.{wrongLength, anyBeyond, lengthsNumber, columnsNumber}
+use Rattle.columns.specs.Judged.{lengthsNumber}
+use Rattle.columns.specs.Lines.{wrongLength, anyBeyond, columnsNumber}
 
 module _ (p : Plan) (ok : planNumber p ≡ 0) {n : ℕ} (e : n ≡ runCount p) (m : ℕ) where
   pub wrong : (m ≡ n → ⊥) → wrongLength p m ≡ true

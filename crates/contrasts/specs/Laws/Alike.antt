@@ -13,10 +13,10 @@ use native.Mathlib.Nat.{pow-zero, pow-succ', zero-mod, zero-div}
 use native.Mathlib.Omega.{arith}
 use lib.ListN.{take, replicate, length-replicate, getD-replicate, replicate-append-replicate}
 use Rattle.contrasts.specs.Factor.{Factor}
-use Rattle.contrasts.specs.Totals.{Column, size, passAt, pass, divisor*, denominator}
+use Rattle.contrasts.specs.Totals.{Column, size, passAt, pass, divisor*, denominator, spacing}
 use Rattle.contrasts.specs.Laws.Bounds.{reach, growth, widest}
 use Rattle.contrasts.specs.Laws.Divisors.{divisor-more}
-use Rattle.contrasts.specs.Laws.Stretches.{spacing, pass-is}
+use Rattle.contrasts.specs.Laws.Stretches.{pass-is}
 
 pub size-alike : (k : ℕ) (F : Factor) → size (replicate k F) ≡ F .levels ^ k
 unfolding size

@@ -9,8 +9,7 @@
 --   steps-list       a step for each factor ends as the totals
 --   steps-alike      steps of k factors that are alike, over lists and over columns
 --   steps-more       one step more
---   AllWithin M xs   no value of a list exceeds M in size
---   within-upto, within-tab, within-part    it is enough to look at its places; so of a table, and of a part of a list
+--   within-upto, within-tab, within-part    for `AllWithin` it is enough to look at the places of a list; so of a table, and of a part
 use mathlib.Core.Path.{_≡_, refl, sym, _∙_, ap}
 use mathlib.Core.List.{List, [], _∷_}
 use Prim.Native.Nat.{ℕ, zero, suc, _+_, _-_, _*_, _^_, _<_, _≤_}
@@ -23,15 +22,15 @@ use lib.ListN.{length, getD, take, replicate}
 use lib.Pow.{pow-add}
 use Rattle.algebra.specs.Parts.{part, length-part, getD-part}
 use Rattle.algebra.specs.Tab.{tab, length-tab, getD-tab, is-tab, tab-cong, getD-past}
-use Rattle.contrasts.specs.Columns.{read, totalsOf, passOf, passesOf, stepOf, stepsOf}
+use Rattle.contrasts.specs.Columns.{read, AllWithin, totalsOf, passOf, passesOf, stepOf, stepsOf}
 use Rattle.contrasts.specs.Factor.{Factor}
-use Rattle.contrasts.specs.Totals.{Column, size, total, pass, passes, count, step, steps}
+use Rattle.contrasts.specs.Totals.{Column, size, total, pass, passes, count, step, steps, spacing}
 use Rattle.contrasts.specs.Laws.Alike.{size-alike}
 use Rattle.contrasts.specs.Laws.Bounds.{Within}
 use Rattle.contrasts.specs.Laws.Digits.{size-pos, pass-cong, pass-beyond}
 use Rattle.contrasts.specs.Laws.Order.{order}
 use Rattle.contrasts.specs.Laws.Steps.{step-cong, rotated, all-steps}
-use Rattle.contrasts.specs.Laws.Stretches.{spacing, passOver, pass-is}
+use Rattle.contrasts.specs.Laws.Stretches.{passOver, pass-is}
 
 pub tab-read : (xs : List ℤ) (n : ℕ) → length xs ≡ n → xs ≡ tab n (read xs)
 tab-read xs n e = is-tab (pos 0) xs n (read xs) e (λ i h. refl)
@@ -114,10 +113,6 @@ steps-more N F zero xs = refl
 steps-more N F (suc n) xs = steps-more N F n (stepOf N F xs)
 
 -- ---- sizes
-
--- a place past the end reads as 0
-abbrev pub AllWithin : ℕ → List ℤ → Type 0
-AllWithin M xs = (i : ℕ) → natAbs (read xs i) ≤ M
 
 pub within-upto : (M : ℕ) (xs : List ℤ) → ((i : ℕ) → i < length xs → natAbs (read xs i) ≤ M) → AllWithin M xs
 within-upto M xs h i = by (decLt i (length xs))

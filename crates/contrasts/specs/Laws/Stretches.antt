@@ -1,6 +1,5 @@
 -- "the column falls into consecutive stretches ... and each stretch is worked by itself. In it, values ... places apart belong together."
 --
---   spacing Fs f       how far apart the values of the factor at position f lie: the product of the levels before it
 --   pass-is            the pass of a position is the pass of its factor at that spacing
 --   pass-value         what the pass writes at the place p + d s, where p is the place of stretch q at the offset i
 --   passOver s F xs    the pass of F at the spacing s over a whole list; length-over is its length
@@ -19,10 +18,7 @@ use Rattle.algebra.specs.Sum.{Σ, Σ-cong, Σ-ext}
 use Rattle.algebra.specs.Tab.{tab, length-tab, getD-tab, is-tab}
 use Rattle.contrasts.specs.Columns.{read}
 use Rattle.contrasts.specs.Factor.{Factor}
-use Rattle.contrasts.specs.Totals.{Column, size, passAt, passFrom, pass}
-
-abbrev pub spacing : List Factor → ℕ → ℕ
-spacing Fs f = size (take f Fs)
+use Rattle.contrasts.specs.Totals.{Column, size, spacing, passAt, passFrom, pass}
 
 pass-from-at : (s : ℕ) (Fs : List Factor) (f : ℕ) (G : Factor) (x : Column) → f < length Fs → passFrom s Fs f x ≡ passAt (s * spacing Fs f) (getD Fs f G) x
 unfolding passFrom size

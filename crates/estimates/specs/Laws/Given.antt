@@ -25,7 +25,7 @@ use Rattle.plan.specs.Laws.Accepted.{accepted, sizes}
 use Rattle.plan.specs.Laws.Answers.{after-plan, passed, plan-passed}
 use Rattle.plan.specs.Laws.Confounded.{not-empty}
 use Rattle.plan.specs.Laws.Sizes.{two-levels}
-use Rattle.estimates.specs.Quotient.{Held}
+use Rattle.estimates.specs.Quotient.{InDouble}
 use Rattle.estimates.specs.Estimate.{Value, mean, difference, lost, meanOf, differenceOf, valueBy, estimateValue, totalLimit, estimateNumber}
 use Rattle.estimates.specs.Laws.Exact.{Exactly, exact}
 
@@ -65,7 +65,7 @@ module _ {p : Plan} {e : ℕ} {t : ℤ} (a : Admitted p e t) where
   pub some-factor : 0 < p .k
   some-factor = accepted p (a .plan) .factors .0
 
-  pub held : Held t (p .k)
+  pub held : InDouble t (p .k)
   unfolding readingLimit
   held =
       let k : p .k ≤ 10 = sizes p (a .plan) .0 in

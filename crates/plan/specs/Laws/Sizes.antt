@@ -22,10 +22,10 @@ use lib.ListN.{replicate}
 use borrow.Author.Tests.{eq-eqb, lt-leb}
 use Rattle.contrasts.specs.Limits.{mostTwo, mostThree}
 use Rattle.contrasts.specs.Tables.{two, three, ofLevels}
+use Rattle.contrasts.specs.Totals.{spacing}
 use Rattle.contrasts.specs.Laws.Alike.{size-alike, spacing-alike}
 use Rattle.contrasts.specs.Laws.Kinds.{kind-of}
 use Rattle.contrasts.specs.Laws.Limits.{withinLimits, two-within, three-within}
-use Rattle.contrasts.specs.Laws.Stretches.{spacing}
 use Rattle.plan.specs.declared.types.Plan.{Plan}
 use Rattle.plan.specs.Plan.{factorsOf, runsOf, confoundedIn}
 use Rattle.plan.specs.Check.{badLevels, badFactors, planNumber, runCount, spacingAt, confoundedAccepted}

@@ -10,8 +10,8 @@ use borrow.Author.Tests.{le-leb, lt-leb, leb-false}
 use lib.Dec.{leb}
 use lib.IntN.{ℤ}
 use lib.ListN.{length}
+use Rattle.contrasts.specs.Columns.{AllWithin}
 use Rattle.contrasts.specs.Limits.{valueLimit}
-use Rattle.contrasts.specs.Laws.Lists.{AllWithin}
 use Rattle.plan.specs.declared.types.Plan.{Plan}
 use Rattle.plan.specs.Check.{planNumber}
 use Rattle.plan.specs.Plan.{runsOf}

@@ -1,6 +1,6 @@
 use mathlib.Core.Path.{refl, sym, _∙_}
 use Rattle.plan.specs.Laws.Answers.{plan-first, after-plan}
-use Rattle.columns.specs.Lines.{lengthsNumber}
+use Rattle.columns.specs.Judged.{lengthsNumber}
 use Rattle.columns.specs.Laws.Lengths.{wrong, right}
 use Rattle.columns.proofs.numbers.lengths_number.Statement.{statement}
 use Rattle.columns.proofs.numbers.lengths_number.Tie as tie

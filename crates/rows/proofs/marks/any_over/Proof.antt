@@ -4,7 +4,7 @@ use native.Mathlib.Omega.{arith}
 use lib.Dec.{ltb}
 use lib.ListN.{length, getD}
 use Rattle.algebra.specs.Search.{Seen, seen-none, seen-more, seen-all}
-use Rattle.rows.specs.Kinds.{anyOver}
+use Rattle.rows.specs.Written.{anyOver}
 use Rattle.rows.proofs.marks.any_over.Statement.{statement}
 use Rattle.rows.proofs.marks.any_over.Tie as tie
 

@@ -1,0 +1,15 @@
+-- Places beyond a plan's counts are ignored by a call that reads one column and writes another.
+--
+--   same-columns    plans that agree as far as their counts reach get the same number
+use mathlib.Core.Path.{_≡_, refl}
+use mathlib.Core.List.{List}
+use Prim.Native.Nat.{ℕ}
+use lib.IntN.{ℤ}
+use Rattle.plan.specs.declared.types.Plan.{Plan}
+use Rattle.plan.specs.Check.{withPlan}
+use Rattle.plan.specs.Laws.Alike.{Alike, same-number, same-factors}
+use Rattle.columns.specs.Lines.{wrongLength, columnsNumber}
+
+pub same-columns : {p q : Plan} → Alike p q → (limit : ℕ) (xs ys : List ℤ) → columnsNumber limit p xs ys ≡ columnsNumber limit q xs ys
+unfolding columnsNumber withPlan wrongLength
+same-columns a limit xs ys = rw (same-number a, same-factors a) refl

@@ -1,0 +1,31 @@
+-- Rows and divisors of effects, computed over the definitions.
+--
+--   nine           two three-level factors: the first nine entries, each divided by 3 for each of the four factors missing
+--   nine-rows      the rows of their effects, and of a number of no effect
+--   nine-divisors  the divisors, and of a number of no effect
+use mathlib.Core.Path.{_≡_, refl}
+use mathlib.Core.List.{[], _∷_}
+use lib.ListN.{take}
+use Rattle.algebra.specs.Tab.{tabFrom}
+use Rattle.contrasts.specs.Limits.{mostTwo, mostThree}
+use Rattle.contrasts.specs.Rows.{rowOf}
+use Rattle.contrasts.specs.Tables.{two, three}
+use Rattle.contrasts.specs.Totals.{size, divisor*}
+use Rattle.plan.specs.Check.{badLevels, badFactors, runCount}
+use Rattle.plan.specs.Examples.{plan}
+use Rattle.plan.specs.Plan.{factorsOf}
+use Rattle.effects.specs.Divisors.{divisorsOf}
+use Rattle.effects.specs.Effects.{effectRows, effectDivisors}
+
+-- "Two three-level factors: divisors 9, 6, 18, 6, 4, 12, 18, 12, 36."
+nine : take 9 (divisorsOf 2) ≡ 9 ∷ 6 ∷ 18 ∷ 6 ∷ 4 ∷ 12 ∷ 18 ∷ 12 ∷ 36 ∷ []
+unfolding divisorsOf divisor* three tabFrom
+nine = refl
+
+nine-rows : take 10 (effectRows (plan 3 2 [] [] [])) ≡ 0 ∷ 1 ∷ 1 ∷ 2 ∷ 3 ∷ 3 ∷ 2 ∷ 3 ∷ 3 ∷ 0 ∷ []
+unfolding effectRows runCount badLevels badFactors mostTwo mostThree factorsOf size rowOf two three tabFrom
+nine-rows = refl
+
+nine-divisors : take 10 (effectDivisors (plan 3 2 [] [] [])) ≡ 9 ∷ 6 ∷ 18 ∷ 6 ∷ 4 ∷ 12 ∷ 18 ∷ 12 ∷ 36 ∷ 1 ∷ []
+unfolding effectDivisors runCount badLevels badFactors mostTwo mostThree factorsOf size divisor* two three tabFrom
+nine-divisors = refl
