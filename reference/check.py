@@ -7,15 +7,24 @@
 #   crates/worked_answers/stdin   the records of these, which that program reads
 #   crates/worked_sheets/stdout   answers of the two calls that take a sheet: sheets.py, by sheet.py
 #   crates/worked_sheets/stdin    the sheets, which that program reads
+#   crates/factab/stdout          the text that the rules print: report.py
+#   crates/factab/stdin           the sheet of that text, which that program reads
+#   crates/worked_reports/stdout  the texts of sheets, tables and refusals: reports.py, by report.py
+#   crates/worked_reports/stdin   the records of the sheets, which that program reads
 #
-# The published figures of tables are compared with those of anova.py: tables.py.
+# The published figures of tables are compared with those of anova.py: tables.py. The totals and texts of report.py are
+# compared with factab.py and the rules' example: report.py. Lines for a sheet, and the stored examples, which are made
+# from such lines: csv_sheet.py.
 
 import sys
 from pathlib import Path
 
 import amcp
 import answers
+import csv_sheet
 import published
+import report
+import reports
 import sheets
 import tables
 
@@ -27,13 +36,18 @@ PROGRAMS = [
     ("worked_totals", published),
     ("worked_answers", answers),
     ("worked_sheets", sheets),
+    ("worked_reports", reports),
 ]
 
 # Each program that reads an input with what makes it.
 INPUTS = [
     ("worked_answers", answers, answers.inputs),
     ("worked_sheets", sheets, sheets.inputs),
+    ("worked_reports", reports, reports.inputs),
 ]
+
+# Reference files beside these that have something to check.
+OTHERS = [tables, report, csv_sheet]
 
 
 def complaints_of(module):
@@ -49,14 +63,23 @@ def differs(crate, name, module, meant):
     return ["crates/%s/%s differs from what reference/%s.py makes" % (crate, name, module.__name__)]
 
 
+def bytes_of(text):
+    """The bytes of what a program must write, which some reference files make as bytes."""
+    return text if isinstance(text, bytes) else text.encode()
+
+
 def complaints():
-    """What is wrong: published figures that do not hold together, and stored inputs and outputs that differ."""
-    found = complaints_of(tables)
+    """What is wrong: figures that do not hold together, and stored inputs and outputs that differ."""
+    found = []
+    for module in OTHERS:
+        found += complaints_of(module)
     for crate, module in PROGRAMS:
         found += complaints_of(module)
-        found += differs(crate, "stdout", module, module.expected_text().encode())
+        found += differs(crate, "stdout", module, bytes_of(module.expected_text()))
     for crate, module, inputs in INPUTS:
         found += differs(crate, "stdin", module, inputs())
+    found += differs("factab", "stdout", report, report.RULES_TEXT)
+    found += differs("factab", "stdin", report, report.RULES_SHEET)
     return found
 
 

@@ -1,0 +1,58 @@
+// The program: it reads one sheet from standard input and writes the sheet's text, a table or the line of its refusal, to standard output.
+// Where the input cannot be read it writes no text. That, and a text that cannot be written, it tells on standard error.
+use libc::STDERR_FILENO;
+use libc::STDIN_FILENO;
+use libc::STDOUT_FILENO;
+use report::report;
+ghost use Prim.Native.Nat.{_≤_};
+ghost use lib.ListN.{length};
+ghost use Rattle.factab.specs.Input.{bytesOf};
+
+// One byte more than the longest sheet, so that a longer one is seen to be longer.
+const ROOM: usize = 5188;
+
+// The most bytes of a text.
+const TEXT: usize = 69632;
+
+// What came: so many bytes at the start of the buffer, or a read failed.
+enum Input {
+    Bytes(usize),
+    Failed,
+}
+
+// Reads until the buffer is full or the input ends. One read may bring a part only.
+fn read_input(buffer: &mut [u8]) -> Input
+    ensures { λ r. ⌜ bytesOf r ≤ length (now (buffer .exit)) ⌝ }
+{
+    let mut n = 0;
+    while n < buffer.len() {
+        let got = libc::read(STDIN_FILENO, &mut buffer[n..]);
+        if got < 0 {
+            return Input::Failed;
+        }
+        let more = io::count(got, &buffer[n..]);
+        if more == 0 {
+            return Input::Bytes(n);
+        }
+        n += more;
+    }
+    Input::Bytes(n)
+}
+
+fn print_report(sheet: &[u8]) {
+    let mut text = [0u8; TEXT];
+    let n = report(sheet, &mut text);
+    if !io::write_all(STDOUT_FILENO, &text[..n]) {
+        io::write_all(STDERR_FILENO, b"factab: the text cannot be written\n");
+    }
+}
+
+fn main() {
+    let mut buffer = [0u8; ROOM];
+    match read_input(&mut buffer) {
+        Input::Bytes(n) => print_report(&buffer[..n]),
+        Input::Failed => {
+            io::write_all(STDERR_FILENO, b"factab: the input cannot be read\n");
+        }
+    }
+}
