@@ -6,7 +6,7 @@
 --   table-made, table-refused   the table call and its figures as numbers, where there is room
 --   without-room, with-room     the whole call
 use mathlib.Core.Path.{_≡_, refl, sym, _∙_, ap}
-use mathlib.Core.Bool.{Bool, true, false, not, true≢false}
+use mathlib.Core.Bool.{true, false, not}
 use mathlib.Core.List.{List, [], _∷_}
 use Prim.Native.Nat.{ℕ}
 use native.Mathlib.Decide.{ℕ-discrete}
@@ -19,8 +19,8 @@ use Rattle.algebra.specs.Tests.{neither}
 use Rattle.contrasts.specs.Columns.{totalsOf}
 use Rattle.plan.specs.declared.types.Plan.{Plan}
 use Rattle.plan.specs.Check.{planNumber}
-use Rattle.plan.specs.Laws.Answers.{plan-first, after-plan, given-with, unwritten, written-new, number-of}
-use Rattle.plan.specs.Outcome.{line, numberOf, Outcome, given, refused, outcome, written}
+use Rattle.plan.specs.Laws.Answers.{plan-first, after-plan, unwritten, written-new, given-is, refused-is}
+use Rattle.plan.specs.Outcome.{line, outcome, written}
 use Rattle.plan.specs.Plan.{factorsOf}
 use Rattle.anova.specs.declared.types.Figures.{Figures}
 use Rattle.anova.specs.declared.types.Table.{Table}
@@ -65,33 +65,23 @@ module _ (p : Plan) where
 
 -- ---- room
 
-abbrev isGiven : {A : Type 0} → Outcome A → Bool
-isGiven (given v) = true
-isGiven (refused n) = false
-
-abbrev valueOr : {A : Type 0} → A → Outcome A → A
-valueOr d (given v) = v
-valueOr d (refused n) = d
-
 module _ (m : ℕ) (v : Figures) {r : Table} (told : tableOutcome r ≡ outcome m v) where
   pub table-made : (f : Figures) → r ≡ Made f → (figures : List ℕ) (checks : List ℤ) {fs : List ℕ} {cs : List ℤ} → fs ≡ figureNumbers f → cs ≡ checkNumbers f
       → (0 ≡ m) × ((fs ≡ written m (figureNumbers v) figures) × (cs ≡ written m (checkNumbers v) checks))
   table-made f e figures checks a b =
-      let done : 0 ≡ m = ap numberOf (ap tableOutcome (sym e) ∙ told) ∙ number-of m v in
-      let same : f ≡ v = ap (valueOr f) (ap tableOutcome (sym e) ∙ told ∙ given-with m v (sym done)) in (
-        done,
+      let t = given-is m v (ap tableOutcome (sym e) ∙ told) in (
+        sym (t .0),
         (
-          a ∙ ap figureNumbers same ∙ written-new m (figureNumbers v) figures (sym done),
-          b ∙ ap checkNumbers same ∙ written-new m (checkNumbers v) checks (sym done),
+          a ∙ ap figureNumbers (t .1) ∙ written-new m (figureNumbers v) figures (t .0),
+          b ∙ ap checkNumbers (t .1) ∙ written-new m (checkNumbers v) checks (t .0),
         ),
       )
 
   pub table-refused : (n : ℕ) → r ≡ Refused n → (figures : List ℕ) (checks : List ℤ)
       → (n ≡ m) × ((figures ≡ written m (figureNumbers v) figures) × (checks ≡ written m (checkNumbers v) checks))
   table-refused n e figures checks =
-      let number : n ≡ m = ap numberOf (ap tableOutcome (sym e) ∙ told) ∙ number-of m v in
-      let not-made : (m ≡ 0 → ⊥) = λ z. true≢false (sym (ap isGiven (ap tableOutcome (sym e) ∙ told ∙ given-with m v z))) in
-      (number, (unwritten m (figureNumbers v) figures not-made, unwritten m (checkNumbers v) checks not-made))
+      let t = refused-is m v (ap tableOutcome (sym e) ∙ told) in
+      (t .0, (unwritten m (figureNumbers v) figures (t .1), unwritten m (checkNumbers v) checks (t .1)))
 
 -- ---- the whole call
 

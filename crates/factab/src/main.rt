@@ -3,6 +3,7 @@
 use libc::STDERR_FILENO;
 use libc::STDIN_FILENO;
 use libc::STDOUT_FILENO;
+use report::TEXT;
 use report::report;
 ghost use Prim.Native.Nat.{_≤_};
 ghost use lib.ListN.{length};
@@ -10,9 +11,6 @@ ghost use Rattle.factab.specs.Input.{bytesOf};
 
 // One byte more than the longest sheet, so that a longer one is seen to be longer.
 const ROOM: usize = 5188;
-
-// The most bytes of a text.
-const TEXT: usize = 69632;
 
 // What came: so many bytes at the start of the buffer, or a read failed.
 enum Input {

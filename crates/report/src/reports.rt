@@ -20,9 +20,10 @@ ghost use Rattle.report.specs.Report.{printed, tableText, sheetTable, te
 // The most runs or rows of a plan.
 const MOST: usize = 1024;
 
-// The most bytes of a sheet, and of a text.
+// The most bytes of a sheet.
 const LONGEST: usize = 5187;
 
+// Room for every text; none is longer.
 pub const TEXT: usize = 69632;
 
 // The table of an accepted sheet. The readings are the first of the column.

@@ -3,10 +3,8 @@
 use libc::STDIN_FILENO;
 use libc::STDOUT_FILENO;
 use numerals::pair;
+use report::TEXT;
 use report::report;
-
-// The most bytes of a text.
-const TEXT: usize = 69632;
 
 // Reads a record and writes the text of its sheet. Answers whether there was a whole record and all was written.
 fn work_record() -> bool {

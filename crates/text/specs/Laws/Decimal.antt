@@ -1,5 +1,6 @@
--- Numbers in decimal.
+-- Numbers in decimal, as code writes them.
 --
+--   few, more, tenth              a number below 10 is one digit, and one from 10 on its tenth part and its last digit
 --   tenth-less                    the tenth part of a number
 --   few-digits, more-digits       a number below 10 is written as its digit, and one from 10 on as its tenth part and its last digit
 --   signed-below, signed-above    a value below 0, as code holds it, and one that is not
@@ -25,16 +26,16 @@ use Rattle.text.specs.Text.{ascii, Wrote}
 use Rattle.text.specs.Fields.{digit, decimalIn, decimal, signed}
 use Rattle.text.specs.Laws.Writing.{retext}
 
-few : (f n : ℕ) → n < 10 → decimalIn f n ≡ digit n ∷ []
+pub few : (f n : ℕ) → n < 10 → decimalIn f n ≡ digit n ∷ []
 unfolding decimalIn
 few zero n h = refl
 few (suc f) n h = rw (lt-ltb n 10 h) refl
 
-more : (f n : ℕ) → 10 ≤ n → decimalIn (suc f) n ≡ decimalIn f (n / 10) ++ (digit n ∷ [])
+pub more : (f n : ℕ) → 10 ≤ n → decimalIn (suc f) n ≡ decimalIn f (n / 10) ++ (digit n ∷ [])
 unfolding decimalIn
 more f n h = rw (le-ltb n 10 h) refl
 
-tenth : (f n : ℕ) → n < 10 ^ suc f → n / 10 < 10 ^ f
+pub tenth : (f n : ℕ) → n < 10 ^ suc f → n / 10 < 10 ^ f
 tenth f n h = div-lt-iff-lt-mul (lit< tt) .1 (rw (pow-suc 10 f) at h)
 
 enough : (f n : ℕ) → n < 10 ^ suc f → decimalIn (suc f) n ≡ decimalIn f n
