@@ -34,7 +34,7 @@ unfoldable pub rowLines : Plan → List ℕ → List ℕ → ℕ → List ℕ
 rowLines p marks rows zero = []
 rowLines p marks rows (suc w) = rowLines p marks rows w ++ lineOfRow p marks rows w
 
--- the line `over`, row lines, "the `blocks`, `error` and `total` lines below them", and the line `check`
+-- the line `over`, the row lines, then "The `blocks`, `error` and `total` lines below them", and the line `check`
 unfoldable pub tableText : Plan → List ℕ → Figures → List ℕ → List ℕ
 tableText p marks f rows =
     namedLine (ascii "over") (f .denominator)
