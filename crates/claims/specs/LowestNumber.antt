@@ -6,15 +6,14 @@
 --   onPlan p further               the lines of a call on a plan: the plan's own, and the call's
 --   onSheet fs narrow              those of a call on a sheet: line 1, the plan's own, and the sheet's
 --   LowestNumber, lowest-number    THE CLAIM, call by call, and its proof
-use mathlib.Core.Path.{_≡_}
 use mathlib.Core.Bool.{Bool, false}
-use mathlib.Core.List.{List, [], _∷_, _++_}
+use mathlib.Core.List.{List, _∷_, _++_}
 use Prim.Native.Nat.{ℕ}
-use lib.Dec.{T, ltb}
+use lib.Dec.{ltb}
 use lib.IntN.{ℤ}
 use Rattle.plan.specs.declared.types.Plan.{Plan}
-use Rattle.plan.specs.Check.{planLines, planNumber, withPlan}
-use Rattle.plan.specs.Outcome.{Line, line, lowest}
+use Rattle.plan.specs.Check.{planLines, planNumber}
+use Rattle.plan.specs.Outcome.{Line, line}
 use Rattle.plan.specs.Plan.{runsOf}
 use Rattle.plan.specs.Laws.Lowest.{Lowest, is-lowest, with-plan, lowest-with-plan}
 use Rattle.columns.specs.Lines.{columnsNumber}

@@ -2,8 +2,7 @@
 --
 --   counts    six, seven and nine added factors, and four, five and nine block words
 use mathlib.Core.Path.{_≡_, refl}
-use mathlib.Core.List.{List, [], _∷_, map}
-use Prim.Native.Nat.{ℕ}
+use mathlib.Core.List.{[], _∷_, map}
 use lib.ListN.{replicate}
 use Rattle.plan.specs.Examples.{AB, plan}
 use Rattle.contents.specs.Held.{held}

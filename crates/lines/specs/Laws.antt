@@ -5,7 +5,7 @@
 --   error-text, blocks-text, no-text                 what a row is marked as
 --   named-long, source-long, check-long, row-long    how long lines are at the most
 --   named-made, source-made, check-made, row-made    the lines
-use mathlib.Core.Path.{_≡_, refl, sym, ap, _∙_}
+use mathlib.Core.Path.{_≡_, refl, ap, _∙_}
 use mathlib.Core.Bool.{Bool, true, false, cond}
 use mathlib.Core.List.{List, [], _∷_, _++_, append-assoc}
 use Prim.Native.Nat.{ℕ, _+_, _≤_}

@@ -1,6 +1,5 @@
 -- Small texts, computed over the definitions.
 use mathlib.Core.Path.{_≡_, refl}
-use mathlib.Core.List.{[], _∷_}
 use lib.IntN.{pos, negsuc}
 use lib.Seq.{sets}
 use Rattle.text.specs.Text.{ascii}

@@ -1,6 +1,5 @@
 // Numbers in decimal.
 ghost use mathlib.Core.Path.{_≡_};
-ghost use mathlib.Core.List.{[], _∷_};
 ghost use Prim.Native.Nat.{_+_, _%_};
 ghost use lib.IntN.{natAbs};
 use super::bytes::put;

@@ -4,7 +4,7 @@
 --   is-lowest          `lowest` gives it, where the numbers rise
 --   with-plan          the number of a call on a plan is that of the plan's lines and its own, in one list
 --   lowest-with-plan   so it is the lowest that applies of all these
-use mathlib.Core.Path.{_≡_, refl, _∙_}
+use mathlib.Core.Path.{_≡_, refl}
 use mathlib.Core.Bool.{Bool, true, false, cond, _&&_, _||_}
 use mathlib.Core.List.{List, [], _∷_, _++_}
 use Prim.Native.Nat.{ℕ, _<_, _≤_}

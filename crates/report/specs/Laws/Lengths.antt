@@ -3,12 +3,12 @@
 --   text-fits              no text of a sheet is over 69,632 bytes long
 --   text-written           the text of a sheet from the buffer's first place on
 --   too-long, long-enough  the text of a sheet by its length, as code writes it
-use mathlib.Core.Path.{_≡_, refl, sym, ap, _∙_}
+use mathlib.Core.Path.{_≡_, sym, ap, _∙_}
 use mathlib.Core.Bool.{Bool, true, false, cond}
-use mathlib.Core.List.{List, [], _++_}
+use mathlib.Core.List.{List, _++_}
 use Prim.Native.Nat.{ℕ, zero, suc, _+_, _*_, _<_, _≤_}
 use native.Mathlib.Decide.{ℕ-discrete}
-use native.Mathlib.Nat.{suc-mul, le-trans}
+use native.Mathlib.Nat.{suc-mul}
 use native.Mathlib.Omega.{arith}
 use borrow.Author.Tests.{eq-eqb, ne-eqb, lt-ltb, le-ltb}
 use lib.Dec.{ltb}
@@ -24,8 +24,8 @@ use Rattle.contents.specs.Contents.{planIn, readingsIn, marksIn}
 use Rattle.sheet.specs.Sheet.{marksNumber}
 use Rattle.sheet.specs.Laws.Admitted.{marks-admitted}
 use Rattle.text.specs.Text.{ascii, Wrote}
-use Rattle.text.specs.Laws.Writing.{retext, from-start}
-use Rattle.lines.specs.Lines.{namedLine, sourceLine, checkLine, rowLine}
+use Rattle.text.specs.Laws.Writing.{from-start}
+use Rattle.lines.specs.Lines.{namedLine, sourceLine, checkLine}
 use Rattle.lines.specs.Laws.{named-long, source-long, check-long, row-long}
 use Rattle.anova.specs.declared.types.Figures.{Figures}
 use Rattle.anova.specs.Table.{tableFigures, rowsOf}

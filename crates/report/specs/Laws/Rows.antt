@@ -5,7 +5,7 @@
 --   no-rows, row-more, all-rows               the loop: no row yet, one more, all
 use mathlib.Core.Path.{_≡_, refl, sym, ap, _∙_}
 use mathlib.Core.Bool.{cond}
-use mathlib.Core.List.{List, [], _++_}
+use mathlib.Core.List.{List, _++_}
 use Prim.Native.Nat.{ℕ, zero, suc, _+_, _*_, _%_, _^_, _<_, _≤_}
 use native.Mathlib.Decide.{ℕ-discrete}
 use native.Mathlib.Nat.{lt-of-lt-of-le, mul-one, pow-zero, pow-suc}
@@ -13,7 +13,7 @@ use native.Mathlib.Numerals.{add-one}
 use native.Mathlib.Omega.{arith}
 use borrow.Author.Tests.{eq-eqb, ne-eqb}
 use lib.Count.{ones, ones-le}
-use lib.Dec.{eqb, lit<, lit≤}
+use lib.Dec.{eqb}
 use lib.ListN.{length, getD}
 use Rattle.algebra.specs.Bits.{one-shifted}
 use Rattle.algebra.specs.Tab.{getD-tab}
@@ -32,7 +32,7 @@ use Rattle.text.specs.Text.{Wrote}
 use Rattle.text.specs.Laws.Writing.{nothing, then, retext}
 use Rattle.lines.specs.Lines.{rowLine}
 use Rattle.report.specs.Ready.{RowsReady}
-use Rattle.report.specs.Report.{lineOfRow, rowLines}
+use Rattle.report.specs.Report.{rowLines}
 use Rattle.report.specs.Written.{degreesBy, rowsBy}
 
 -- ---- degrees

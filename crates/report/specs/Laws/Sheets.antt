@@ -4,10 +4,8 @@
 --   sheet-made, sheet-stopped            the text of an accepted sheet, and of one that is refused
 use mathlib.Core.Path.{_≡_, refl, sym, ap, _∙_}
 use mathlib.Core.List.{List, [], _++_}
-use Prim.Native.Nat.{ℕ, _<_, _≤_}
-use native.Mathlib.Nat.{le-refl}
+use Prim.Native.Nat.{ℕ, _≤_}
 use native.Mathlib.Omega.{arith}
-use borrow.Author.Tests.{lt-ltb, le-ltb, ltb-false}
 use lib.IntN.{ℤ}
 use lib.ListN.{length, take, drop, length-append, length-drop}
 use lib.Seq.{take-at}
@@ -21,18 +19,17 @@ use Rattle.columns.specs.declared.types.Answer.the-variants.{Done, Refused}
 use Rattle.columns.specs.Lines.{answerOutcome}
 use Rattle.columns.specs.Laws.Admitted.{as-long}
 use Rattle.rows.specs.Laws.{rows-as-long}
-use Rattle.fields.specs.Fields.{Fields, fieldsOf}
+use Rattle.fields.specs.Fields.{fieldsOf}
 use Rattle.contents.specs.Contents.{planIn, readingsIn, marksIn}
-use Rattle.sheet.specs.declared.types.Sheet.{Sheet}
 use Rattle.sheet.specs.Sheet.{readNumber, noPlan, readPlan, readColumn, marksNumber, marksOf}
-use Rattle.sheet.specs.Laws.Admitted.{Admitted, read-admitted}
+use Rattle.sheet.specs.Laws.Admitted.{read-admitted}
 use Rattle.sheet.specs.Laws.Marks.{same-number, accepted-without}
 use Rattle.text.specs.Text.{ascii, Wrote}
 use Rattle.text.specs.Laws.Writing.{retext}
 use Rattle.lines.specs.Lines.{namedLine}
 use Rattle.anova.specs.Table.{tableFigures, rowsOf}
 use Rattle.report.specs.Ready.{SheetReady}
-use Rattle.report.specs.Report.{tableText, printed, sheetTable, longestSheet, reportNumber, textOf}
+use Rattle.report.specs.Report.{tableText, printed, sheetTable}
 use Rattle.report.specs.Laws.Tables.{given-text, refused-text}
 
 -- ---- a sheet that is refused

@@ -7,7 +7,7 @@
 --   few-runs, readings-long, few-rows    the parts that are lent to the table call
 --   lent-text                    the text of an accepted sheet's table
 use mathlib.Core.Path.{_≡_, refl, sym, ap, ap₂, _∙_}
-use mathlib.Core.List.{List, _++_}
+use mathlib.Core.List.{List}
 use Prim.Native.Nat.{ℕ, _^_, _<_, _≤_}
 use native.Mathlib.Omega.{arith}
 use borrow.Author.Tests.{eq-eqb, ne-eqb}

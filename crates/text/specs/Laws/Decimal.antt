@@ -7,7 +7,7 @@
 --   signed-kept                   a value as code holds it is that value
 --   decimal-long, signed-long     no number has over 20 digits, and no value over 21 bytes
 use mathlib.Core.Path.{_≡_, refl, sym, ap, _∙_, subst}
-use mathlib.Core.Bool.{true, false, cond}
+use mathlib.Core.Bool.{true, false}
 use mathlib.Core.List.{List, [], _∷_, _++_}
 use Prim.Native.Nat.{ℕ, zero, suc, _+_, _/_, _^_, _<_, _≤_}
 use native.Mathlib.Decide.{decLt}
@@ -22,7 +22,7 @@ use mir.Facts.{toZ-ofZ}
 use mir.Syntax.{w64}
 use mir.Val.{SFits}
 use Rattle.algebra.specs.Size.{wrap}
-use Rattle.text.specs.Text.{ascii, Wrote}
+use Rattle.text.specs.Text.{Wrote}
 use Rattle.text.specs.Fields.{digit, decimalIn, decimal, signed}
 use Rattle.text.specs.Laws.Writing.{retext}
 

@@ -1,7 +1,3 @@
-use mathlib.Core.Path.{sym, ap}
-use mathlib.Core.Bool.{cond}
-use mathlib.Core.List.{[], _∷_}
-use Prim.Native.Nat.{_+_}
 use native.Mathlib.Omega.{arith}
 use borrow.Author.Needs.{needs}
 use Rattle.algebra.specs.Tests.{is}

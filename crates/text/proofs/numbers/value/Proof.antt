@@ -1,6 +1,5 @@
 use borrow.Author.Needs.{needs}
-use mathlib.Core.Path.{_∙_, sym}
-use Rattle.text.specs.Laws.Writing.{then, retext}
+use Rattle.text.specs.Laws.Writing.{then}
 use Rattle.text.specs.Laws.Decimal.{signed-below, signed-above}
 use Rattle.text.proofs.numbers.value.Statement.{statement}
 use Rattle.text.proofs.numbers.value.Tie as tie
