@@ -2,6 +2,7 @@
 --
 --   bit w i, isSet w i     digit i of w, and whether it is 1
 --   digit                  a digit by the test whether it is 1
+--   bit-zero, bit-suc      the lowest digit, and the digits of the rest
 --   bits n f               the number whose digits below n are those of which f holds
 --   bits-lt, bits-at       it is below 2 ^ n, and has those digits
 --   bits-all               a number below 2 ^ n is that of its own digits
@@ -39,10 +40,10 @@ bits n f = Σℕ n (λ i. cond (f i) (2 ^ i) 0)
 
 -- ---- the lowest digit, and the rest
 
-bit-zero : (w : ℕ) → bit w zero ≡ w % 2
+pub bit-zero : (w : ℕ) → bit w zero ≡ w % 2
 bit-zero w = ap (λ (n : ℕ). n % 2) (div-one w)
 
-bit-suc : (w i : ℕ) → bit w (suc i) ≡ bit (w / 2) i
+pub bit-suc : (w i : ℕ) → bit w (suc i) ≡ bit (w / 2) i
 bit-suc w i = ap (λ (n : ℕ). n % 2) (ap (λ (p : ℕ). w / p) (pow-succ' 2 i) ∙ sym (div-div-eq-div-mul w 2 (2 ^ i)))
 
 half-lt : (n w : ℕ) → w < 2 ^ suc n → w / 2 < 2 ^ n

@@ -6,6 +6,7 @@
 --   Search    whether a test holds of some number below a bound
 --   Sum       finite sums Σ of integers
 --   Naturals  finite sums and largest values of natural numbers
+--   Fractions fractions, added without rounding
 --   Bits      sets as the binary digits of a number
 --   Size      the size of sums and products, and what fits a 64-bit integer
 --   Signs     the size of a signed value, as code forms it
@@ -21,6 +22,7 @@ pub mod Tests
 pub mod Search
 pub mod Sum
 pub mod Naturals
+pub mod Fractions
 pub mod Bits
 pub mod Size
 pub mod Signs

@@ -33,8 +33,8 @@ use Rattle.plan.specs.Laws.Sizes.{run-count, runs-few}
 use Rattle.columns.specs.Laws.Admitted.{admits}
 use Rattle.yates.specs.Calls.{totalsNumber, totalsColumn}
 use Rattle.effects.specs.Effects.{effectRows, effectDivisors}
-use Rattle.rows.specs.Kinds.{rowsIn, kindOf, kindsOf}
-use Rattle.rows.specs.Laws.{four-kinds, rows-few}
+use Rattle.rows.specs.Kinds.{rowsIn, kindOf, codeOf, kindIn, kindsOf}
+use Rattle.rows.specs.Laws.{four-kinds, code-in, rows-few}
 use Rattle.anova.specs.declared.walks.Sums.{Sums}
 use Rattle.anova.specs.Laws.Admitted.{rows-power, limit-fits, within-limit}
 use Rattle.anova.specs.Ready.{Walkable, TableReady}
@@ -62,6 +62,10 @@ module _ {p : Plan} {readings : List ℤ} {marks : List ℕ} {totals : List ℤ}
       (admits (record { plan = a .plan; whole = a .whole; same = a .same; within = a .within })))
 
   -- ---- the walk
+
+  -- the number of a row's kind
+  abbrev code : ℕ → ℕ
+  code w = codeOf (kindOf p marks w)
 
   module _ {ts : List ℤ} {effects : List ℕ} {d : ℕ} {ds kinds rs : List ℕ} (l : Lists p readings marks (length rows) ts effects d ds kinds rs) where
     long : length ts ≡ runsOf p
@@ -100,10 +104,10 @@ module _ {p : Plan} {readings : List ℤ} {marks : List ℕ} {totals : List ℤ}
       row-there : rowOf (factorsOf p) e < rowsIn p
       row-there = rw (rows-power a) at (row-lt (factorsOf p) e)
 
-      kind-is : walkKind effects kinds e ≡ kindOf p marks (rowOf (factorsOf p) e)
+      kind-is : walkKind effects kinds e ≡ code (rowOf (factorsOf p) e)
       unfolding kindsOf
       kind-is =
-          rw (row-is, l .kinds-are) (getD-tab 0 1024 (kindOf p marks) (rowOf (factorsOf p) e) (omega (arith, row-there, (rows-few p (a .plan)))))
+          rw (row-is, l .kinds-are) (getD-tab 0 1024 code (rowOf (factorsOf p) e) (omega (arith, row-there, (rows-few p (a .plan)))))
 
     -- the sum of all numerators is the total, which is within the limit of numerators
     all-numerators : Σℕ (length ts) (walkNumerator ts d ds) ≡ denominator (factorsOf p) * squared (factorsOf p) (read readings)
@@ -119,8 +123,8 @@ module _ {p : Plan} {readings : List ℤ} {marks : List ℕ} {totals : List ℤ}
           divisors-some = λ e h. rw (divisor-is (rw long at h)) (divisor*-pos (factorsOf p) e);
           weights-some = λ e h. rw (weight-is (rw long at h)) (weight-pos (factorsOf p) e);
           row-there = λ e h. rw (row-is (rw long at h), rows-count) (row-there (rw long at h));
-          kinds-long = rw (rows-count, l .kinds-are, length-tab 1024 (kindOf p marks)) (rows-few p (a .plan));
-          four-kinds = λ e h. rw (kind-is (rw long at h)) (four-kinds p marks (rowOf (factorsOf p) e));
+          kinds-long = rw (rows-count, l .kinds-are, length-tab 1024 code) (rows-few p (a .plan));
+          four-kinds = λ e h. rw (kind-is (rw long at h)) (four-kinds (kindOf p marks (rowOf (factorsOf p) e)));
           cleared = l .rows-are ∙ ap zeros (a .rows-long ∙ sym rows-count);
           sum-fits = rw all-numerators (omega (arith, (within-limit a), limit-fits));
         }
@@ -132,19 +136,21 @@ module _ {p : Plan} {readings : List ℤ} {marks : List ℕ} {totals : List ℤ}
     rows-made e =
         e ∙ rw (long, rows-count) (sorted-cong (λ e h. row-is h) (λ e h. numerator-is h) (rowsIn p))
 
-    numerators-made : {ns : List ℕ} → ns ≡ numeratorsAfter ts effects d ds kinds (length ts) → ns ≡ tab 4 (λ c. sourceOf p readings marks c .numerator)
+    numerators-made : {ns : List ℕ} → ns ≡ numeratorsAfter ts effects d ds kinds (length ts) → ns ≡ tab 4 (λ n. sourceOf p readings marks (kindIn n) .numerator)
     unfolding numeratorsAfter sourceOf
     numerators-made e =
-        e ∙ rw long (tab-cong 0 4 _ _ (λ c _.
-        sum-cong (λ e h. kind-is h) (λ e h. numerator-is h) c
-        ∙ sym (rw (rows-power a) at (numerators-of-kind (factorsOf p) (kindOf p marks) c (read readings)))))
+        e ∙ rw long (tab-cong 0 4 _ _ (λ n low.
+        sum-cong (λ e h. kind-is h) (λ e h. numerator-is h) n
+        ∙ sym (rw (rows-power a) at (numerators-of-kind (factorsOf p) code n (read readings)))
+        ∙ rw (code-in n low)))
 
-    degrees-made : {ds : List ℕ} → ds ≡ degreesAfter effects kinds (length ts) → ds ≡ tab 4 (λ c. sourceOf p readings marks c .degrees)
+    degrees-made : {ds : List ℕ} → ds ≡ degreesAfter effects kinds (length ts) → ds ≡ tab 4 (λ n. sourceOf p readings marks (kindIn n) .degrees)
     unfolding degreesAfter sourceOf
     degrees-made e =
-        e ∙ rw long (tab-cong 0 4 _ _ (λ c _.
-        sum-cong (λ e h. kind-is h) (λ e h. refl) c
-        ∙ sym (rw (rows-power a) at (degrees-of-kind (factorsOf p) (kindOf p marks) c))))
+        e ∙ rw long (tab-cong 0 4 _ _ (λ n low.
+        sum-cong (λ e h. kind-is h) (λ e h. refl) n
+        ∙ sym (rw (rows-power a) at (degrees-of-kind (factorsOf p) code n))
+        ∙ rw (code-in n low)))
 
     sum-made : {s : ℤ} → s ≡ Σ (length ts) (read ts) → s ≡ Σ (runsOf p) (total (factorsOf p) (read readings))
     sum-made e = e ∙ rw long (Σ-cong (runsOf p) (λ e h. total-is h))

@@ -15,7 +15,7 @@ use native.Mathlib.Nat.{mul-le-mul-right, one-mul}
 use native.Mathlib.Decide.{ℕ-discrete}
 use native.Mathlib.Omega.{arith}
 use borrow.Author.Tests.{eq-eqb, ne-eqb}
-use lib.Dec.{eqb, lit<}
+use lib.Dec.{eqb}
 use lib.IntN.{ℤ}
 use lib.ListN.{length, getD, replicate}
 use Rattle.algebra.specs.Naturals.{mul-pow}
@@ -34,8 +34,8 @@ use Rattle.plan.specs.Laws.Accepted.{accepted}
 use Rattle.plan.specs.Laws.Sizes.{as-power, plan-kind, factors-two, factors-three, runs-few}
 use Rattle.contrasts.specs.Limits.{mostThree}
 use Rattle.contrasts.specs.Laws.Kinds.{the-three}
-use Rattle.rows.specs.Kinds.{rowsIn, keptKind, errorKind, meanKind, blocksKind}
-use Rattle.rows.specs.Laws.{rows-few}
+use Rattle.rows.specs.Kinds.{rowsIn, Kind, meanRow, blocksRow, errorRow, keptRow, codeOf, kindIn}
+use Rattle.rows.specs.Laws.{four-kinds, kind-in, rows-few}
 use Rattle.anova.specs.declared.types.Source.{Source}
 use Rattle.anova.specs.declared.types.Figures.{Figures}
 use Rattle.anova.specs.declared.walks.Sums.{Sums}
@@ -105,16 +105,16 @@ module _ {p : Plan} {readings : List ℤ} {marks : List ℕ} {totals : List ℤ}
     -- ---- the figures
 
     module _ {sums : Sums} (made : sums ≡ sumsOf p readings marks) where
-      source-made : (c : ℕ) → c < 4 → (r : Source) → (r .degrees ≡ getD (sums .degrees) c 0) × (r .numerator ≡ getD (sums .numerators) c 0)
+      source-made : (c : Kind) (r : Source) → (r .degrees ≡ getD (sums .degrees) (codeOf c) 0) × (r .numerator ≡ getD (sums .numerators) (codeOf c) 0)
           → r ≡ sourceOf p readings marks c
       unfolding sumsOf
-      source-made c h r e = λ i. record { degrees = degrees-are i; numerator = numerators-are i }
+      source-made c r e = λ i. record { degrees = degrees-are i; numerator = numerators-are i }
         where
           degrees-are : r .degrees ≡ sourceOf p readings marks c .degrees
-          degrees-are = e .0 ∙ rw made (getD-tab 0 4 (λ c. sourceOf p readings marks c .degrees) c h)
+          degrees-are = e .0 ∙ rw (made, getD-tab 0 4 (λ n. sourceOf p readings marks (kindIn n) .degrees) (codeOf c) (four-kinds c), kind-in c) refl
 
           numerators-are : r .numerator ≡ sourceOf p readings marks c .numerator
-          numerators-are = e .1 ∙ rw made (getD-tab 0 4 (λ c. sourceOf p readings marks c .numerator) c h)
+          numerators-are = e .1 ∙ rw (made, getD-tab 0 4 (λ n. sourceOf p readings marks (kindIn n) .numerator) (codeOf c) (four-kinds c), kind-in c) refl
 
       totals-are : sums .totals ≡ checksOf p readings .totals
       unfolding sumsOf checksOf
@@ -125,10 +125,10 @@ module _ {p : Plan} {readings : List ℤ} {marks : List ℕ} {totals : List ℤ}
       sum-kept = back (sums .totals) (rw totals-are (omega (arith, check-within (factorsOf p) (read readings), within-limit a, limit-fits)))
 
       pub figures-made : (mean kept blocks error : Source) (n : ℕ) (sum from : ℤ)
-          → (mean .degrees ≡ getD (sums .degrees) meanKind 0) × (mean .numerator ≡ getD (sums .numerators) meanKind 0)
-          → (kept .degrees ≡ getD (sums .degrees) keptKind 0) × (kept .numerator ≡ getD (sums .numerators) keptKind 0)
-          → (blocks .degrees ≡ getD (sums .degrees) blocksKind 0) × (blocks .numerator ≡ getD (sums .numerators) blocksKind 0)
-          → (error .degrees ≡ getD (sums .degrees) errorKind 0) × (error .numerator ≡ getD (sums .numerators) errorKind 0)
+          → (mean .degrees ≡ getD (sums .degrees) (codeOf meanRow) 0) × (mean .numerator ≡ getD (sums .numerators) (codeOf meanRow) 0)
+          → (kept .degrees ≡ getD (sums .degrees) (codeOf keptRow) 0) × (kept .numerator ≡ getD (sums .numerators) (codeOf keptRow) 0)
+          → (blocks .degrees ≡ getD (sums .degrees) (codeOf blocksRow) 0) × (blocks .numerator ≡ getD (sums .numerators) (codeOf blocksRow) 0)
+          → (error .degrees ≡ getD (sums .degrees) (codeOf errorRow) 0) × (error .numerator ≡ getD (sums .numerators) (codeOf errorRow) 0)
           → n ≡ length readings → sum ≡ sums .totals → from ≡ rounds (replicate (p .k) (ofLevels (p .levels))) (read readings)
           → _≡_ {A = Figures} (record {
             denominator = d;
@@ -143,10 +143,10 @@ module _ {p : Plan} {readings : List ℤ} {marks : List ℕ} {totals : List ℤ}
       figures-made mean kept blocks error n sum from m k b e l t f =
           λ i. record {
             denominator = den i;
-            mean = source-made meanKind (lit< tt) mean m i;
-            kept = source-made keptKind (lit< tt) kept k i;
-            blocks = source-made blocksKind (lit< tt) blocks b i;
-            error = source-made errorKind (lit< tt) error e i;
+            mean = source-made meanRow mean m i;
+            kept = source-made keptRow kept k i;
+            blocks = source-made blocksRow blocks b i;
+            error = source-made errorRow error e i;
             total = record { degrees = (l ∙ a .whole) i; numerator = total-is i };
             checks = record { totals = (t ∙ totals-are) i; readings = f i };
           }

@@ -3,7 +3,7 @@
 --   wrongLengths               line 11, of all four slices
 --   tableLines                 the lines of the call besides those of the plan
 --   tableNumber                the lowest number that applies, 0 where the table is made
---   sourceOf p xs marks c      degrees and numerator of the rows of one kind
+--   sourceOf p xs marks c      degrees and numerator of the rows of the kind c
 --   totalSource p xs           those of the total
 --   checksOf p xs              both check numbers
 --   tableFigures p xs marks    the figures
@@ -13,7 +13,6 @@
 use mathlib.Core.Bool.{Bool, cond, _||_}
 use mathlib.Core.List.{List, [], _∷_}
 use Prim.Native.Nat.{ℕ, _*_}
-use lib.Dec.{eqb}
 use lib.IntN.{ℤ}
 use lib.ListN.{length}
 use Rattle.algebra.specs.Naturals.{Σℕ}
@@ -28,7 +27,7 @@ use Rattle.plan.specs.Check.{withPlan}
 use Rattle.plan.specs.Outcome.{Line, line, Outcome, given, refused, written}
 use Rattle.plan.specs.Plan.{factorsOf, runsOf}
 use Rattle.columns.specs.Lines.{wrongLength, anyBeyond}
-use Rattle.rows.specs.Kinds.{rowsIn, wrongRows, keptKind, errorKind, meanKind, blocksKind, kindOf, badMarks}
+use Rattle.rows.specs.Kinds.{rowsIn, wrongRows, Kind, meanRow, blocksRow, errorRow, keptRow, kindOf, same, badMarks}
 use Rattle.anova.specs.declared.types.Source.{Source}
 use Rattle.anova.specs.declared.types.Checks.{Checks}
 use Rattle.anova.specs.declared.types.Figures.{Figures}
@@ -55,10 +54,10 @@ tableNumber p readings marks totals rows = withPlan p (tableLines p readings mar
 -- ---- the figures
 
 -- "Each of these four adds up the degrees and numerators of its rows."
-unfoldable pub sourceOf : Plan → List ℤ → List ℕ → ℕ → Source
+unfoldable pub sourceOf : Plan → List ℤ → List ℕ → Kind → Source
 sourceOf p readings marks c = record {
-  degrees = Σℕ (rowsIn p) (λ w. cond (eqb (kindOf p marks w) c) (degreesOf (factorsOf p) w) 0);
-  numerator = Σℕ (rowsIn p) (λ w. cond (eqb (kindOf p marks w) c) (rowNumerator (factorsOf p) (read readings) w) 0);
+  degrees = Σℕ (rowsIn p) (λ w. cond (same (kindOf p marks w) c) (degreesOf (factorsOf p) w) 0);
+  numerator = Σℕ (rowsIn p) (λ w. cond (same (kindOf p marks w) c) (rowNumerator (factorsOf p) (read readings) w) 0);
 }
 
 -- "the total (denominator times the sum of squared readings)"; its degrees are the number of runs
@@ -80,10 +79,10 @@ checksOf p readings = record {
 unfoldable pub tableFigures : Plan → List ℤ → List ℕ → Figures
 tableFigures p readings marks = record {
   denominator = denominator (factorsOf p);
-  mean = sourceOf p readings marks meanKind;
-  kept = sourceOf p readings marks keptKind;
-  blocks = sourceOf p readings marks blocksKind;
-  error = sourceOf p readings marks errorKind;
+  mean = sourceOf p readings marks meanRow;
+  kept = sourceOf p readings marks keptRow;
+  blocks = sourceOf p readings marks blocksRow;
+  error = sourceOf p readings marks errorRow;
   total = totalSource p readings;
   checks = checksOf p readings;
 }

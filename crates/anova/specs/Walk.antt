@@ -22,6 +22,7 @@ use Rattle.contrasts.specs.Tables.{three}
 use Rattle.contrasts.specs.Totals.{total, round}
 use Rattle.plan.specs.declared.types.Plan.{Plan}
 use Rattle.plan.specs.Plan.{factorsOf, runsOf}
+use Rattle.rows.specs.Kinds.{kindIn}
 use Rattle.anova.specs.declared.walks.Sums.{Sums}
 use Rattle.anova.specs.Table.{sourceOf}
 
@@ -49,8 +50,8 @@ degreesAfter effects kinds e = sorted 4 (walkKind effects kinds) (λ i. 1) e
 -- the four kinds by their numbers, and the sum of the totals, as the walk leaves them
 unfoldable pub sumsOf : Plan → List ℤ → List ℕ → Sums
 sumsOf p readings marks = record {
-  numerators = tab 4 (λ c. sourceOf p readings marks c .numerator);
-  degrees = tab 4 (λ c. sourceOf p readings marks c .degrees);
+  numerators = tab 4 (λ n. sourceOf p readings marks (kindIn n) .numerator);
+  degrees = tab 4 (λ n. sourceOf p readings marks (kindIn n) .degrees);
   totals = Σ (runsOf p) (total (factorsOf p) (read readings));
 }
 

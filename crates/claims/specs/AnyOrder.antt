@@ -1,8 +1,11 @@
--- Demand 3, any order of passes: "a theorem over every list of pass calls that names each base factor once".
+-- Demand 3, any order of passes: "Take any accepted plan and a column with one place per run that starts as readings within the limit. Take any
+-- list of pass calls under that plan over that column which names each base factor exactly once, in any order, with any calls for other
+-- factors anywhere among them. Each call works on what the last one left, and nobody else writes. Then a call is refused exactly when its
+-- factor is no base factor of the plan, any other makes the pass of its own factor and no more, and the column ends, place by place, as the
+-- report's effect totals."
 --
--- "In demand 3 the pass calls share one accepted plan and one column of N. Each gets the column as the last one left it. A call whose
--- factor is not a base factor gives 10 and leaves the column as it was; every other call in such a list is accepted. This is one statement
--- about the whole list, whatever its order and length, and not a statement per pass."
+-- In the rules: "A call whose factor is not a base factor gives 10 and leaves the column as it was; every other call in such a list is
+-- accepted. This is one statement about the whole list, whatever its order and length, and not a statement per pass."
 --
 --   afterCalls p calls column    the column after a list of pass calls, each on what the last one left
 --   Readings p column            a column of N readings within the limit
@@ -14,6 +17,7 @@
 --   ownPass p f column           what it is to leave
 --   InAnyOrder p column calls    what is claimed of such a list
 --   AnyOrder, any-order          THE CLAIM, and its proof
+--   calls-of-four                a worked list of calls, two of which name no factor
 use mathlib.Core.Path.{_≡_, refl, sym, _∙_, ap}
 use mathlib.Core.Bool.{cond}
 use mathlib.Core.List.{List, [], _∷_}
@@ -22,36 +26,43 @@ use native.Mathlib.Decide.{decLt}
 use native.Mathlib.Omega.{arith}
 use borrow.Author.Tests.{lt-ltb, le-ltb}
 use lib.Dec.{ltb}
-use lib.IntN.{ℤ}
+use lib.IntN.{ℤ, pos}
 use lib.ListN.{length, getD, take, length-replicate}
 use lib.Seq.{take-length}
-use Rattle.algebra.specs.Tab.{tab, length-tab}
+use Rattle.algebra.specs.Bits.{bits}
+use Rattle.algebra.specs.Naturals.{Σℕ}
+use Rattle.algebra.specs.Search.{some}
+use Rattle.algebra.specs.Sum.{Σ}
+use Rattle.algebra.specs.Tab.{tab, tabFrom, length-tab}
 use Rattle.contrasts.specs.Columns.{read, AllWithin, passOf, passesOf, totalsOf}
-use Rattle.contrasts.specs.Limits.{readingLimit, valueLimit}
-use Rattle.contrasts.specs.Tables.{ofLevels}
-use Rattle.contrasts.specs.Totals.{count, passes}
+use Rattle.contrasts.specs.Limits.{readingLimit, valueLimit, mostTwo, mostThree}
+use Rattle.contrasts.specs.Tables.{two, ofLevels, neg}
+use Rattle.contrasts.specs.Totals.{size, count, passAt, passFrom, passes}
 use Rattle.contrasts.specs.Laws.Limits.{values-fit}
 use Rattle.contrasts.specs.Laws.Lists.{tab-read, passes-list, passes-more, order-list, within-tab, pass-past}
 use Rattle.plan.specs.declared.types.Plan.{Plan}
-use Rattle.plan.specs.Check.{planNumber}
+use Rattle.words.specs.Words.{letters, beyond, times, combined, any, among, repeated}
+use Rattle.plan.specs.Check.{badLevels, badFactors, badCounts, badWord, badSign, badWords, dependent, factorWord, losesFactor, planNumber, withPlan}
+use Rattle.plan.specs.Examples.{plan}
 use Rattle.plan.specs.Outcome.{Outcome, given, refused, outcome}
-use Rattle.plan.specs.Plan.{factorsOf, runsOf}
+use Rattle.plan.specs.Plan.{factorsOf, runsOf, someCombination, combinesTo}
 use Rattle.plan.specs.Laws.Answers.{unwritten, written-new}
 use Rattle.plan.specs.Laws.Sizes.{plan-within}
+use Rattle.columns.specs.Lines.{wrongLength, isBeyond, anyBeyond}
 use Rattle.yates.specs.Calls.{passNumber, passColumn}
 use Rattle.yates.specs.Laws.Admitted.{PassAdmitted, pass-admits, pass-ten}
 
--- "Each gets the column as the last one left it": `passColumn` is what the pass call promises to leave
+-- "Each call works on what the last one left, and nobody else writes": `passColumn` is what the pass call promises to leave
 unfoldable pub afterCalls : Plan → List ℕ → List ℤ → List ℤ
 afterCalls p [] column = column
 afterCalls p (f ∷ fs) column = afterCalls p fs (passColumn p f column)
 
--- "one column of N", of readings "from -100,000 to 100,000"
+-- "a column with one place per run that starts as readings within the limit"
 pub record Readings (p : Plan) (column : List ℤ) : Type 0 where
   pub whole : length column ≡ runsOf p
   pub within : AllWithin readingLimit column
 
--- "names each base factor once"
+-- "names each base factor exactly once"
 abbrev pub EachOnce : Plan → List ℕ → Type 0
 EachOnce p calls = (f : ℕ) → f < p .k → count f calls ≡ 1
 
@@ -76,10 +87,11 @@ ownPass p f column = cond (ltb f (p .k)) (passOf (factorsOf p) f column) column
 
 -- what is claimed of such a list: of each of its calls, and of the whole
 pub record InAnyOrder (p : Plan) (column : List ℤ) (calls : List ℕ) : Type 0 where
-  -- so no call gives 12, or any number but 10
+  -- "a call is refused exactly when its factor is no base factor of the plan"; so no call gives 12, or any number but 10
   pub answers : (n : ℕ) → n < length calls → answer p calls column n ≡ doneOrTen p (call calls n)
+  -- "any other makes the pass of its own factor and no more"
   pub leaves : (n : ℕ) → n < length calls → found p calls column (suc n) ≡ ownPass p (call calls n) (found p calls column n)
-  -- and the column ends as the totals
+  -- "and the column ends, place by place, as the report's effect totals"
   pub ends : afterCalls p calls column ≡ totalsOf (factorsOf p) column
 
 -- for every accepted plan, every column of N readings within the limit, and every list of calls that names each base factor once
@@ -89,6 +101,30 @@ AnyOrder =
     → (column : List ℤ) → Readings p column
     → (calls : List ℕ) → EachOnce p calls
     → InAnyOrder p column calls
+
+-- ---- a worked list
+
+-- The readings 3, 5, 4, 8. The calls ask for factor 7, which there is not, B, C, which there is not, and A. B makes 7, 13, -1, -3 of the
+-- readings, and A the totals of that.
+abbrev four : Plan
+four = plan 2 2 [] [] []
+
+abbrev fourReadings : List ℤ
+fourReadings = pos 3 ∷ pos 5 ∷ pos 4 ∷ pos 8 ∷ []
+
+abbrev fourCalls : List ℕ
+fourCalls = 7 ∷ 1 ∷ 2 ∷ 0 ∷ []
+
+calls-of-four : (tab 4 (answer four fourCalls fourReadings) ≡ refused 10 ∷ given tt ∷ refused 10 ∷ given tt ∷ [])
+    × (tab 5 (found four fourCalls fourReadings)
+    ≡ fourReadings
+    ∷ fourReadings
+    ∷ (pos 7 ∷ pos 13 ∷ neg 1 ∷ neg 3 ∷ [])
+    ∷ (pos 7 ∷ pos 13 ∷ neg 1 ∷ neg 3 ∷ [])
+    ∷ (pos 20 ∷ neg 6 ∷ neg 4 ∷ pos 2 ∷ [])
+    ∷ [])
+unfolding afterCalls passNumber passColumn passOf passFrom passAt withPlan planNumber badLevels badFactors mostTwo mostThree badCounts badWords badWord badSign repeated dependent losesFactor factorWord any among beyond letters combined times someCombination combinesTo some bits Σℕ Σ wrongLength anyBeyond isBeyond valueLimit factorsOf size two tabFrom
+calls-of-four = (refl, refl)
 
 -- ---- the proof
 

@@ -1,14 +1,26 @@
 -- The demands, as theorems about the calls' own definitions.
 --
+--   Promised       what each call promises, whole
+--   LowestNumber   demand 1: the number of every call is the lowest that applies
+--   Refusals       demand 1: thirteen numbers, and nothing is written
+--   Letters        demand 2: coefficients, totals, blocks and aliases in letters, at two levels
+--   LettersWorked  worked examples of these claims
+--   CheckNumbers   demand 2: both checks, in the rules' words
 --   AnyOrder       demand 3: passes in any order
 --   Steps          k steps give the totals
 --   SumOfSquares   demand 3: the exact sum of squares
 --   TableAddsUp    demand 3: mean, kept, blocks and error
---   LowestNumber   the number of every call is the lowest that applies
 --   Starred        the starred runs, as one fact
+--   WrongPrograms  the programs that have to break their statements do
+pub mod Promised
+pub mod LowestNumber
+pub mod Refusals
+pub mod Letters
+pub mod LettersWorked
+pub mod CheckNumbers
 pub mod AnyOrder
 pub mod Steps
 pub mod SumOfSquares
 pub mod TableAddsUp
-pub mod LowestNumber
 pub mod Starred
+pub mod WrongPrograms

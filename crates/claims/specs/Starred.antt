@@ -1,18 +1,22 @@
--- "The starred runs are proved as a single fact over a list of them."
+-- "The starred runs are proved as a single fact over a list of them." Each run is stated by what the calls promise: whole answers, and every
+-- slice that is lent to write (`Promised.antt`).
 --
---   Run                      what the calls' definitions give of a run, and what the rules say of it
---   whole, sense             a double that is a whole number; a test as 1 or 0
---   ofTable, ofEstimate      the numbers of a table, and of an estimate
+--   Sum, Divisors            figures that the rules name beside a table: the sum of squares; the divisors, by the rule and as the table has them
+--   Said                     what a call gives, by the call
+--   Run                      what the calls promise of a run, and what the rules say of it
+--   source, both             a line of a table; two check numbers that are equal
+--   tabled p readings marks  the table call, on slices that hold zeros
+--   numeratorsOf p totals    the numerators of the effects with these totals
 --   fourReadings, .. , lostFactor    the starred runs, in the order of "Reference runs"
 --   starredRuns              all of them
 --   Starred, starred         THE CLAIM, and its proof
 use mathlib.Core.Path.{_≡_, refl}
 use mathlib.Core.Bool.{Bool, true, false}
-use mathlib.Core.List.{List, [], _∷_, _++_, map}
-use Prim.Native.Nat.{ℕ, _*_, _^_}
-use lib.Count.{trailingZeros}
-use lib.IntN.{ℤ, pos, negsuc}
-use lib.Ieee.{Float, nan, inf, fin, odd}
+use mathlib.Core.List.{List, [], _∷_, map}
+use Prim.Native.Nat.{ℕ}
+use lib.IntN.{ℤ, pos}
+use lib.Ieee.{fin}
+use lib.ListN.{length, getD, take, replicate}
 use Rattle.algebra.specs.Naturals.{Σℕ}
 use Rattle.algebra.specs.Bits.{bits}
 use Rattle.algebra.specs.Search.{some}
@@ -23,132 +27,229 @@ use Rattle.contrasts.specs.Columns.{read, totalsOf}
 use Rattle.contrasts.specs.Limits.{readingLimit, mostTwo, mostThree}
 use Rattle.contrasts.specs.Rows.{rowOf, degreesOf}
 use Rattle.contrasts.specs.Tables.{two, three, neg}
-use Rattle.contrasts.specs.Totals.{size, coef*, total, divisor*, denominator, weight*, numeratorOf, numerator, squared, checkWeight, round, rounds}
+use Rattle.contrasts.specs.Totals.{size, coef*, total, divisor*, denominator, weight*, numeratorOf, squared, checkWeight, round, rounds}
 use Rattle.words.specs.Words.{letters, beyond, times, combined, any, among, repeated}
 use Rattle.plan.specs.declared.types.Plan.{Plan}
-use Rattle.plan.specs.Examples.{plan, AB, BC, ABC, AD, BCD}
-use Rattle.plan.specs.Outcome.{Outcome, given, refused, outcome}
-use Rattle.plan.specs.Plan.{factorsOf, someCombination, combinesTo, confoundedIn}
-use Rattle.plan.specs.Check.{badLevels, badFactors, badCounts, badWord, badSign, badWords, dependent, factorWord, losesFactor, planNumber, withPlan}
-use Rattle.aliases.specs.Alias.{baseWord, turnsOf, turns, aliasValues, aliasNumber}
+use Rattle.plan.specs.Examples.{plan, A, AB, BC, ABC, AD, BCD}
+use Rattle.plan.specs.Outcome.{Outcome, given, refused}
+use Rattle.plan.specs.Plan.{factorsOf, runsOf, someCombination, combinesTo}
+use Rattle.plan.specs.Check.{badLevels, badFactors, badCounts, badWord, badSign, badWords, dependent, factorWord, losesFactor, planNumber, withPlan, runCount, confoundedAccepted}
+use Rattle.aliases.specs.Alias.{baseWord, turnsOf, turns, aliasNumber}
 use Rattle.columns.specs.Lines.{wrongLength, isBeyond, anyBeyond}
-use Rattle.rows.specs.Kinds.{wrongRows, kindByMark, kindOf, badMark, badMarks}
+use Rattle.effects.specs.Effects.{effectDivisors}
+use Rattle.rows.specs.Kinds.{Kind, meanRow, blocksRow, keptRow, rowsIn, wrongRows, kindByMark, kindOf, badMark, badMarks}
 use Rattle.estimates.specs.Quotient.{quotient}
-use Rattle.estimates.specs.Estimate.{Value, mean, difference, lost, meanOf, differenceOf, valueBy, estimateValue, estimateNumber}
+use Rattle.estimates.specs.Estimate.{Value, mean, difference, lost, meanOf, differenceOf, valueBy, estimateNumber}
+use Rattle.anova.specs.declared.types.Source.{Source}
+use Rattle.anova.specs.declared.types.Checks.{Checks}
 use Rattle.anova.specs.Table.{wrongLengths, tableNumber, sourceOf, totalSource, checksOf, tableFigures, tableTotals, tableRows, rowsOf}
+use Rattle.claims.specs.Promised.{Tabled, promisedCheck, promisedAlias, promisedTable, promisedEstimate}
+
+-- ---- what a run is
+
+-- the row numerators that a table writes, added up; its denominator; the sum of the squared readings
+pub record Sum : Type 0 where
+  pub rows : ℕ
+  pub denominator : ℕ
+  pub squares : ℕ
+
+-- the divisors by the rule, by which numerators are defined, and those by which the table call divides
+pub record Divisors : Type 0 where
+  pub by-digits : List ℕ
+  pub divided-by : List ℕ
+
+pub data Said : Type 0 where
+  check : Outcome Unit → Said
+  confounded : Bool → Said
+  table : Tabled → Said
+  kinds : List Kind → Said
+  numerators : List ℕ → Said
+  sum : Sum → Said
+  divisors : Divisors → Said
+  estimate : Outcome Value → Said
+  alias : Outcome (ℕ × Bool) → Said
 
 pub record Run : Type 0 where
-  pub gives : List ℤ
-  pub says : List ℤ
+  pub gives : List Said
+  pub says : List Said
 
--- ---- how answers are written as lists of numbers
+-- ---- what the calls promise
 
-abbrev whole : Float → List ℤ
-whole nan = []
-whole (inf s) = []
-whole (fin true m (pos e)) = neg (m * 2 ^ e) ∷ []
-whole (fin false m (pos e)) = pos (m * 2 ^ e) ∷ []
-whole (fin s m (negsuc e)) = []
+abbrev source : ℕ → ℕ → Source
+source degrees numerator = record { degrees = degrees; numerator = numerator }
 
-abbrev sense : Bool → ℤ
-sense true = pos 1
-sense false = pos 0
+abbrev both : ℤ → Checks
+both n = record { totals = n; readings = n }
 
--- of a table: the number, the totals and rows that are written over zeros, denominator, total and both check numbers
-abbrev ofTable : Plan → List ℤ → List ℕ → List ℤ → List ℕ → List ℤ
-ofTable p readings marks totals rows =
-    (pos (tableNumber p readings marks totals rows) ∷ [])
-    ++ tableTotals p readings marks totals rows
-    ++ map pos (tableRows p readings marks totals rows)
-    ++ (pos (tableFigures p readings marks .denominator)
-    ∷ pos (tableFigures p readings marks .total .numerator)
-    ∷ tableFigures p readings marks .checks .totals
-    ∷ tableFigures p readings marks .checks .readings
-    ∷ [])
+abbrev tabled : Plan → List ℤ → List ℕ → Tabled
+tabled p readings marks = promisedTable p readings marks (replicate (runsOf p) (pos 0)) (replicate (rowsIn p) 0)
 
--- of an estimate: 1 for a mean and 2 for a difference before the number, 3 for lost; or the number of the refusal
-abbrev ofEstimate : Outcome Value → List ℤ
-ofEstimate (given (mean x)) = pos 1 ∷ whole x
-ofEstimate (given (difference x)) = pos 2 ∷ whole x
-ofEstimate (given lost) = pos 3 ∷ []
-ofEstimate (refused n) = neg n ∷ []
+-- "A numerator is a total squared times (denominator over divisor)."
+abbrev numeratorsOf : Plan → List ℤ → List ℕ
+numeratorsOf p totals = tab (runsOf p) (λ e. numeratorOf (factorsOf p) e (read totals e))
 
-abbrev zeros2 : List ℤ
-zeros2 = pos 0 ∷ pos 0 ∷ []
+abbrev sumIn : Plan → List ℤ → List ℕ → Sum
+sumIn p readings rows = record {
+  rows = Σℕ (length rows) (λ w. getD rows w 0);
+  denominator = denominator (factorsOf p);
+  squares = squared (factorsOf p) (read readings);
+}
 
 -- ---- the runs
 
--- "Readings 3, 5, 4, 8: totals 20, -6, -4, 2; numerators 400, 36, 16, 4; sum 456, which is 4 times 114; check 12." After the table the sum of
--- the four numerators and that of the squared readings.
+-- "Readings 3, 5, 4, 8: totals 20, -6, -4, 2; numerators 400, 36, 16, 4; sum 456, which is 4 times 114; check 12."
+abbrev four : Tabled
+four = tabled (plan 2 2 [] [] []) (pos 3 ∷ pos 5 ∷ pos 4 ∷ pos 8 ∷ []) (replicate 4 0)
+
 abbrev fourReadings : Run
 fourReadings = record {
-  gives = ofTable (plan 2 2 [] [] []) (pos 3 ∷ pos 5 ∷ pos 4 ∷ pos 8 ∷ []) (0 ∷ 0 ∷ 0 ∷ 0 ∷ []) (zeros2 ++ zeros2) (0 ∷ 0 ∷ 0 ∷ 0 ∷ [])
-      ++ (pos (Σℕ 4 (numerator (factorsOf (plan 2 2 [] [] [])) (read (pos 3 ∷ pos 5 ∷ pos 4 ∷ pos 8 ∷ []))))
-      ∷ pos (squared (factorsOf (plan 2 2 [] [] [])) (read (pos 3 ∷ pos 5 ∷ pos 4 ∷ pos 8 ∷ [])))
-      ∷ []);
-  says = pos 0 ∷ pos 20 ∷ neg 6 ∷ neg 4 ∷ pos 2 ∷ pos 400 ∷ pos 36 ∷ pos 16 ∷ pos 4 ∷ pos 4 ∷ pos 456 ∷ pos 12 ∷ pos 12 ∷ pos 456 ∷ pos 114 ∷ [];
+  gives = table four
+      ∷ numerators (numeratorsOf (plan 2 2 [] [] []) (four .totals))
+      ∷ sum (sumIn (plan 2 2 [] [] []) (pos 3 ∷ pos 5 ∷ pos 4 ∷ pos 8 ∷ []) (four .rows))
+      ∷ [];
+  says = table (record {
+    answer = given (record {
+      denominator = 4;
+      mean = source 1 400;
+      kept = source 3 56;
+      blocks = source 0 0;
+      error = source 0 0;
+      total = source 4 456;
+      checks = both (pos 12);
+    });
+    totals = pos 20 ∷ neg 6 ∷ neg 4 ∷ pos 2 ∷ [];
+    rows = 400 ∷ 36 ∷ 16 ∷ 4 ∷ [];
+  })
+      ∷ numerators (400 ∷ 36 ∷ 16 ∷ 4 ∷ [])
+      ∷ sum (record { rows = 456; denominator = 4; squares = 114 })
+      ∷ [];
 }
 
--- "Three levels, 2, 5, 3: totals 10, -1, -5; numerators 200, 3, 25; row A 28 with 2 degrees; check 4."
+-- "Three levels, 2, 5, 3: totals 10, -1, -5; numerators 200, 3, 25; row A 28 with 2 degrees; check 4." Row A is the one row that is kept.
+abbrev threeReadings : Tabled
+threeReadings = tabled (plan 3 1 [] [] []) (pos 2 ∷ pos 5 ∷ pos 3 ∷ []) (replicate 2 0)
+
 abbrev threeLevels : Run
 threeLevels = record {
-  gives = ofTable (plan 3 1 [] [] []) (pos 2 ∷ pos 5 ∷ pos 3 ∷ []) (0 ∷ 0 ∷ []) (pos 0 ∷ zeros2) (0 ∷ 0 ∷ [])
-      ++ map pos (tab 3 (numerator (factorsOf (plan 3 1 [] [] [])) (read (pos 2 ∷ pos 5 ∷ pos 3 ∷ []))))
-      ++ (pos (degreesOf (factorsOf (plan 3 1 [] [] [])) 1) ∷ []);
-  says = pos 0 ∷ pos 10 ∷ neg 1 ∷ neg 5 ∷ pos 200 ∷ pos 28 ∷ pos 6 ∷ pos 228 ∷ pos 4 ∷ pos 4 ∷ pos 200 ∷ pos 3 ∷ pos 25 ∷ pos 2 ∷ [];
+  gives = table threeReadings ∷ numerators (numeratorsOf (plan 3 1 [] [] []) (threeReadings .totals)) ∷ [];
+  says = table (record {
+    answer = given (record {
+      denominator = 6;
+      mean = source 1 200;
+      kept = source 2 28;
+      blocks = source 0 0;
+      error = source 0 0;
+      total = source 3 228;
+      checks = both (pos 4);
+    });
+    totals = pos 10 ∷ neg 1 ∷ neg 5 ∷ [];
+    rows = 200 ∷ 28 ∷ [];
+  })
+      ∷ numerators (200 ∷ 3 ∷ 25 ∷ [])
+      ∷ [];
 }
 
--- "Readings 1 to 8, block word ABC: totals 36, -4, -8, 0, -16, 0, 0, 0; row ABC is blocks." Kinds: 2 is the mean, 0 kept, 3 blocks.
+-- "Readings 1 to 8, block word ABC: totals 36, -4, -8, 0, -16, 0, 0, 0; row ABC is blocks." So its degree is one of blocks, its effect is lost,
+-- and a mark on it is refused.
+abbrev eightReadings : List ℤ
+eightReadings = pos 1 ∷ pos 2 ∷ pos 3 ∷ pos 4 ∷ pos 5 ∷ pos 6 ∷ pos 7 ∷ pos 8 ∷ []
+
+abbrev eight : Tabled
+eight = tabled (plan 2 3 [] [] (ABC ∷ [])) eightReadings (replicate 8 0)
+
 abbrev inBlocks : Run
 inBlocks = record {
-  gives = tableTotals (plan 2 3 [] [] (ABC ∷ [])) (pos 1 ∷ pos 2 ∷ pos 3 ∷ pos 4 ∷ pos 5 ∷ pos 6 ∷ pos 7 ∷ pos 8 ∷ [])
-      (0 ∷ 0 ∷ 0 ∷ 0 ∷ 0 ∷ 0 ∷ 0 ∷ 0 ∷ []) (zeros2 ++ zeros2 ++ zeros2 ++ zeros2) (0 ∷ 0 ∷ 0 ∷ 0 ∷ 0 ∷ 0 ∷ 0 ∷ 0 ∷ [])
-      ++ map pos (tab 8 (kindOf (plan 2 3 [] [] (ABC ∷ [])) (0 ∷ 0 ∷ 0 ∷ 0 ∷ 0 ∷ 0 ∷ 0 ∷ 0 ∷ [])));
-  says = pos 36 ∷ neg 4 ∷ neg 8 ∷ pos 0 ∷ neg 16 ∷ pos 0 ∷ pos 0 ∷ pos 0
-      ∷ pos 2 ∷ pos 0 ∷ pos 0 ∷ pos 0 ∷ pos 0 ∷ pos 0 ∷ pos 0 ∷ pos 3 ∷ [];
+  gives = table eight
+      ∷ kinds (tab 8 (kindOf (plan 2 3 [] [] (ABC ∷ [])) (replicate 8 0)))
+      ∷ estimate (promisedEstimate (plan 2 3 [] [] (ABC ∷ [])) ABC (read (eight .totals) ABC))
+      ∷ table (tabled (plan 2 3 [] [] (ABC ∷ [])) eightReadings (0 ∷ 0 ∷ 0 ∷ 0 ∷ 0 ∷ 0 ∷ 0 ∷ 1 ∷ []))
+      ∷ [];
+  says = table (record {
+    answer = given (record {
+      denominator = 8;
+      mean = source 1 1296;
+      kept = source 6 336;
+      blocks = source 1 0;
+      error = source 0 0;
+      total = source 8 1632;
+      checks = both (pos 8);
+    });
+    totals = pos 36 ∷ neg 4 ∷ neg 8 ∷ pos 0 ∷ neg 16 ∷ pos 0 ∷ pos 0 ∷ pos 0 ∷ [];
+    rows = 1296 ∷ 16 ∷ 64 ∷ 0 ∷ 256 ∷ 0 ∷ 0 ∷ 0 ∷ [];
+  })
+      ∷ kinds (meanRow ∷ keptRow ∷ keptRow ∷ keptRow ∷ keptRow ∷ keptRow ∷ keptRow ∷ blocksRow ∷ [])
+      ∷ estimate (given lost)
+      ∷ table (record { answer = refused 13; totals = replicate 8 (pos 0); rows = replicate 8 0 })
+      ∷ [];
 }
 
--- "k = 1, -100,000 and 100,000: totals 0, -200,000; difference -200,000."
+-- "k = 1, -100,000 and 100,000: totals 0, -200,000; difference -200,000." The difference is that of the total which the table writes;
+-- 3,125 times 2 to the power 6 is 200,000.
+abbrev limits : Tabled
+limits = tabled (plan 2 1 [] [] []) (neg 100_000 ∷ pos 100_000 ∷ []) (replicate 2 0)
+
 abbrev atLimits : Run
 atLimits = record {
-  gives = tableTotals (plan 2 1 [] [] []) (neg 100_000 ∷ pos 100_000 ∷ []) (0 ∷ 0 ∷ []) zeros2 (0 ∷ 0 ∷ [])
-      ++ ofEstimate (outcome (estimateNumber (plan 2 1 [] [] []) 1 (neg 200_000)) (estimateValue (plan 2 1 [] [] []) 1 (neg 200_000)));
-  says = pos 0 ∷ neg 200_000 ∷ pos 2 ∷ neg 200_000 ∷ [];
+  gives = table limits ∷ estimate (promisedEstimate (plan 2 1 [] [] []) A (read (limits .totals) A)) ∷ [];
+  says = table (record {
+    answer = given (record {
+      denominator = 2;
+      mean = source 1 0;
+      kept = source 1 40_000_000_000;
+      blocks = source 0 0;
+      error = source 0 0;
+      total = source 2 40_000_000_000;
+      checks = both (neg 200_000);
+    });
+    totals = pos 0 ∷ neg 200_000 ∷ [];
+    rows = 0 ∷ 40_000_000_000 ∷ [];
+  })
+      ∷ estimate (given (difference (fin true 3125 (pos 6))))
+      ∷ [];
 }
 
 -- "k = 3, D = ABC: AD reduces to BC, unturned; with sign 1, turned."
-abbrev aliasOf : ℕ → List ℤ
-aliasOf sign =
-    pos (aliasNumber (plan 2 3 (ABC ∷ []) (sign ∷ []) []) AD)
-    ∷ pos (aliasValues (plan 2 3 (ABC ∷ []) (sign ∷ []) []) AD .0)
-    ∷ sense (aliasValues (plan 2 3 (ABC ∷ []) (sign ∷ []) []) AD .1)
-    ∷ []
-
 abbrev reduced : Run
 reduced = record {
-  gives = aliasOf 0 ++ aliasOf 1;
-  says = pos 0 ∷ pos BC ∷ pos 0 ∷ pos 0 ∷ pos BC ∷ pos 1 ∷ [];
+  gives = alias (promisedAlias (plan 2 3 (ABC ∷ []) (0 ∷ []) []) AD) ∷ alias (promisedAlias (plan 2 3 (ABC ∷ []) (1 ∷ []) []) AD) ∷ [];
+  says = alias (given (BC, false)) ∷ alias (given (BC, true)) ∷ [];
 }
 
 -- "Two three-level factors: divisors 9, 6, 18, 6, 4, 12, 18, 12, 36."
 abbrev nineDivisors : Run
 nineDivisors = record {
-  gives = map pos (tab 9 (divisor* (factorsOf (plan 3 2 [] [] []))));
-  says = pos 9 ∷ pos 6 ∷ pos 18 ∷ pos 6 ∷ pos 4 ∷ pos 12 ∷ pos 18 ∷ pos 12 ∷ pos 36 ∷ [];
+  gives = divisors (record {
+    by-digits = tab 9 (divisor* (factorsOf (plan 3 2 [] [] [])));
+    divided-by = take 9 (effectDivisors (plan 3 2 [] [] []));
+  })
+      ∷ [];
+  says = divisors (record {
+    by-digits = 9 ∷ 6 ∷ 18 ∷ 6 ∷ 4 ∷ 12 ∷ 18 ∷ 12 ∷ 36 ∷ [];
+    divided-by = 9 ∷ 6 ∷ 18 ∷ 6 ∷ 4 ∷ 12 ∷ 18 ∷ 12 ∷ 36 ∷ [];
+  })
+      ∷ [];
 }
 
--- "k = 4, block words AD, ABC: accepted, BCD confounded too."
+-- "k = 4, block words AD, ABC: accepted, BCD confounded too.": its estimate is lost, as those of the block words are
+abbrev twoBlockWords : Plan
+twoBlockWords = plan 2 4 [] [] (AD ∷ ABC ∷ [])
+
 abbrev combination : Run
 combination = record {
-  gives = pos (planNumber (plan 2 4 [] [] (AD ∷ ABC ∷ []))) ∷ sense (confoundedIn (plan 2 4 [] [] (AD ∷ ABC ∷ [])) BCD) ∷ [];
-  says = pos 0 ∷ pos 1 ∷ [];
+  gives = check (promisedCheck twoBlockWords)
+      ∷ estimate (promisedEstimate twoBlockWords AD (pos 0))
+      ∷ estimate (promisedEstimate twoBlockWords ABC (pos 0))
+      ∷ estimate (promisedEstimate twoBlockWords BCD (pos 0))
+      ∷ confounded (confoundedAccepted twoBlockWords BCD)
+      ∷ [];
+  says = check (given tt) ∷ estimate (given lost) ∷ estimate (given lost) ∷ estimate (given lost) ∷ confounded true ∷ [];
 }
 
 -- "The inputs of lines 7 and 8, with k = 3.": "AB, AB", and "AB, ABC"
 abbrev lostFactor : Run
 lostFactor = record {
-  gives = pos (planNumber (plan 2 3 [] [] (AB ∷ AB ∷ []))) ∷ pos (planNumber (plan 2 3 [] [] (AB ∷ ABC ∷ []))) ∷ [];
-  says = pos 7 ∷ pos 8 ∷ [];
+  gives = check (promisedCheck (plan 2 3 [] [] (AB ∷ AB ∷ []))) ∷ check (promisedCheck (plan 2 3 [] [] (AB ∷ ABC ∷ []))) ∷ [];
+  says = check (refused 7) ∷ check (refused 8) ∷ [];
 }
 
 abbrev pub starredRuns : List Run
@@ -160,5 +261,5 @@ abbrev pub Starred : Type 0
 Starred = map (λ r. r .gives) starredRuns ≡ map (λ r. r .says) starredRuns
 
 pub starred : Starred
-unfolding tableNumber tableTotals tableRows tableFigures sourceOf totalSource checksOf rowsOf wrongLengths wrongRows wrongLength anyBeyond isBeyond badMarks badMark kindOf kindByMark withPlan planNumber badLevels badFactors mostTwo mostThree badCounts badWords badWord badSign repeated dependent losesFactor factorWord any among beyond letters combined times someCombination combinesTo some bits Σℕ Σ readingLimit factorsOf size two three total coef* totalsOf tabFrom divisor* denominator weight* numeratorOf squared checkWeight round rounds rowOf degreesOf sumAt baseWord turnsOf turns aliasNumber estimateNumber valueBy meanOf differenceOf quotient odd trailingZeros
+unfolding tableNumber tableTotals tableRows tableFigures sourceOf totalSource checksOf rowsOf wrongLengths wrongRows wrongLength anyBeyond isBeyond badMarks badMark kindOf kindByMark withPlan planNumber badLevels badFactors mostTwo mostThree badCounts badWords badWord badSign repeated dependent losesFactor factorWord any among beyond letters combined times someCombination combinesTo some bits Σℕ Σ readingLimit factorsOf size two three total coef* totalsOf tabFrom divisor* denominator weight* numeratorOf squared checkWeight round rounds rowOf degreesOf sumAt baseWord turnsOf turns aliasNumber estimateNumber valueBy meanOf differenceOf quotient runCount effectDivisors confoundedAccepted
 starred = refl

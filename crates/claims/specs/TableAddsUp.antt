@@ -1,20 +1,22 @@
--- Demand 3, the table: "mean, kept, blocks and error add up to denominator times the sum of squared readings."
+-- Demand 3, the table: "And whatever readings and marks the table call accepts, its numerators for mean, kept effects, blocks and error, each
+-- formed as the table's rules say, add up to the denominator times the sum of the squared readings."
 --
--- Whatever readings and marks the table call accepts, and whatever the slices held that it is lent to write.
+-- Also whatever the slices held that it is lent to write.
 --
+--   ofKind p marks rows c        the numerators of the rows of the kind c, added up
+--   Formed p marks rows f        each of the four is formed as the rules say, from the rows that the call writes
 --   totalNumerator p readings    the total
 --   AddsUp p readings f          what is claimed of the figures f
 --   NoneBeyond p readings f      no number of the table exceeds the limit
 --   TableAddsUp, table-adds-up   THE CLAIM, and its proof
-use mathlib.Core.Path.{_≡_, refl, _∙_}
+use mathlib.Core.Path.{_≡_, refl, sym, ap, _∙_}
 use mathlib.Core.Bool.{Bool, cond}
 use mathlib.Core.List.{List}
 use Prim.Native.Nat.{ℕ, _+_, _*_, _<_, _≤_}
 use native.Mathlib.Omega.{arith}
-use lib.Dec.{eqb}
 use lib.IntN.{ℤ, pos, natAbs}
 use lib.ListN.{getD}
-use Rattle.algebra.specs.Naturals.{Σℕ, Σℕ-by}
+use Rattle.algebra.specs.Naturals.{Σℕ, Σℕ-cong, Σℕ-by}
 use Rattle.algebra.specs.Tab.{getD-tab}
 use Rattle.contrasts.specs.Columns.{read, totalsOf}
 use Rattle.contrasts.specs.Limits.{numeratorLimit}
@@ -23,13 +25,26 @@ use Rattle.contrasts.specs.Totals.{total, denominator, numerator, squared}
 use Rattle.contrasts.specs.Laws.CheckSum.{check-rounds}
 use Rattle.plan.specs.declared.types.Plan.{Plan}
 use Rattle.plan.specs.Plan.{factorsOf, runsOf}
-use Rattle.rows.specs.Kinds.{rowsIn, kindOf}
+use Rattle.plan.specs.Laws.Answers.{written-new}
+use Rattle.rows.specs.Kinds.{rowsIn, Kind, meanRow, blocksRow, errorRow, keptRow, kindOf, codeOf, same}
 use Rattle.rows.specs.Laws.{four-kinds}
 use Rattle.anova.specs.declared.types.Figures.{Figures}
 use Rattle.anova.specs.Ready.{TableReady}
-use Rattle.anova.specs.Table.{tableNumber, sourceOf, totalSource, checksOf, tableFigures, rowsOf}
+use Rattle.anova.specs.Table.{tableNumber, sourceOf, totalSource, checksOf, tableFigures, tableRows, rowsOf}
 use Rattle.anova.specs.Laws.Admitted.{table-admitted}
 use Rattle.anova.specs.Laws.Within.{SourceWithin, all-rows, all-degrees, fit, some-within, row-within, kind-within, total-source-within, total-within-limit, checks-within}
+
+-- "Row 0 is the mean. Confounded rows are blocks. Rows with mark 1 are error; mark 0 keeps any other row. Each of these four adds up the
+-- degrees and numerators of its rows."
+abbrev pub ofKind : Plan → List ℕ → List ℕ → Kind → ℕ
+ofKind p marks rows c = Σℕ (rowsIn p) (λ w. cond (same (kindOf p marks w) c) (getD rows w 0) 0)
+
+-- "each formed as the table's rules say"
+pub record Formed (p : Plan) (marks rows : List ℕ) (f : Figures) : Type 0 where
+  pub mean : f .mean .numerator ≡ ofKind p marks rows meanRow
+  pub kept : f .kept .numerator ≡ ofKind p marks rows keptRow
+  pub blocks : f .blocks .numerator ≡ ofKind p marks rows blocksRow
+  pub error : f .error .numerator ≡ ofKind p marks rows errorRow
 
 -- "the total (denominator times the sum of squared readings)"
 abbrev pub totalNumerator : Plan → List ℤ → ℕ
@@ -62,25 +77,46 @@ abbrev pub TableAddsUp : Type 0
 TableAddsUp =
     (p : Plan) (readings : List ℤ) (marks : List ℕ) (totals : List ℤ) (rows : List ℕ)
     → tableNumber p readings marks totals rows ≡ 0
-    → AddsUp p readings (tableFigures p readings marks) × NoneBeyond p readings (tableFigures p readings marks)
+    → Formed p marks (tableRows p readings marks totals rows) (tableFigures p readings marks)
+    × AddsUp p readings (tableFigures p readings marks)
+    × NoneBeyond p readings (tableFigures p readings marks)
 
 -- ---- the proof
 
+-- what is written, and what is summed
+by-rows : (p : Plan) (readings : List ℤ) (marks : List ℕ) (c : Kind) → sourceOf p readings marks c .numerator ≡ ofKind p marks (rowsOf p readings) c
+unfolding sourceOf rowsOf
+by-rows p readings marks c =
+    Σℕ-cong (rowsIn p) (λ w h. ap (λ (n : ℕ). cond (same (kindOf p marks w) c) n 0) (sym (getD-tab 0 (rowsIn p) (rowNumerator (factorsOf p) (read readings)) w h)))
+
+formed : (p : Plan) (readings : List ℤ) (marks : List ℕ) (totals : List ℤ) (rows : List ℕ) → tableNumber p readings marks totals rows ≡ 0
+    → Formed p marks (tableRows p readings marks totals rows) (tableFigures p readings marks)
+unfolding tableFigures tableRows
+formed p readings marks totals rows e =
+    let new = written-new (tableNumber p readings marks totals rows) (rowsOf p readings) rows e in
+    rw (← new)
+    (record {
+      mean = by-rows p readings marks meanRow;
+      kept = by-rows p readings marks keptRow;
+      blocks = by-rows p readings marks blocksRow;
+      error = by-rows p readings marks errorRow;
+    })
+
 -- four sums, by kind, are the sum of all rows
-four : (r : ℕ) (kind g : ℕ → ℕ) → ((w : ℕ) → kind w < 4)
-    → Σℕ r (λ w. cond (eqb (kind w) 2) (g w) 0) + Σℕ r (λ w. cond (eqb (kind w) 0) (g w) 0) + Σℕ r (λ w. cond (eqb (kind w) 3) (g w) 0)
-    + Σℕ r (λ w. cond (eqb (kind w) 1) (g w) 0) ≡ Σℕ r g
+four : (r : ℕ) (kind : ℕ → Kind) (g : ℕ → ℕ)
+    → Σℕ r (λ w. cond (same (kind w) meanRow) (g w) 0) + Σℕ r (λ w. cond (same (kind w) keptRow) (g w) 0)
+    + Σℕ r (λ w. cond (same (kind w) blocksRow) (g w) 0) + Σℕ r (λ w. cond (same (kind w) errorRow) (g w) 0) ≡ Σℕ r g
 unfolding Σℕ
-four r kind g h = omega (arith, Σℕ-by r 4 kind g (λ w _. h w))
+four r kind g = omega (arith, Σℕ-by r 4 (λ w. codeOf (kind w)) g (λ w _. four-kinds (kind w)))
 
 module _ {p : Plan} {readings : List ℤ} {marks : List ℕ} {totals : List ℤ} {rows : List ℕ} (a : TableReady p readings marks totals rows) where
   adds-up : AddsUp p readings (tableFigures p readings marks)
   unfolding tableFigures sourceOf totalSource checksOf
   adds-up =
       record {
-        numerators = four (rowsIn p) (kindOf p marks) (rowNumerator (factorsOf p) (read readings)) (four-kinds p marks) ∙ all-rows a;
+        numerators = four (rowsIn p) (kindOf p marks) (rowNumerator (factorsOf p) (read readings)) ∙ all-rows a;
         total = refl;
-        degrees = four (rowsIn p) (kindOf p marks) (degreesOf (factorsOf p)) (four-kinds p marks) ∙ all-degrees a;
+        degrees = four (rowsIn p) (kindOf p marks) (degreesOf (factorsOf p)) ∙ all-degrees a;
         total-degrees = refl;
         checks = check-rounds (factorsOf p) (read readings);
       }
@@ -93,10 +129,10 @@ module _ {p : Plan} {readings : List ℤ} {marks : List ℕ} {totals : List ℤ}
         some-numerators = some-within a;
         rows = λ w h. rw (getD-tab 0 (rowsIn p) (rowNumerator (factorsOf p) (read readings)) w h) (row-within a w);
         denominator = fit a .0;
-        mean = kind-within a 2;
-        kept = kind-within a 0;
-        blocks = kind-within a 3;
-        error = kind-within a 1;
+        mean = kind-within a meanRow;
+        kept = kind-within a keptRow;
+        blocks = kind-within a blocksRow;
+        error = kind-within a errorRow;
         total = total-source-within a;
         checks = checks-within a;
       }
@@ -104,4 +140,4 @@ module _ {p : Plan} {readings : List ℤ} {marks : List ℕ} {totals : List ℤ}
 pub table-adds-up : TableAddsUp
 table-adds-up p readings marks totals rows e =
     let a = table-admitted p readings marks totals rows e in
-    (adds-up a, none-beyond a)
+    (formed p readings marks totals rows e, adds-up a, none-beyond a)

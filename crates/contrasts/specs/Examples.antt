@@ -5,9 +5,10 @@
 --   eight-*      readings 1 to 8
 --   largest-*    k = 1, -100,000 and 100,000
 --   nine-*       two three-level factors
+--   places       a place by its digits, and with another digit
 use mathlib.Core.Path.{_≡_, refl}
 use mathlib.Core.List.{List, [], _∷_}
-use Prim.Native.Nat.{suc, _*_}
+use Prim.Native.Nat.{ℕ, suc, _*_}
 use lib.IntN.{ℤ, pos}
 use Rattle.algebra.specs.Naturals.{Σℕ}
 use Rattle.algebra.specs.Sum.{Σ}
@@ -16,7 +17,7 @@ use Rattle.contrasts.specs.Columns.{read, totalsOf, passOf, passesOf, st
 use Rattle.contrasts.specs.Factor.{Factor}
 use Rattle.contrasts.specs.Rows.{rowOf, degreesOf}
 use Rattle.contrasts.specs.Tables.{two, three, neg}
-use Rattle.contrasts.specs.Totals.{size, coef*, total, passFrom, passAt, step, divisor*, denominator, weight*, numeratorOf, numerator, squared}
+use Rattle.contrasts.specs.Totals.{size, digitAt, withDigit, coef*, total, passFrom, passAt, step, divisor*, denominator, weight*, numeratorOf, numerator, squared}
 use Rattle.contrasts.specs.Totals.{checkWeight, round, rounds}
 
 -- ---- "Readings 3, 5, 4, 8: totals 20, -6, -4, 2; numerators 400, 36, 16, 4; sum 456, which is 4 times 114; check 12."
@@ -130,3 +131,11 @@ largest-totals = refl
 nine-divisors : tab 9 (divisor* (three ∷ three ∷ [])) ≡ 9 ∷ 6 ∷ 18 ∷ 6 ∷ 4 ∷ 12 ∷ 18 ∷ 12 ∷ 36 ∷ []
 unfolding divisor* tabFrom three
 nine-divisors = refl
+
+-- ---- place 14, which is 112 to the base 3, and with the digit 2 where 3 stands
+
+abbrev placed : List ℕ
+placed = digitAt 1 3 14 ∷ digitAt 3 3 14 ∷ digitAt 9 3 14 ∷ withDigit 3 3 2 14 ∷ []
+
+places : placed ≡ 2 ∷ 1 ∷ 1 ∷ 17 ∷ []
+places = refl

@@ -17,6 +17,7 @@
 --   ThreeLevels  three levels, in the words of the rules
 --   Limits       what readings within their limit come to
 --   Kinds        the number of levels, and the factor of so many
+--   Signed       readings times signs, and contrasts whose signs turn
 --   Turns        a turn of a loop over sets of values: its sums fit, and it writes what the rows say
 pub mod Digits
 pub mod Order
@@ -35,4 +36,5 @@ pub mod TwoLevels
 pub mod ThreeLevels
 pub mod Limits
 pub mod Kinds
+pub mod Signed
 pub mod Turns

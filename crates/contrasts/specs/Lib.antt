@@ -7,6 +7,7 @@
 --   Rows        the rows of the table and their degrees
 --   Limits      the limits of readings, values and numerators
 --   Columns     the definitions over columns that are lists
+--   Contrast    the readings of some runs less those of the others
 --   Examples    the worked examples, computed
 --   Laws        the theorems
 pub mod Factor
@@ -15,5 +16,6 @@ pub mod Totals
 pub mod Rows
 pub mod Limits
 pub mod Columns
+pub mod Contrast
 pub mod Examples
 pub mod Laws

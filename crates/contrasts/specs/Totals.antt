@@ -45,7 +45,8 @@ size (F ∷ Fs) = F .levels * size Fs
 abbrev pub spacing : List Factor → ℕ → ℕ
 spacing Fs f = size (take f Fs)
 
--- the digit of the place i that stands for s, to the base l; and the place that has the digit j there instead
+-- the digit of the place i that stands for s, to the base l; and the place that has the digit j there instead. Place 14 is 112 to the base 3:
+-- its digit that stands for 3 is 1, and with 2 there it is 122, which is 17.
 abbrev pub digitAt : ℕ → ℕ → ℕ → ℕ
 digitAt s l i = i / s % l
 
@@ -53,7 +54,11 @@ abbrev pub withDigit : ℕ → ℕ → ℕ → ℕ → ℕ
 withDigit s l j i = i - digitAt s l i * s + j * s
 
 -- "values levels to the power f places apart belong together": those s apart, where s is the product of the levels of the factors
--- before. "Results go back to the same places": the place whose digit is d gets the sum by row d.
+-- before. "Results go back to the same places": the place whose digit is d gets the sum by row d. So, where p is the place of a first value
+-- (`pass-two`, `pass-three`),
+--   at two levels     p gets x p + x (p + s), and p + s gets x p - x (p + s): "their sum and first minus second";
+--   at three levels   p gets x p + x (p + s) + x (p + 2 s), p + s gets x p - x (p + 2 s), and p + 2 s gets x p - 2 x (p + s) + x (p + 2 s):
+--                     "their sum, first minus third, and first minus twice middle plus third".
 unfoldable pub passAt : ℕ → Factor → Column → Column
 passAt s F x i = Σ (F .levels) (λ j. F .coef (digitAt s (F .levels) i) j *ℤ x (withDigit s (F .levels) j i))
 

@@ -8,6 +8,7 @@
 --   estimateLines p e t     the lines of the call besides those of the plan
 --   estimateNumber p e t    the lowest number that applies, 0 where an estimate is given
 --   estimateOutcome         the cases of the call's answer
+--   ExactlyGiven p t o      a mean or a difference that is given is exactly its quotient
 use mathlib.Core.Bool.{Bool, cond}
 use mathlib.Core.List.{List, [], _∷_}
 use Prim.Native.Nat.{ℕ, _*_, _-_, _^_}
@@ -22,7 +23,7 @@ use Rattle.plan.specs.Plan.{confoundedIn}
 use Rattle.plan.specs.Check.{withPlan}
 use Rattle.estimates.specs.declared.types.Estimate.{Estimate}
 use Rattle.estimates.specs.declared.types.Estimate.the-variants as answer
-use Rattle.estimates.specs.Quotient.{quotient}
+use Rattle.estimates.specs.Quotient.{Exactly, quotient}
 
 -- ---- the values
 
@@ -69,3 +70,11 @@ estimateOutcome (answer.Mean x) = given (mean x)
 estimateOutcome (answer.Difference x) = given (difference x)
 estimateOutcome answer.Lost = given lost
 estimateOutcome (answer.Refused n) = refused n
+
+-- "The double is exactly that quotient": a mean times 2 to the power k is the total, and a difference times 2 to the power k - 1; there is no
+-- number where the effect is lost or the call is refused
+abbrev pub ExactlyGiven : Plan → ℤ → Outcome Value → Type 0
+ExactlyGiven p t (given (mean x)) = Exactly t (p .k) x
+ExactlyGiven p t (given (difference x)) = Exactly t (p .k - 1) x
+ExactlyGiven p t (given lost) = Unit
+ExactlyGiven p t (refused n) = Unit

@@ -9,9 +9,8 @@ use mathlib.Core.Path.{_≡_, refl}
 use mathlib.Core.Bool.{true, false}
 use mathlib.Core.List.{List, [], _∷_}
 use Prim.Native.Nat.{ℕ, suc}
-use lib.Count.{trailingZeros}
 use lib.IntN.{ℤ, pos}
-use lib.Ieee.{Float, fin, odd}
+use lib.Ieee.{Float, fin}
 use Rattle.algebra.specs.Naturals.{Σℕ}
 use Rattle.algebra.specs.Bits.{bits}
 use Rattle.algebra.specs.Search.{some}
@@ -29,7 +28,7 @@ use Rattle.estimates.specs.Estimate.{Value, mean, difference, lost, mean
 -- 7 / 4 is 7 * 2 ^ -2, 12 / 4 is 3, -6 / 8 is -3 * 2 ^ -2, and 0 / 8 is positive zero
 quotients : quotient (pos 7) 2 ∷ quotient (pos 12) 2 ∷ quotient (neg 6) 3 ∷ quotient (pos 0) 3 ∷ []
     ≡ fin false 7 (neg 2) ∷ fin false 3 (pos 0) ∷ fin true 3 (neg 2) ∷ fin false 0 (pos 0) ∷ []
-unfolding quotient odd trailingZeros
+unfolding quotient
 quotients = refl
 
 abbrev answer : Plan → ℕ → ℤ → Outcome Value
@@ -53,7 +52,7 @@ four : answers twoFactors 0 (pos 20 ∷ neg 6 ∷ neg 4 ∷ pos 2 ∷ [])
     ∷ given (difference (fin true 1 (pos 1)))
     ∷ given (difference (fin false 1 (pos 0)))
     ∷ []
-unfolding estimateNumber withPlan planNumber badLevels badFactors mostTwo mostThree badCounts badWords badWord badSign repeated dependent losesFactor factorWord any among beyond letters combined times someCombination combinesTo some bits Σℕ readingLimit valueBy meanOf differenceOf quotient odd trailingZeros
+unfolding estimateNumber withPlan planNumber badLevels badFactors mostTwo mostThree badCounts badWords badWord badSign repeated dependent losesFactor factorWord any among beyond letters combined times someCombination combinesTo some bits Σℕ readingLimit valueBy meanOf differenceOf quotient
 four = refl
 
 abbrev inBlocks : Plan
@@ -70,12 +69,12 @@ eight : answers inBlocks 0 (pos 36 ∷ neg 4 ∷ neg 8 ∷ pos 0 ∷ neg 16 ∷ 
     ∷ given (difference positiveZero)
     ∷ given lost
     ∷ []
-unfolding estimateNumber withPlan planNumber badLevels badFactors mostTwo mostThree badCounts badWords badWord badSign repeated dependent losesFactor factorWord any among beyond letters combined times someCombination combinesTo some bits Σℕ readingLimit valueBy meanOf differenceOf quotient odd trailingZeros
+unfolding estimateNumber withPlan planNumber badLevels badFactors mostTwo mostThree badCounts badWords badWord badSign repeated dependent losesFactor factorWord any among beyond letters combined times someCombination combinesTo some bits Σℕ readingLimit valueBy meanOf differenceOf quotient
 eight = refl
 
 -- "totals 0, -200,000; difference -200,000", which is -3,125 * 2 ^ 6
 largest : answers (plan 2 1 [] [] []) 0 (pos 0 ∷ neg 200_000 ∷ []) ≡ given (mean positiveZero) ∷ given (difference (fin true 3_125 (pos 6))) ∷ []
-unfolding estimateNumber withPlan planNumber badLevels badFactors mostTwo mostThree badCounts badWords badWord badSign repeated dependent losesFactor factorWord any among beyond letters combined times someCombination combinesTo some bits Σℕ readingLimit valueBy meanOf differenceOf quotient odd trailingZeros
+unfolding estimateNumber withPlan planNumber badLevels badFactors mostTwo mostThree badCounts badWords badWord badSign repeated dependent losesFactor factorWord any among beyond letters combined times someCombination combinesTo some bits Σℕ readingLimit valueBy meanOf differenceOf quotient
 largest = refl
 
 -- "levels 3, k = 1"; k = 2, effect C; k = 2, total 400,001; then calls to which 3, 9, 10 and 12 apply, 9, 10
@@ -88,7 +87,7 @@ small-inputs : answer (plan 3 1 [] [] []) A (pos 0)
     ∷ answer twoFactors C (neg 1_000_000_000)
     ∷ []
     ≡ refused 9 ∷ refused 10 ∷ refused 12 ∷ refused 3 ∷ refused 9 ∷ refused 10 ∷ []
-unfolding estimateNumber withPlan planNumber badLevels badFactors mostTwo mostThree badCounts badWords badWord badSign repeated dependent losesFactor factorWord any among beyond letters combined times someCombination combinesTo some bits Σℕ readingLimit valueBy meanOf differenceOf quotient odd trailingZeros
+unfolding estimateNumber withPlan planNumber badLevels badFactors mostTwo mostThree badCounts badWords badWord badSign repeated dependent losesFactor factorWord any among beyond letters combined times someCombination combinesTo some bits Σℕ readingLimit valueBy meanOf differenceOf quotient
 small-inputs = refl
 
 -- both ways, with two factors and with ten, and the smallest i64; an effect that is lost is refused by its total too

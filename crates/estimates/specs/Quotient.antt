@@ -1,21 +1,51 @@
 -- A whole number over a power of two, as a double.
 --
---   negative t       the whole number t is below zero
---   quotient t j     the double that is t / 2 ^ j
---   InDouble t j     a double holds t and 2 ^ j, as whole numbers
+--   negative t          the whole number t is below zero
+--   IsQuotient t j x    x is finite, has the sign of t, and times 2 ^ j it is t
+--   Exactly t j x       besides, x is a double, and no other double is that quotient
+--   double s m j        the double with the sign s that is m / 2 ^ j
+--   quotient t j        the double that is t / 2 ^ j
+--   InDouble t j        a double holds t and 2 ^ j, as whole numbers
+use mathlib.Core.Path.{_≡_}
 use mathlib.Core.Bool.{Bool, true, false}
-use Prim.Native.Nat.{ℕ, _^_, _<_, _≤_}
+use Prim.Native.Nat.{ℕ, _*_, _^_, _<_, _≤_}
+use lib.Dec.{T}
 use lib.IntN.{ℤ, pos, negsuc, natAbs}
-use lib.Ieee.{Float, binary64, prec, odd}
+use lib.Ieee as ieee
+use lib.Ieee.{Float, fin, binary64, prec, up, down, fits}
 
 abbrev pub negative : ℤ → Bool
 negative (pos n) = false
 negative (negsuc n) = true
 
--- "The double is exactly that quotient; a zero total gives positive zero.": the sign of t, the size of t with its closing binary zeros
--- divided out, and the exponent that is left. That it is the quotient, and the only double that is: `Laws/Exact.antt`.
+-- ---- what the double is
+
+-- x is finite, has the sign of t, and times 2 ^ j it is t: in size x is digits * 2 ^ exponent, and 2 ^ e is the fraction up e / down e.
+pub record IsQuotient (t : ℤ) (j : ℕ) (x : Float) : Type 0 where
+  pub digits : ℕ
+  pub exponent : ℤ
+  pub finite : x ≡ fin (negative t) digits exponent
+  pub times : digits * up exponent * 2 ^ j ≡ natAbs t * down exponent
+
+-- "The double is exactly that quotient"
+pub record Exactly (t : ℤ) (j : ℕ) (x : Float) : Type 0 where
+  pub value : IsQuotient t j x
+  pub double : T (fits binary64 x)
+  pub only : (y : Float) → T (fits binary64 y) → IsQuotient t j y → y ≡ x
+
+-- ---- the double
+
+-- the kit's form of a double: m with its closing binary zeros divided out, which is an odd number, times the power of two that is left; or zero
+unfoldable pub double : Bool → ℕ → ℕ → Float
+unfolding ieee.odd
+double s m j = ieee.odd (prec binary64) s m 0 j
+
+-- "The double is exactly that quotient; a zero total gives positive zero.": `exact` and `positive-zero` in `Laws/Exact.antt`
 unfoldable pub quotient : ℤ → ℕ → Float
-quotient t j = odd (prec binary64) (negative t) (natAbs t) 0 j
+unfolding double
+quotient t j = double (negative t) (natAbs t) j
+
+-- ---- totals and powers that are held
 
 pub record InDouble (t : ℤ) (j : ℕ) : Type 0 where
   pub number : natAbs t < 2 ^ 53

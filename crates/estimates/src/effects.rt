@@ -12,7 +12,7 @@ use words::has_beyond;
 ghost use Rattle.contrasts.specs.Limits.{readingLimit};
 ghost use Rattle.plan.specs.Outcome.{outcome, given};
 ghost use Rattle.estimates.specs.Quotient.{InDouble};
-ghost use Rattle.estimates.specs.Estimate.{valueBy, estimateNumber, estimateValue, estimateOutcome};
+ghost use Rattle.estimates.specs.Estimate.{valueBy, estimateNumber, estimateValue, estimateOutcome, ExactlyGiven};
 
 const READING_LIMIT: u64 = 100_000;
 
@@ -67,6 +67,7 @@ fn value(lost: bool, k: usize, effect: u16, total: i64) -> Estimate
 // The mean or the difference by the total of an effect, or that the effect is lost to blocks.
 pub fn estimate(p: Plan, effect: u16, total: i64) -> Estimate
     ensures { λ r. ⌜ estimateOutcome r ≡ outcome (estimateNumber p effect total) (estimateValue p effect total) ⌝ }
+    ensures { λ r. ⌜ ExactlyGiven p total (estimateOutcome r) ⌝ }
 {
     let n = estimate_number(p, effect, total);
     if n != 0 {

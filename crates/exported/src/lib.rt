@@ -4,13 +4,17 @@
 //   yates_totals(levels, k, readings, totals)   the totals of all effects
 //   anova_table(levels, k, readings, marks, totals, rows, figures, checks)   the analysis of variance
 //
-// Each gives 0 where it is done and the number of the refusal where it is not. In C a slice is a pointer and a length:
+// Each gives 0 where it is done and the number of the refusal where it is not. In C a slice is a pointer and a length.
+// The slices of one call must not overlap, which `restrict` says: readings and totals in one memory, for instance, give 0 and wrong
+// figures. The contracts below take slices that lie apart, as Rattle lends them; that a program in C lends such is assumed (docs/TRUST.md).
 //
 //   uint8_t yates_pass(uint8_t levels, uint8_t k, size_t factor, int64_t *column, size_t length);
-//   uint8_t yates_totals(uint8_t levels, uint8_t k, const int32_t *readings, size_t readings_length, int64_t *totals, size_t totals_length);
-//   uint8_t anova_table(uint8_t levels, uint8_t k, const int32_t *readings, size_t readings_length, const uint8_t *marks, size_t marks_length,
-//                       int64_t *totals, size_t totals_length, uint64_t *rows, size_t rows_length, uint64_t *figures, size_t figures_length,
-//                       int64_t *checks, size_t checks_length);
+//   uint8_t yates_totals(uint8_t levels, uint8_t k, const int32_t *restrict readings, size_t readings_length,
+//                        int64_t *restrict totals, size_t totals_length);
+//   uint8_t anova_table(uint8_t levels, uint8_t k, const int32_t *restrict readings, size_t readings_length,
+//                       const uint8_t *restrict marks, size_t marks_length, int64_t *restrict totals, size_t totals_length,
+//                       uint64_t *restrict rows, size_t rows_length, uint64_t *restrict figures, size_t figures_length,
+//                       int64_t *restrict checks, size_t checks_length);
 ghost use mathlib.Core.Path.{_≡_};
 
 mod handed;

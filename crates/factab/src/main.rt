@@ -3,14 +3,12 @@
 use libc::STDERR_FILENO;
 use libc::STDIN_FILENO;
 use libc::STDOUT_FILENO;
+use report::INPUT;
 use report::TEXT;
-use report::report;
+use report::report_input;
 ghost use Prim.Native.Nat.{_≤_};
 ghost use lib.ListN.{length};
 ghost use Rattle.factab.specs.Input.{bytesOf};
-
-// One byte more than the longest sheet, so that a longer one is seen to be longer.
-const ROOM: usize = 5188;
 
 // What came: so many bytes at the start of the buffer, or a read failed.
 enum Input {
@@ -19,16 +17,17 @@ enum Input {
 }
 
 // Reads until the buffer is full or the input ends. One read may bring a part only.
-fn read_input(buffer: &mut [u8]) -> Input
+fn read_input(buffer: &mut [u8; INPUT]) -> Input
     ensures { λ r. ⌜ bytesOf r ≤ length (now (buffer .exit)) ⌝ }
 {
+    let bytes: &mut [u8] = buffer;
     let mut n = 0;
-    while n < buffer.len() {
-        let got = libc::read(STDIN_FILENO, &mut buffer[n..]);
+    while n < bytes.len() {
+        let got = libc::read(STDIN_FILENO, &mut bytes[n..]);
         if got < 0 {
             return Input::Failed;
         }
-        let more = io::count(got, &buffer[n..]);
+        let more = io::count(got, &bytes[n..]);
         if more == 0 {
             return Input::Bytes(n);
         }
@@ -37,18 +36,18 @@ fn read_input(buffer: &mut [u8]) -> Input
     Input::Bytes(n)
 }
 
-fn print_report(sheet: &[u8]) {
+fn print_report(input: &[u8; INPUT], count: usize) {
     let mut text = [0u8; TEXT];
-    let n = report(sheet, &mut text);
+    let n = report_input(input, count, &mut text);
     if !io::write_all(STDOUT_FILENO, &text[..n]) {
         io::write_all(STDERR_FILENO, b"factab: the text cannot be written\n");
     }
 }
 
 fn main() {
-    let mut buffer = [0u8; ROOM];
+    let mut buffer = [0u8; INPUT];
     match read_input(&mut buffer) {
-        Input::Bytes(n) => print_report(&buffer[..n]),
+        Input::Bytes(n) => print_report(&buffer, n),
         Input::Failed => {
             io::write_all(STDERR_FILENO, b"factab: the input cannot be read\n");
         }

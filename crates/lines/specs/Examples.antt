@@ -3,21 +3,22 @@ use mathlib.Core.Path.{_≡_, refl}
 use lib.IntN.{pos, negsuc}
 use Rattle.text.specs.Text.{ascii}
 use Rattle.text.specs.Fields.{letterOf, lettersIn, decimalIn}
+use Rattle.rows.specs.Kinds.{meanRow, blocksRow, errorRow}
 use Rattle.lines.specs.Lines.{lineOf, labelOf, kindWords, rowLine, namedLine, sourceLine, checkLine}
 
 over-line : namedLine (ascii "over") 4 ≡ ascii "over 4\n"
 unfolding namedLine lineOf decimalIn
 over-line = refl
 
-mean-line : rowLine 0 1 400 2 ≡ ascii "mean 1 400\n"
+mean-line : rowLine 0 1 400 meanRow ≡ ascii "mean 1 400\n"
 unfolding rowLine lineOf labelOf kindWords lettersIn letterOf decimalIn
 mean-line = refl
 
-error-line : rowLine 3 1 4 1 ≡ ascii "AB 1 4 error\n"
+error-line : rowLine 3 1 4 errorRow ≡ ascii "AB 1 4 error\n"
 unfolding rowLine lineOf labelOf kindWords lettersIn letterOf decimalIn
 error-line = refl
 
-blocks-line : rowLine 7 1 0 3 ≡ ascii "ABC 1 0 blocks\n"
+blocks-line : rowLine 7 1 0 blocksRow ≡ ascii "ABC 1 0 blocks\n"
 unfolding rowLine lineOf labelOf kindWords lettersIn letterOf decimalIn
 blocks-line = refl
 

@@ -22,6 +22,7 @@ use Rattle.text.specs.Text.{ascii, Wrote}
 use Rattle.text.specs.Fields.{lettersOf, decimal, signed}
 use Rattle.text.specs.Laws.Decimal.{signed-kept, decimal-long, signed-long}
 use Rattle.text.specs.Laws.Writing.{nothing, then, retext, letters-long}
+use Rattle.rows.specs.Kinds.{Kind, meanRow, blocksRow, errorRow, keptRow, kindIn}
 use Rattle.lines.specs.Lines.{space, newline, lineOf, labelOf, kindWords, rowLine, namedLine, sourceLine, checkLine}
 use Rattle.lines.specs.Written.{kindText}
 
@@ -42,31 +43,31 @@ module _ {a b : List ℕ} {at next : ℕ} where
     letters-label h f = rw (ne-eqb w 0 h) f
 
   module _ (c : ℕ) where
-    pub error-text : c ≡ 1 → Wrote a at (ascii " error") b next → Wrote a at (kindText c) b next
-    unfolding kindText
+    pub error-text : c ≡ 1 → Wrote a at (ascii " error") b next → Wrote a at (kindText (kindIn c)) b next
+    unfolding kindText kindIn
     error-text e f = rw (eq-eqb c 1 e) f
 
-    pub blocks-text : (c ≡ 1 → ⊥) → c ≡ 3 → Wrote a at (ascii " blocks") b next → Wrote a at (kindText c) b next
-    unfolding kindText
-    blocks-text h e f = rw (ne-eqb c 1 h, eq-eqb c 3 e) f
+    pub blocks-text : c ≡ 3 → Wrote a at (ascii " blocks") b next → Wrote a at (kindText (kindIn c)) b next
+    unfolding kindText kindIn
+    blocks-text e f = rw e f
 
-pub no-text : (a : List ℕ) (at c : ℕ) → (c ≡ 1 → ⊥) → (c ≡ 3 → ⊥) → Wrote a at (kindText c) a at
-unfolding kindText
-no-text a at c h k = rw (ne-eqb c 1 h, ne-eqb c 3 k) (nothing a at)
+pub no-text : (a : List ℕ) (at c : ℕ) → (c ≡ 1 → ⊥) → (c ≡ 3 → ⊥) → Wrote a at (kindText (kindIn c)) a at
+unfolding kindText kindIn
+no-text a at c h k = rw (ne-eqb c 1 h, ne-eqb c 3 k) (by (eqb c 2))
+  where
+    by : (m : Bool) → Wrote a at (kindText (cond m meanRow keptRow)) a at
+    by true = nothing a at
+    by false = nothing a at
 
 -- ---- lines
 
 -- the last fields of a row's line
-ends-with : (c : ℕ) (n : List ℕ) → n ++ (kindText c ++ (newline ∷ [])) ≡ lineOf (n ∷ kindWords c)
+ends-with : (c : Kind) (n : List ℕ) → n ++ (kindText c ++ (newline ∷ [])) ≡ lineOf (n ∷ kindWords c)
 unfolding kindText kindWords lineOf
-ends-with c n = by (eqb c 1) (eqb c 3)
-  where
-    by : (e f : Bool)
-        → n ++ (cond e (ascii " error") (cond f (ascii " blocks") []) ++ (newline ∷ []))
-        ≡ lineOf (n ∷ cond e (ascii "error" ∷ []) (cond f (ascii "blocks" ∷ []) []))
-    by true f = refl
-    by false true = refl
-    by false false = refl
+ends-with meanRow n = refl
+ends-with blocksRow n = refl
+ends-with errorRow n = refl
+ends-with keptRow n = refl
 
 module _ {a b c d : List ℕ} {at p q r : ℕ} where
   pub named-made : {name : List ℕ} (n : ℕ) → Wrote a at name b p → Wrote b p (space ∷ decimal n) c q → Wrote c q (newline ∷ []) d r
@@ -88,7 +89,7 @@ module _ {a b c d e : List ℕ} {at p q r s : ℕ} where
   check-made f g w x y z =
       then w (then (retext (ap (λ t. space ∷ t) (signed-kept f)) x) (then (retext (ap (λ t. space ∷ t) (signed-kept g)) y) z))
 
-  pub row-made : (w m n k : ℕ) → Wrote a at (labelOf w) b p → Wrote b p ((space ∷ decimal m) ++ (space ∷ decimal n)) c q
+  pub row-made : (w m n : ℕ) (k : Kind) → Wrote a at (labelOf w) b p → Wrote b p ((space ∷ decimal m) ++ (space ∷ decimal n)) c q
       → Wrote c q (kindText k) d r → Wrote d r (newline ∷ []) e s → Wrote a at (rowLine w m n k) e s
   unfolding rowLine lineOf
   row-made w m n k u v x y =
@@ -136,16 +137,14 @@ label-long w = by (eqb w 0)
     by true = omega arith
     by false = letters-long w
 
-kind-long : (c : ℕ) → length (kindText c) ≤ 7
+kind-long : (c : Kind) → length (kindText c) ≤ 7
 unfolding kindText
-kind-long c = by (eqb c 1) (eqb c 3)
-  where
-    by : (e f : Bool) → length (cond e (ascii " error") (cond f (ascii " blocks") [])) ≤ 7
-    by true f = omega arith
-    by false true = omega arith
-    by false false = omega arith
+kind-long meanRow = omega arith
+kind-long blocksRow = omega arith
+kind-long errorRow = omega arith
+kind-long keptRow = omega arith
 
-pub row-long : (w m n c : ℕ) → length (rowLine w m n c) ≤ 66
+pub row-long : (w m n : ℕ) (c : Kind) → length (rowLine w m n c) ≤ 66
 unfolding rowLine lineOf
 row-long w m n c =
     let last : length (lineOf (decimal n ∷ kindWords c)) ≤ 28 =

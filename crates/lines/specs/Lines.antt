@@ -15,7 +15,7 @@ use lib.Dec.{eqb}
 use lib.IntN.{ℤ}
 use Rattle.text.specs.Text.{ascii}
 use Rattle.text.specs.Fields.{lettersOf, decimal, signed}
-use Rattle.rows.specs.Kinds.{errorKind, blocksKind}
+use Rattle.rows.specs.Kinds.{Kind, meanRow, blocksRow, errorRow, keptRow}
 
 abbrev pub space : ℕ
 space = 32
@@ -34,11 +34,14 @@ unfoldable pub labelOf : ℕ → List ℕ
 labelOf w = cond (eqb w 0) (ascii "mean") (lettersOf w)
 
 -- "and, if so, `error` or `blocks`"
-unfoldable pub kindWords : ℕ → List (List ℕ)
-kindWords c = cond (eqb c errorKind) (ascii "error" ∷ []) (cond (eqb c blocksKind) (ascii "blocks" ∷ []) [])
+unfoldable pub kindWords : Kind → List (List ℕ)
+kindWords errorRow = ascii "error" ∷ []
+kindWords blocksRow = ascii "blocks" ∷ []
+kindWords meanRow = []
+kindWords keptRow = []
 
 -- "Row lines [..] hold label [..], degrees, numerator and, if so, `error` or `blocks`."
-unfoldable pub rowLine : ℕ → ℕ → ℕ → ℕ → List ℕ
+unfoldable pub rowLine : ℕ → ℕ → ℕ → Kind → List ℕ
 rowLine w degrees numerator c = lineOf (labelOf w ∷ decimal degrees ∷ decimal numerator ∷ kindWords c)
 
 -- "`over` gives the denominator"; and `refused` gives a number

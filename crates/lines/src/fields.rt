@@ -7,6 +7,7 @@ use text::put;
 use text::value;
 ghost use Rattle.text.specs.Text.{Wrote};
 ghost use Rattle.text.specs.Fields.{decimal, signed};
+ghost use Rattle.rows.specs.Kinds.{kindIn};
 ghost use Rattle.lines.specs.Lines.{space, newline, labelOf};
 ghost use Rattle.lines.specs.Written.{kindText};
 
@@ -48,7 +49,7 @@ pub fn next_value(text: &mut [u8], at: usize, x: i64) -> usize
 
 // What a row is marked as, if it is error or blocks.
 pub fn next_kind(text: &mut [u8], at: usize, kind: u8) -> usize
-    ensures { λ r. ⌜ Wrote (now (text .entry)) at (kindText kind) (now (text .exit)) r ⌝ }
+    ensures { λ r. ⌜ Wrote (now (text .entry)) at (kindText (kindIn kind)) (now (text .exit)) r ⌝ }
 {
     if kind == ERROR {
         return copy(text, at, b" error");

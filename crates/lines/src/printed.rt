@@ -7,6 +7,7 @@ use super::fields::next_pair;
 use super::fields::next_value;
 use text::copy;
 ghost use Rattle.text.specs.Text.{Wrote};
+ghost use Rattle.rows.specs.Kinds.{kindIn};
 ghost use Rattle.lines.specs.Lines.{namedLine, sourceLine, checkLine, rowLine};
 
 // The lines `over` and `refused`.
@@ -46,7 +47,7 @@ pub fn row_line(
     numerator: u64,
     kind: u8,
 ) -> usize
-    ensures { λ r. ⌜ Wrote (now (text .entry)) at (rowLine row degrees numerator kind) (now (text .exit)) r ⌝ }
+    ensures { λ r. ⌜ Wrote (now (text .entry)) at (rowLine row degrees numerator (kindIn kind)) (now (text .exit)) r ⌝ }
 {
     let next = label(text, at, row);
     let next = next_pair(text, next, degrees, numerator);

@@ -1,9 +1,10 @@
 -- The small inputs of the table of refusals, 2 to 8, and the starred run on block words AD and ABC, computed over the definitions.
 --
---   A, AB, C, BC, ABC, AD, BCD          words by their letters
+--   A, AB, C, BC, ABC, AD, CD, BCD      words by their letters
 --   plan levels k words signs blocks    a plan with these words, whose other places hold 0 (`filled`)
 --   small-inputs, other-numbers         the numbers of plans that are refused
 --   all-accepted, BCD-lost              plans that are accepted, and the confounded effects of one
+--   by-choice                           what the choices of some words combine to
 --   of-any-plan                         how many runs there are, and how far apart a factor's values lie, for any plan
 use mathlib.Core.Path.{_≡_, refl}
 use mathlib.Core.Bool.{_||_}
@@ -42,6 +43,9 @@ ABC = 7
 
 abbrev pub AD : ℕ
 AD = 9
+
+abbrev pub CD : ℕ
+CD = 12
 
 abbrev pub BCD : ℕ
 BCD = 14
@@ -124,6 +128,13 @@ all-accepted = refl
 BCD-lost : tab 16 (confoundedIn (plan 2 4 [] [] (AD ∷ ABC ∷ []))) ≡ tab 16 (λ w. eqb w AD || (eqb w ABC || eqb w BCD))
 unfolding combinesTo someCombination combined times some bits Σℕ tabFrom
 BCD-lost = refl
+
+-- ---- choices
+
+-- the four choices of AD and ABC: none, each by itself, and both; and of AB, BC, CD the choice 5, the first and the third
+by-choice : tab 4 (λ c. combined 0 c (AD ∷ ABC ∷ [])) ++ (combined 0 5 (AB ∷ BC ∷ CD ∷ []) ∷ []) ≡ 0 ∷ AD ∷ ABC ∷ BCD ∷ 15 ∷ []
+unfolding combined times bits Σℕ tabFrom
+by-choice = refl
 
 -- ---- for the crates above, of any plan
 

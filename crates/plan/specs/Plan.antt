@@ -41,7 +41,8 @@ runsOf p = size (factorsOf p)
 abbrev pub allLetters : Plan → ℕ
 allLetters p = p .k + length (addedWords p)
 
--- "combinations of one or more block words": the choices of one or more of n words are the numbers from 1 to 2 ^ n - 1
+-- "combinations of one or more block words": the choices of one or more of n words are the numbers from 1 to 2 ^ n - 1. Of AD and ABC the
+-- choice 1 is AD, 2 is ABC, and 3, both, combines to BCD; 0 takes none.
 unfoldable pub someCombination : List ℕ → (ℕ → Bool) → Bool
 someCombination ws f = some (2 ^ length ws) (λ c. ltb 0 c && f (combined 0 c ws))
 

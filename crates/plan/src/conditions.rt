@@ -86,7 +86,7 @@ pub fn any_bad_sign(signs: &[u8]) -> bool
     false
 }
 
-// How many choices there are of some of n words, none of them included.
+// How many ways there are to choose none, some or all of n words.
 fn choices(n: usize) -> u16
     requires { ⌜ n ≤ 4 ⌝ }
     ensures { λ r. ⌜ (r ≡ 2 ^ n) × (r ≤ 16) ⌝ }

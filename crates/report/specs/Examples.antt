@@ -1,9 +1,9 @@
 -- Texts of sheets, computed from their bytes.
 --
---   rules-text       the rules' example: readings 3, 5, 4, 8 with marks 0, 0, 0, 1
---   three-text       three levels, 2, 5, 3: row A has 28, with 2 degrees
---   blocked-text     k = 2, block word AB: readings -1, -2, 3, 4 and B pooled
---   refused-texts    an empty sheet, one with levels 4, and one with a mark on the mean
+--   rulesSheet, rules-text    the rules' example: readings 3, 5, 4, 8 with marks 0, 0, 0, 1
+--   threeSheet, three-text    three levels, 2, 5, 3: row A has 28, with 2 degrees
+--   blocked-text              k = 2, block word AB: readings -1, -2, 3, 4 and B pooled
+--   refused-texts             an empty sheet, one with levels 4, and one with a mark on the mean
 use mathlib.Core.Path.{_≡_, refl}
 use mathlib.Core.List.{List, [], _∷_, map}
 use Prim.Native.Nat.{ℕ}
@@ -33,20 +33,20 @@ use Rattle.lines.specs.Lines.{lineOf, labelOf, kindWords, rowLine, namedLine, s
 use Rattle.anova.specs.Table.{sourceOf, totalSource, checksOf, tableFigures, rowsOf}
 use Rattle.report.specs.Report.{rowLines, tableText, printed, sheetTable, reportNumber, textOf}
 
-abbrev rules : List ℕ
-rules =
+abbrev pub rulesSheet : List ℕ
+rulesSheet =
     1 ∷ 0 ∷ 2 ∷ 2 ∷ 2
     ∷ 4 ∷ 0 ∷ 16 ∷ 0 ∷ 0 ∷ 0 ∷ 3 ∷ 0 ∷ 0 ∷ 0 ∷ 5 ∷ 0 ∷ 0 ∷ 0 ∷ 4 ∷ 0 ∷ 0 ∷ 0 ∷ 8
     ∷ 5 ∷ 0 ∷ 4 ∷ 0 ∷ 0 ∷ 0 ∷ 1 ∷ []
 
-rules-text : textOf rules ≡ ascii "over 4\nmean 1 400\nA 1 36\nB 1 16\nAB 1 4 error\nblocks 0 0\nerror 1 4\ntotal 4 456\ncheck 12 12\n"
+pub rules-text : textOf rulesSheet ≡ ascii "over 4\nmean 1 400\nA 1 36\nB 1 16\nAB 1 4 error\nblocks 0 0\nerror 1 4\ntotal 4 456\ncheck 12 12\n"
 unfolding textOf printed reportNumber sheetTable tableText rowLines rowLine namedLine sourceLine checkLine lineOf labelOf kindWords lettersIn letterOf decimalIn tableFigures sourceOf totalSource checksOf rowsOf kindOf kindByMark marksNumber numberWith planIn readingsOf readingAt twos big fieldsOf parse bodies bodyAt badFields badFrom wrongLength wrongRows anyBeyond isBeyond badMarks badMark withPlan planNumber badLevels badFactors mostTwo mostThree badCounts badWords badWord badSign repeated dependent losesFactor factorWord any among beyond letters combined times someCombination combinesTo some bits Σℕ Σ readingLimit factorsOf size two three tabFrom total coef* divisor* denominator weight* numeratorOf squared checkWeight round rounds rowOf degreesOf sumAt
 rules-text = refl
 
-abbrev threeLevels : List ℕ
-threeLevels = 1 ∷ 0 ∷ 2 ∷ 3 ∷ 1 ∷ 4 ∷ 0 ∷ 12 ∷ 0 ∷ 0 ∷ 0 ∷ 2 ∷ 0 ∷ 0 ∷ 0 ∷ 5 ∷ 0 ∷ 0 ∷ 0 ∷ 3 ∷ 5 ∷ 0 ∷ 2 ∷ 0 ∷ 0 ∷ []
+abbrev pub threeSheet : List ℕ
+threeSheet = 1 ∷ 0 ∷ 2 ∷ 3 ∷ 1 ∷ 4 ∷ 0 ∷ 12 ∷ 0 ∷ 0 ∷ 0 ∷ 2 ∷ 0 ∷ 0 ∷ 0 ∷ 5 ∷ 0 ∷ 0 ∷ 0 ∷ 3 ∷ 5 ∷ 0 ∷ 2 ∷ 0 ∷ 0 ∷ []
 
-three-text : textOf threeLevels ≡ ascii "over 6\nmean 1 200\nA 2 28\nblocks 0 0\nerror 0 0\ntotal 3 228\ncheck 4 4\n"
+pub three-text : textOf threeSheet ≡ ascii "over 6\nmean 1 200\nA 2 28\nblocks 0 0\nerror 0 0\ntotal 3 228\ncheck 4 4\n"
 unfolding textOf printed reportNumber sheetTable tableText rowLines rowLine namedLine sourceLine checkLine lineOf labelOf kindWords lettersIn letterOf decimalIn tableFigures sourceOf totalSource checksOf rowsOf kindOf kindByMark marksNumber numberWith planIn readingsOf readingAt twos big fieldsOf parse bodies bodyAt badFields badFrom wrongLength wrongRows anyBeyond isBeyond badMarks badMark withPlan planNumber badLevels badFactors mostTwo mostThree badCounts badWords badWord badSign repeated dependent losesFactor factorWord any among beyond letters combined times someCombination combinesTo some bits Σℕ Σ readingLimit factorsOf size two three tabFrom total coef* divisor* denominator weight* numeratorOf squared checkWeight round rounds rowOf degreesOf sumAt
 three-text = refl
 

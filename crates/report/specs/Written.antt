@@ -8,6 +8,7 @@ use Prim.Native.Nat.{ℕ, zero, suc, _^_}
 use lib.Dec.{eqb}
 use lib.ListN.{getD}
 use Rattle.words.specs.Words.{letters}
+use Rattle.rows.specs.Kinds.{kindIn}
 use Rattle.lines.specs.Lines.{rowLine}
 
 -- "Its degrees are 2 for each letter multiplied; row 0 has 1. Two-level rows have 1 degree each."
@@ -16,4 +17,4 @@ degreesBy levels w = cond (eqb levels 2) 1 (2 ^ letters w)
 
 unfoldable pub rowsBy : ℕ → List ℕ → List ℕ → ℕ → List ℕ
 rowsBy levels kinds rows zero = []
-rowsBy levels kinds rows (suc w) = rowsBy levels kinds rows w ++ rowLine w (degreesBy levels w) (getD rows w 0) (getD kinds w 0)
+rowsBy levels kinds rows (suc w) = rowsBy levels kinds rows w ++ rowLine w (degreesBy levels w) (getD rows w 0) (kindIn (getD kinds w 0))

@@ -1,10 +1,14 @@
 // The text that is printed of a sheet: the table, or the line of its refusal.
 //
-//   report(sheet, text)   the text in the lent buffer, and its length
-//   TEXT                  how many bytes the buffer has, enough for every text
+//   report(sheet, text)                the text in the lent buffer, and its length
+//   report_input(input, count, text)   the same of the first `count` bytes of a buffer into which a program has read its input
+//   TEXT                               how many bytes the buffer of the text has, enough for every text
+//   INPUT                              how many bytes the buffer of the input has, one more than the longest sheet
 mod reports;
 mod row_texts;
 mod tables;
 
+pub use reports::INPUT;
 pub use reports::TEXT;
 pub use reports::report;
+pub use reports::report_input;

@@ -1,4 +1,5 @@
 // The text of a sheet.
+ghost use Prim.Native.Nat.{suc};
 ghost use mathlib.Core.Path.{_≡_};
 ghost use mathlib.Core.List.{_++_};
 ghost use lib.ListN.{length, take, drop};
@@ -15,13 +16,17 @@ ghost use Rattle.text.specs.Text.{Wrote};
 ghost use Rattle.anova.specs.Table.{tableFigures, rowsOf};
 ghost use Rattle.sheet.specs.Sheet.{marksNumber};
 ghost use Rattle.report.specs.Ready.{SheetReady};
-ghost use Rattle.report.specs.Report.{printed, tableText, sheetTable, textOf};
+ghost use Rattle.report.specs.Input.{Decides};
+ghost use Rattle.report.specs.Report.{printed, tableText, sheetTable, longestSheet, textOf};
 
 // The most runs or rows of a plan.
 const MOST: usize = 1024;
 
 // The most bytes of a sheet.
 const LONGEST: usize = 5187;
+
+// One byte more, so that an input that is too long is seen to be so.
+pub const INPUT: usize = LONGEST + 1;
 
 // Room for every text; none is longer.
 pub const TEXT: usize = 69632;
@@ -70,4 +75,19 @@ pub fn report(sheet: &[u8], text: &mut [u8; TEXT]) -> usize
         return named_line(text, 0, b"refused", 1);
     }
     sheet_text(text, sheet)
+}
+
+// The text of an input that was read until the buffer was full or the input ended: the text of the buffer's first `count` bytes. However the
+// input goes on, it is the same. A count beyond the buffer is that of a full one.
+pub fn report_input(input: &[u8; INPUT], count: usize, text: &mut [u8; TEXT]) -> usize
+    ensures { λ r. ⌜ r ≡ length (textOf (take count (now (input .entry)))) ⌝ }
+    ensures { λ r. ⌜ now (text .exit) ≡ textOf (take count (now (input .entry))) ++ drop r (now (text .entry)) ⌝ }
+    ensures { λ r. ⌜ Decides (now (input .entry)) count ⌝ }
+    ensures { λ r. ⌜ length (now (input .entry)) ≡ suc longestSheet ⌝ }
+{
+    let bytes: &[u8] = input;
+    if bytes.len() <= count {
+        return report(bytes, text);
+    }
+    report(&bytes[..count], text)
 }

@@ -2,9 +2,11 @@
 --
 --   rowsIn p, rowCount p         how many rows there are; for any plan, 0 where k is beyond every plan's
 --   wrongRows p n                line 11: rows or marks are not R
---   keptKind, errorKind, meanKind, blocksKind    the four kinds, as numbers; the first two are the marks
+--   Kind                         the four kinds of rows
 --   kindByMark, kindOf           what a row is, by its mark alone and in a plan
---   kindsOf p marks              the kinds of as many rows as the largest plan has
+--   codeOf, kindIn               the number by which code holds a kind, and the kind that a number stands for
+--   same c d                     two kinds are one
+--   kindsOf p marks              the kinds of as many rows as the largest plan has, as code holds them
 --   badMark, badMarks            line 13, of one row and of all
 use mathlib.Core.Bool.{Bool, not, cond, _&&_, _||_}
 use mathlib.Core.List.{List}
@@ -30,28 +32,38 @@ wrongRows p n = not (eqb n (rowsIn p))
 
 -- ---- kinds
 
-abbrev pub keptKind : ℕ
-keptKind = 0
-
-abbrev pub errorKind : ℕ
-errorKind = 1
-
-abbrev pub meanKind : ℕ
-meanKind = 2
-
-abbrev pub blocksKind : ℕ
-blocksKind = 3
+-- "Row 0 is the mean. Confounded rows are blocks. Rows with mark 1 are error; mark 0 keeps any other row."
+pub data Kind : Type 0 where
+  meanRow : Kind
+  blocksRow : Kind
+  errorRow : Kind
+  keptRow : Kind
 
 -- "Rows with mark 1 are error; mark 0 keeps any other row."
-unfoldable pub kindByMark : ℕ → ℕ
-kindByMark m = cond (eqb m 1) errorKind keptKind
+unfoldable pub kindByMark : ℕ → Kind
+kindByMark m = cond (eqb m 1) errorRow keptRow
 
 -- "Row 0 is the mean. Confounded rows are blocks."
-unfoldable pub kindOf : Plan → List ℕ → ℕ → ℕ
-kindOf p marks w = cond (eqb w 0) meanKind (cond (confoundedIn p w) blocksKind (kindByMark (getD marks w 0)))
+unfoldable pub kindOf : Plan → List ℕ → ℕ → Kind
+kindOf p marks w = cond (eqb w 0) meanRow (cond (confoundedIn p w) blocksRow (kindByMark (getD marks w 0)))
+
+-- the numbers that code has for kinds; those of kept and error are the marks
+abbrev pub codeOf : Kind → ℕ
+codeOf keptRow = 0
+codeOf errorRow = 1
+codeOf meanRow = 2
+codeOf blocksRow = 3
+
+-- any other number is taken as that of a kept row
+unfoldable pub kindIn : ℕ → Kind
+kindIn n = cond (eqb n 1) errorRow (cond (eqb n 2) meanRow (cond (eqb n 3) blocksRow keptRow))
+
+-- as no two kinds have one number: `one-kind`
+abbrev pub same : Kind → Kind → Bool
+same c d = eqb (codeOf c) (codeOf d)
 
 unfoldable pub kindsOf : Plan → List ℕ → List ℕ
-kindsOf p marks = tab 1024 (kindOf p marks)
+kindsOf p marks = tab 1024 (λ w. codeOf (kindOf p marks w))
 
 -- ---- line 13
 

@@ -1,36 +1,54 @@
 -- Laws on rows that callers cite.
 --
---   four-kinds    a row is of one of the four kinds
+--   four-kinds    the numbers of kinds are below 4
+--   kind-in       the number of a kind stands for it
+--   code-in       and a number below 4 is that of the kind for which it stands
+--   one-kind      the test that two kinds are one says so where they are, and only there
+--   code-by       the number of one of two kinds, by a test
 --   row-count     what `row_count` gives of an accepted plan
 --   rows-wrong, rows-right, rows-by    what the code's comparison with `row_count` says of an accepted plan
 --   rows-few      there are at most 1,024 rows
 --   same-marks    marks that are refused beside one plan are refused beside a plan that is alike
 --   rows-as-long  rows or marks to which line 11 does not apply are as many as the plan has rows
-use mathlib.Core.Path.{_≡_, refl, sym, _∙_}
+use mathlib.Core.Path.{_≡_, refl, sym, _∙_, ap}
 use mathlib.Core.Bool.{Bool, true, false, not, cond}
 use mathlib.Core.List.{List}
 use Prim.Native.Nat.{ℕ, _<_, _≤_}
 use native.Mathlib.Nat.{pow-le-pow-right}
 use borrow.Author.Tests.{le-ltb, eq-eqb, ne-eqb, eqb-true, not-false}
-use lib.Dec.{eqb, lit<}
-use lib.ListN.{getD}
+use lib.Dec.{eqb, eqb→eq, lit<}
+use Rattle.algebra.specs.Tests.{every, every-at}
 use Rattle.contrasts.specs.Limits.{mostTwo}
 use Rattle.plan.specs.declared.types.Plan.{Plan}
 use Rattle.plan.specs.Check.{planNumber}
 use Rattle.plan.specs.Laws.Accepted.{accepted, sizes}
 use Rattle.plan.specs.Laws.Alike.{Alike}
-use Rattle.plan.specs.Plan.{confoundedIn}
-use Rattle.rows.specs.Kinds.{rowsIn, rowCount, wrongRows, kindByMark, kindOf, badMark, badMarks}
+use Rattle.rows.specs.Kinds.{rowsIn, rowCount, wrongRows, Kind, meanRow, blocksRow, errorRow, keptRow, codeOf, kindIn, same, badMark, badMarks}
 
-pub four-kinds : (p : Plan) (marks : List ℕ) (w : ℕ) → kindOf p marks w < 4
-unfolding kindOf kindByMark
-four-kinds p marks w = by (eqb w 0) (confoundedIn p w) (eqb (getD marks w 0) 1)
-  where
-    by : (a b c : Bool) → cond a 2 (cond b 3 (cond c 1 0)) < 4
-    by true b c = lit< tt
-    by false true c = lit< tt
-    by false false true = lit< tt
-    by false false false = lit< tt
+pub four-kinds : (c : Kind) → codeOf c < 4
+four-kinds meanRow = lit< tt
+four-kinds blocksRow = lit< tt
+four-kinds errorRow = lit< tt
+four-kinds keptRow = lit< tt
+
+pub kind-in : (c : Kind) → kindIn (codeOf c) ≡ c
+unfolding kindIn
+kind-in meanRow = refl
+kind-in blocksRow = refl
+kind-in errorRow = refl
+kind-in keptRow = refl
+
+pub code-in : (n : ℕ) → n < 4 → codeOf (kindIn n) ≡ n
+unfolding kindIn every
+code-in n h = eqb→eq (codeOf (kindIn n)) n (every-at 4 (λ n. eqb (codeOf (kindIn n)) n) tt n h)
+
+pub one-kind : (c d : Kind) → (same c d ≡ true → c ≡ d) × (c ≡ d → same c d ≡ true)
+one-kind c d =
+    (λ e. sym (kind-in c) ∙ ap kindIn (eqb-true (codeOf c) (codeOf d) e) ∙ kind-in d, λ e. eq-eqb (codeOf c) (codeOf d) (ap codeOf e))
+
+pub code-by : (b : Bool) (c d : Kind) → codeOf (cond b c d) ≡ cond b (codeOf c) (codeOf d)
+code-by true c d = refl
+code-by false c d = refl
 
 pub row-count : (p : Plan) → planNumber p ≡ 0 → rowCount p ≡ rowsIn p
 unfolding rowCount

@@ -12,7 +12,7 @@ use lib.ListN.{length, getD}
 use Rattle.algebra.specs.Search.{some}
 use Rattle.algebra.specs.Tab.{tab}
 use Rattle.plan.specs.Plan.{combinesTo}
-use Rattle.rows.specs.Kinds.{blocksKind, kindByMark}
+use Rattle.rows.specs.Kinds.{blocksRow, kindByMark, codeOf}
 
 abbrev pub marked : List ℕ → ℕ → Bool
 marked marks w = eqb (getD marks w 0) 1
@@ -21,7 +21,7 @@ unfoldable pub anyOver : List ℕ → Bool
 anyOver marks = some (length marks) (λ w. ltb 1 (getD marks w 0))
 
 unfoldable pub withMarks : List ℕ → List ℕ → List ℕ
-withMarks marks kinds = tab (length kinds) (λ w. cond (ltb w (length marks)) (kindByMark (getD marks w 0)) (getD kinds w 0))
+withMarks marks kinds = tab (length kinds) (λ w. cond (ltb w (length marks)) (codeOf (kindByMark (getD marks w 0))) (getD kinds w 0))
 
 unfoldable pub withBlocks : List ℕ → List ℕ → List ℕ
-withBlocks words kinds = tab (length kinds) (λ w. cond (combinesTo w words) blocksKind (getD kinds w 0))
+withBlocks words kinds = tab (length kinds) (λ w. cond (combinesTo w words) (codeOf blocksRow) (getD kinds w 0))

@@ -5,7 +5,7 @@ ghost use lib.ListN.{length, set, take};
 use super::choices::choices;
 use plan::Plan;
 use words::combine;
-ghost use Rattle.rows.specs.Kinds.{kindByMark, kindsOf};
+ghost use Rattle.rows.specs.Kinds.{kindByMark, codeOf, kindsOf};
 ghost use Rattle.rows.specs.Written.{withMarks, withBlocks};
 
 const KEPT: u8 = 0;
@@ -18,7 +18,7 @@ const BLOCKS: u8 = 3;
 
 // What a row is by its mark alone.
 fn kind_by_mark(mark: u8) -> u8
-    ensures { λ r. ⌜ r ≡ kindByMark mark ⌝ }
+    ensures { λ r. ⌜ r ≡ codeOf (kindByMark mark) ⌝ }
 {
     if mark == 1 { ERROR } else { KEPT }
 }

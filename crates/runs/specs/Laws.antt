@@ -1,8 +1,10 @@
 -- Laws on runs that callers cite.
 --
---   High      the letters that are high in a run
---   Blocks    which runs share a block, and what confounding means
---   Alike     places beyond the counts are ignored
+--   High           the letters that are high in a run
+--   BaseLetters    words of base letters in a run
+--   Blocks         which runs share a block, and what confounding means
+--   Alike          places beyond the counts are ignored
 pub mod High
+pub mod BaseLetters
 pub mod Blocks
 pub mod Alike

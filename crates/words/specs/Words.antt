@@ -45,7 +45,8 @@ shared a b = Σℕ 16 (λ i. letter a i * letter b i)
 unfoldable pub oddIn : ℕ → ℕ → Bool
 oddIn run w = odd (shared run w)
 
--- how often letter i occurs in the word w and those of the words ws that are chosen; a choice is a set of their places, bit j for word j
+-- how often letter i occurs in the word w and those of the words ws that are chosen; a choice is a set of their places, bit j for word j. Of AB,
+-- BC, CD the choice 5, bits 0 and 2, takes AB and CD, which combine to ABCD.
 unfoldable pub times : ℕ → ℕ → List ℕ → ℕ → ℕ
 times w choice ws i = letter w i + Σℕ (length ws) (λ j. letter choice j * letter (getD ws j 0) i)
 

@@ -5,38 +5,32 @@
 --   reduces-number           how many letters they share with it, up to an even number
 --   reduces, plan-reduces    the effect and its base word in a run; for an accepted plan, by the values of the run and alias calls
 use mathlib.Core.Path.{_≡_, refl, sym, ap, _∙_}
-use mathlib.Core.Bool.{Bool, true, false, cond, not, _&&_}
+use mathlib.Core.Bool.{Bool, true, false, cond, not, _&&_, and-false}
 use mathlib.Core.List.{List}
 use Prim.Native.Nat.{ℕ, zero, suc, _+_, _*_, _-_, _/_, _%_, _^_, _<_, _≤_}
-use native.Mathlib.Nat.{mul-zero, zero-mul, mod-lt, zero-lt-suc}
+use native.Mathlib.Nat.{mul-zero, zero-mul, mod-lt, one-le-pow, zero-lt-suc}
 use native.Mathlib.Omega.{arith}
 use lib.Dec.{eqb}
-use lib.ListN.{length, getD, length-take}
-use borrow.Author.Tests.{eq-eqb, ne-eqb, eqb-true, eqb-false}
+use lib.ListN.{length, getD}
 use Rattle.algebra.specs.Naturals.{Σℕ, Σℕ-plus, Σℕ-upto, Σℕ-add, Σℕ-cong, Σℕ-parity}
+use Rattle.algebra.specs.Tab.{getD-past}
 use Rattle.algebra.specs.Bits.{bit-lt, bit-none, bit-mod, digit}
 use Rattle.words.specs.Words.{letter, has, shared, odd, oddIn}
-use Rattle.words.specs.Laws.Letters.{shifted}
+use Rattle.words.specs.Laws.Letters.{shifted, shared-first}
 use Rattle.words.specs.Laws.Combined.{shared-combined}
+use Rattle.words.specs.Laws.Parity.{odd-add}
 use Rattle.plan.specs.declared.types.Plan.{Plan}
 use Rattle.plan.specs.Plan.{addedWords, addedSigns, allLetters}
-use Rattle.plan.specs.Laws.Accepted.{Accepted, at-most-ten}
+use Rattle.plan.specs.Laws.Accepted.{Accepted, signs-small}
+use Rattle.plan.specs.Laws.Sizes.{letters-few}
 use Rattle.runs.specs.Run.{highBy, highLetters, runValues}
-use Rattle.runs.specs.Laws.High.{high-base, high-added}
+use Rattle.runs.specs.Laws.High.{high-added}
+use Rattle.runs.specs.Laws.BaseLetters.{high-letter}
 use Rattle.aliases.specs.Alias.{baseWord, turnsOf, turns, aliasValues}
 
 other : (b : Bool) → cond (not b) 1 0 ≡ 1 - cond b 1 0
 other true = refl
 other false = refl
-
-odd-add : (a b : ℕ) → odd (a + b) ≡ cond (odd b) (not (odd a)) (odd a)
-odd-add a b = by (odd a) (odd b) refl refl
-  where
-    by : (x y : Bool) → odd a ≡ x → odd b ≡ y → odd (a + b) ≡ cond y (not x) x
-    by true true p q = ne-eqb ((a + b) % 2) 1 (λ e. omega (arith, e, eqb-true (a % 2) 1 p, eqb-true (b % 2) 1 q))
-    by true false p q = eq-eqb ((a + b) % 2) 1 (omega (arith, eqb-true (a % 2) 1 p, eqb-false (b % 2) 1 q))
-    by false true p q = eq-eqb ((a + b) % 2) 1 (omega (arith, eqb-false (a % 2) 1 p, eqb-true (b % 2) 1 q))
-    by false false p q = ne-eqb ((a + b) % 2) 1 (λ e. omega (arith, e, eqb-false (a % 2) 1 p, eqb-false (b % 2) 1 q))
 
 -- a letter by the test whether it is there
 by-test : (w i : ℕ) (b : Bool) → has w i ≡ b → letter w i ≡ cond b 1 0
@@ -51,9 +45,8 @@ one (suc zero) x (suc zero) h l = rw (other (odd x), digit (x % 2) (mod-lt x (ze
 one (suc zero) x (suc (suc s)) h l = absurd (omega (arith, l))
 one (suc (suc c)) x s h l = absurd (omega (arith, h))
 
-module _ (k : ℕ) (words signs : List ℕ) (r e : ℕ) (small : r < 2 ^ k) (room : k + length words ≤ 16)
-    (fits : e < 2 ^ (k + length words)) (alike : length signs ≡ length words)
-    (signed : (j : ℕ) → j < length signs → getD signs j 0 ≤ 1) where
+module _ (k : ℕ) (words signs : List ℕ) (r e : ℕ) (room : k + length words ≤ 16) (fits : e < 2 ^ (k + length words))
+    (signed : (j : ℕ) → getD signs j 0 ≤ 1) where
   abbrev pub H : ℕ
   H = highLetters k words signs r
 
@@ -62,7 +55,7 @@ module _ (k : ℕ) (words signs : List ℕ) (r e : ℕ) (small : r < 2 ^ k) (roo
 
   -- the base letters
   base : Σℕ k (λ i. letter H i * letter e i) ≡ Σℕ k (λ i. letter r i * letter e i)
-  base = Σℕ-cong k (λ i h. ap (λ (m : ℕ). m * letter e i) (by-test H i (has r i) (high-base k words signs r i h) ∙ digit (letter r i) (bit-lt r i)))
+  base = Σℕ-cong k (λ i h. ap (λ (m : ℕ). m * letter e i) (high-letter k words signs r i h))
 
   -- the added letters, up to an even number
   added : Σℕ (length words) (λ j. letter H (k + j) * letter e (k + j)) % 2
@@ -81,23 +74,23 @@ module _ (k : ℕ) (words signs : List ℕ) (r e : ℕ) (small : r < 2 ^ k) (roo
       each : (j : ℕ) → j < length words → (letter H (k + j) * letter e (k + j)) % 2 ≡ (word j + sign j) % 2
       each j h =
           rw (by-test H (k + j) (highBy (getD signs j 0) (getD words j 0) r) (high-added k words signs r j h), ← (shifted k e j))
-          (one (letter c j) (shared r (getD words j 0)) (getD signs j 0) (bit-lt c j) (signed j (omega (arith, h, alike))))
+          (one (letter c j) (shared r (getD words j 0)) (getD signs j 0) (bit-lt c j) (signed j))
 
+      -- nothing is counted past the end of either list
       turned : Σℕ (length words) sign ≡ turnsOf c signs
-      turned = rw alike refl
+      turned =
+          sym (Σℕ-upto (length words) (length words + length signs) sign (omega arith)
+          (λ j h. rw (shifted k e j, bit-none (k + length words) e (k + j) fits (omega arith)) refl))
+          ∙ Σℕ-upto (length signs) (length words + length signs) sign (omega arith) (λ j h. rw (getD-past 0 signs j h, and-false (has c j)) refl)
 
-  -- the base letters of the effect: the run has no other
+  -- the base letters of the effect
   base-shared : shared r (e % 2 ^ k) ≡ Σℕ k (λ i. letter r i * letter e i)
-  unfolding shared
   base-shared =
-      Σℕ-upto k 16 (λ i. letter r i * letter (e % 2 ^ k) i) (omega (arith, room)) (λ i h. rw (bit-none k r i small h) (zero-mul (letter (e % 2 ^ k) i)))
+      shared-first k r (e % 2 ^ k) (omega (arith, room)) (mod-lt e (one-le-pow k 2 (zero-lt-suc 1)))
       ∙ Σℕ-cong k (λ i h. ap (λ (m : ℕ). letter r i * m) (bit-mod e k i h))
 
   whole : shared H e ≡ Σℕ k (λ i. letter H i * letter e i) + Σℕ (length words) (λ j. letter H (k + j) * letter e (k + j))
-  unfolding shared
-  whole =
-      Σℕ-upto (k + length words) 16 (λ i. letter H i * letter e i) room (λ i h. rw (bit-none (k + length words) e i fits h) (mul-zero (letter H i)))
-      ∙ Σℕ-plus k (length words) (λ i. letter H i * letter e i)
+  whole = shared-first (k + length words) H e room fits ∙ Σℕ-plus k (length words) (λ i. letter H i * letter e i)
 
   pub reduces-number : shared H e % 2 ≡ (shared r (baseWord k words e) + turnsOf c signs) % 2
   unfolding baseWord
@@ -108,10 +101,7 @@ module _ (k : ℕ) (words signs : List ℕ) (r e : ℕ) (small : r < 2 ^ k) (roo
   unfolding oddIn turns
   reduces = ap (λ (m : ℕ). eqb m 1) reduces-number ∙ odd-add (shared r (baseWord k words e)) (turnsOf c signs)
 
-few-added : (p : Plan) → Accepted p → p .k + length (addedWords p) ≤ 16
-few-added p a = omega (arith, at-most-ten (p .k) (a .factors .1), a .counts .0, length-take (p .added) (p .words))
-
--- the same of an accepted plan, whose arrays of words and of signs are equally long
-pub plan-reduces : (p : Plan) → Accepted p → length (addedSigns p) ≡ length (addedWords p) → (r e : ℕ) → r < 2 ^ p .k → e < 2 ^ allLetters p
+-- the same of an accepted plan
+pub plan-reduces : (p : Plan) → Accepted p → (r e : ℕ) → e < 2 ^ allLetters p
     → oddIn (runValues p r .0) e ≡ cond (aliasValues p e .1) (not (oddIn r (aliasValues p e .0))) (oddIn r (aliasValues p e .0))
-plan-reduces p a l r e h f = reduces (p .k) (addedWords p) (addedSigns p) r e h (few-added p a) f l (a .signs)
+plan-reduces p a r e f = reduces (p .k) (addedWords p) (addedSigns p) r e (letters-few p a) f (signs-small a)

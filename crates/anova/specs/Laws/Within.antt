@@ -15,7 +15,6 @@ use mathlib.Core.List.{List}
 use Prim.Native.Nat.{ℕ, _*_, _^_, _<_, _≤_}
 use native.Mathlib.Nat.{le-trans}
 use native.Mathlib.Omega.{arith}
-use lib.Dec.{eqb}
 use lib.IntN.{ℤ, natAbs}
 use lib.ListN.{length}
 use Rattle.algebra.specs.Naturals.{Σℕ, Σℕ-by, Σℕ-some, Σℕ-term}
@@ -32,7 +31,7 @@ use Rattle.contrasts.specs.Laws.Squares.{numerators, total-within, check-within
 use Rattle.plan.specs.declared.types.Plan.{Plan}
 use Rattle.plan.specs.Plan.{factorsOf, runsOf}
 use Rattle.plan.specs.Laws.Sizes.{plan-within}
-use Rattle.rows.specs.Kinds.{rowsIn, kindOf}
+use Rattle.rows.specs.Kinds.{rowsIn, Kind, kindOf, same}
 use Rattle.anova.specs.declared.types.Source.{Source}
 use Rattle.anova.specs.Ready.{TableReady}
 use Rattle.anova.specs.Table.{sourceOf, totalSource, checksOf}
@@ -73,12 +72,12 @@ module _ {p : Plan} {readings : List ℤ} {marks : List ℕ} {totals : List ℤ}
   pub degrees-within : (w : ℕ) → w < rowsIn p → degreesOf (factorsOf p) w ≤ numeratorLimit
   degrees-within w h = le-trans (Σℕ-term (rowsIn p) (degreesOf (factorsOf p)) w h) (rw all-degrees (fit .1))
 
-  pub kind-within : (c : ℕ) → SourceWithin (sourceOf p readings marks c)
+  pub kind-within : (c : Kind) → SourceWithin (sourceOf p readings marks c)
   unfolding sourceOf
   kind-within c =
       record {
-        degrees = le-trans (Σℕ-some (rowsIn p) (rowsIn p) (λ w. eqb (kindOf p marks w) c) (degreesOf (factorsOf p)) (omega arith)) (rw all-degrees (fit .1));
-        numerator = le-trans (Σℕ-some (rowsIn p) (rowsIn p) (λ w. eqb (kindOf p marks w) c) (rowNumerator (factorsOf p) (read readings)) (omega arith)) (rw all-rows (within-limit a));
+        degrees = le-trans (Σℕ-some (rowsIn p) (rowsIn p) (λ w. same (kindOf p marks w) c) (degreesOf (factorsOf p)) (omega arith)) (rw all-degrees (fit .1));
+        numerator = le-trans (Σℕ-some (rowsIn p) (rowsIn p) (λ w. same (kindOf p marks w) c) (rowNumerator (factorsOf p) (read readings)) (omega arith)) (rw all-rows (within-limit a));
       }
 
   pub total-source-within : SourceWithin (totalSource p readings)

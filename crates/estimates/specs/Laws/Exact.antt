@@ -1,10 +1,8 @@
 -- "The double is exactly that quotient; a zero total gives positive zero."
 --
---   IsQuotient t j x    x is finite, has the sign of t, and is t / 2 ^ j in size
---   Exactly t j x       besides, x is a double, and no other double is that quotient
---   exact               so is `quotient t j`, for every t below 2 ^ 53 in size
---   positive-zero       and where t is 0 it is positive zero
---   of-value            `IsQuotient` from the kit's own terms
+--   of-value         `IsQuotient` from the kit's own terms
+--   exact            `quotient t j` is exactly t / 2 ^ j, for every t below 2 ^ 53 in size
+--   positive-zero    and where t is 0 it is positive zero
 use mathlib.Core.Path.{_≡_, refl, sym, ap, _∙_, subst}
 use mathlib.Core.Bool.{Bool, true, false}
 use Prim.Native.Nat.{ℕ, zero, suc, _+_, _*_, _-_, _/_, _^_, _<_, _≤_}
@@ -15,23 +13,12 @@ use lib.Count.{trailingZeros}
 use lib.Dec.{T, leb}
 use lib.IntN.{ℤ, pos, negsuc, natAbs}
 use lib.Pow.{pow-pos, pow-mono, shl-lt}
-use lib.Ieee.{Float, nan, inf, fin, binary64, up, down, minus, odd, fits}
+use lib.Ieee as ieee
+use lib.Ieee.{Float, nan, inf, fin, binary64, up, down, minus, fits}
 use lib.Ieee.Exact.{HasValue, odd-sign}
 use lib.Ieee.Fits.{odd-fits}
-use Rattle.estimates.specs.Quotient.{negative, quotient}
+use Rattle.estimates.specs.Quotient.{negative, IsQuotient, Exactly, double, quotient}
 use Rattle.estimates.specs.Laws.Doubles.{one-double}
-
--- x is digits * 2 ^ exponent, negative where t is, and in size that times 2 ^ j is t; 2 ^ e is the fraction up e / down e
-pub record IsQuotient (t : ℤ) (j : ℕ) (x : Float) : Type 0 where
-  pub digits : ℕ
-  pub exponent : ℤ
-  pub finite : x ≡ fin (negative t) digits exponent
-  pub times : digits * up exponent * 2 ^ j ≡ natAbs t * down exponent
-
-pub record Exactly (t : ℤ) (j : ℕ) (x : Float) : Type 0 where
-  pub value : IsQuotient t j x
-  pub double : T (fits binary64 x)
-  pub only : (y : Float) → T (fits binary64 y) → IsQuotient t j y → y ≡ x
 
 pub of-value : (t : ℤ) (j : ℕ) (x : Float) → HasValue x (negative t) (natAbs t) (2 ^ j) → IsQuotient t j x
 of-value t j nan v = absurd v
@@ -77,17 +64,17 @@ same-exponent a b c d h = by (leb b a) refl
         simp (lt-leb b a k, lt-leb d c l) (ap negsuc (omega arith))
 
 -- the same number in units of 2 ^ -l
-in-units : (d : ℕ) (s : Bool) (q j l : ℕ) → j ≤ l → odd d s q 0 j ≡ odd d s q (l - j) l
-unfolding odd
-in-units d s zero j l h = refl
-in-units d s (suc q) j l h =
-    let z = trailingZeros d (suc q) in
+in-units : (s : Bool) (q j l : ℕ) → j ≤ l → double s q j ≡ ieee.odd 53 s q (l - j) l
+unfolding double
+in-units s zero j l h = refl
+in-units s (suc q) j l h =
+    let z = trailingZeros 53 (suc q) in
     ap (fin s (suc q / 2 ^ z)) (same-exponent (0 + z) j (l - j + z) l (omega arith))
 
-is-double : (s : Bool) (n j : ℕ) → n < 2 ^ 53 → j ≤ 1074 → T (fits binary64 (odd 53 s n 0 j))
+is-double : (s : Bool) (n j : ℕ) → n < 2 ^ 53 → j ≤ 1074 → T (fits binary64 (double s n j))
 is-double s n j h k =
     let room : 53 + (1074 - j) ≤ 2098 = omega arith in
-    rw (in-units 53 s n j 1074 k)
+    rw (in-units s n j 1074 k)
     (odd-fits binary64 53 s n (1074 - j) h (le-of-lt h) (lt-of-lt-of-le (shl-lt 53 (1074 - j) h) (pow-mono room)))
 
 -- ---- the laws
@@ -101,5 +88,5 @@ exact t j h k =
     record { value = v; double = f; only = λ y g w. unique g f w v }
 
 pub positive-zero : (j : ℕ) → quotient (pos 0) j ≡ fin false 0 (pos 0)
-unfolding quotient odd
+unfolding quotient
 positive-zero j = refl

@@ -6,9 +6,11 @@
 --   some-factor, held    such a plan has a factor, and doubles hold the total and 2 ^ k
 --   Estimated p e t      the outcome of the effect e of the plan p with the total t
 --   estimated            so it is where the call gives no number
-use mathlib.Core.Path.{_≡_, refl, sym, ap, _∙_}
+--   exactly-given        and the mean or the difference that the call gives is exactly its quotient
+use mathlib.Core.Path.{_≡_, refl, sym, ap, _∙_, subst}
 use mathlib.Core.Bool.{Bool, true, false, cond}
 use Prim.Native.Nat.{ℕ, _*_, _-_, _^_, _<_, _≤_}
+use native.Mathlib.Decide.{ℕ-discrete}
 use native.Mathlib.Nat.{mul-le-mul-right}
 use native.Mathlib.Omega.{arith}
 use borrow.Author.Tests.{eq-eqb, ne-eqb, eqb-false, le-ltb, ltb-false}
@@ -19,15 +21,16 @@ use lib.Ieee.{Float}
 use Rattle.contrasts.specs.Limits.{readingLimit}
 use Rattle.words.specs.Words.{beyond}
 use Rattle.plan.specs.declared.types.Plan.{Plan}
+use Rattle.plan.specs.Outcome.{Outcome, given, outcome}
 use Rattle.plan.specs.Plan.{confoundedIn}
 use Rattle.plan.specs.Check.{planNumber}
 use Rattle.plan.specs.Laws.Accepted.{accepted, sizes}
-use Rattle.plan.specs.Laws.Answers.{after-plan, passed, plan-passed}
+use Rattle.plan.specs.Laws.Answers.{after-plan, passed, plan-passed, refused-with, given-with}
 use Rattle.plan.specs.Laws.Confounded.{not-empty}
 use Rattle.plan.specs.Laws.Sizes.{two-levels}
-use Rattle.estimates.specs.Quotient.{InDouble}
-use Rattle.estimates.specs.Estimate.{Value, mean, difference, lost, meanOf, differenceOf, valueBy, estimateValue, totalLimit, estimateNumber}
-use Rattle.estimates.specs.Laws.Exact.{Exactly, exact}
+use Rattle.estimates.specs.Quotient.{Exactly, InDouble}
+use Rattle.estimates.specs.Estimate.{Value, mean, difference, lost, meanOf, differenceOf, valueBy, estimateValue, totalLimit, estimateNumber, ExactlyGiven}
+use Rattle.estimates.specs.Laws.Exact.{exact}
 
 -- ---- the numbers
 
@@ -113,3 +116,17 @@ estimated p e t n =
       of-difference = λ c z. rw (c, ne-eqb e 0 z) refl;
       difference-exact = exact t (p .k - 1) (h .number) (omega (arith, h .power));
     }
+
+module _ (p : Plan) (e : ℕ) (t : ℤ) where
+  exactly : Estimated p e t → (b zero : Bool) → ExactlyGiven p t (given (cond b lost (cond zero (mean (meanOf (p .k) t)) (difference (differenceOf (p .k) t)))))
+  exactly d true zero = tt
+  exactly d false true = d .mean-exact
+  exactly d false false = d .difference-exact
+
+  pub exactly-given : {o : Outcome Value} → o ≡ outcome (estimateNumber p e t) (estimateValue p e t) → ExactlyGiven p t o
+  unfolding valueBy
+  exactly-given d = subst (ExactlyGiven p t) (sym d) (by (ℕ-discrete (estimateNumber p e t) 0))
+    where
+      by : Dec (estimateNumber p e t ≡ 0) → ExactlyGiven p t (outcome (estimateNumber p e t) (estimateValue p e t))
+      by (yes z) = rw (given-with (estimateNumber p e t) (estimateValue p e t) z) (exactly (estimated p e t z) (confoundedIn p e) (eqb e 0))
+      by (no h) = rw (refused-with (estimateNumber p e t) (estimateValue p e t) h) tt

@@ -2,7 +2,6 @@
 --
 --   totals-admitted    every effect of an accepted plan of two levels is admitted with its total
 use mathlib.Core.Path.{_≡_, ap, _∙_}
-use mathlib.Core.Logic.{inl}
 use Prim.Native.Nat.{ℕ, _*_, _^_, _<_, _≤_}
 use lib.IntN.{natAbs}
 use lib.ListN.{replicate}
@@ -16,7 +15,7 @@ use Rattle.words.specs.Laws.Letters.{beyond-none}
 use Rattle.plan.specs.declared.types.Plan.{Plan}
 use Rattle.plan.specs.Check.{planNumber}
 use Rattle.plan.specs.Plan.{factorsOf, runsOf}
-use Rattle.plan.specs.Laws.Sizes.{factors-two, runs-power}
+use Rattle.plan.specs.Laws.Sizes.{factors-two, runs-two}
 use Rattle.estimates.specs.Laws.Given.{Admitted}
 
 growth-two : (k : ℕ) → growth (replicate k two) ≡ 2 ^ k
@@ -26,7 +25,7 @@ growth-two k = growth-alike k two
 pub totals-admitted : (p : Plan) → planNumber p ≡ 0 → p .levels ≡ 2 → (x : Column) → Within (runsOf p) readingLimit x
     → (e : ℕ) → e < runsOf p → Admitted p e (total (factorsOf p) x e)
 totals-admitted p z l x w e h =
-    let n : runsOf p ≡ 2 ^ p .k = runs-power p (inl l) ∙ ap (λ (b : ℕ). b ^ p .k) l in
+    let n : runsOf p ≡ 2 ^ p .k = runs-two p l in
     let g : growth (factorsOf p) ≡ 2 ^ p .k = ap growth (factors-two p l) ∙ growth-two (p .k) in
     let b : natAbs (total (factorsOf p) x e) ≤ growth (factorsOf p) * readingLimit = bound-total (factorsOf p) x readingLimit w e h in
     record { plan = z; levels = l; letters = beyond-none (p .k) e (rw n at h); within = rw g at b }

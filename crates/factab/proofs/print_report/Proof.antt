@@ -10,8 +10,8 @@ print-report-spec =
     tie.close
     (tie.spec
     (λ c κs. tt)
-    (λ c. rw (c .report .ensures .1, length-append _ _) (omega (arith, c .report .ensures .0)))
-    (λ c. sym (length-take-le _ _ (rw (c .before .report .ensures .1, length-append _ _) (omega (arith, c .before .report .ensures .0)))))
+    (λ c. rw (c .report-input .ensures .1 .0, length-append _ _) (omega (arith, c .report-input .ensures .0)))
+    (λ c. sym (length-take-le _ _ (rw (c .before .report-input .ensures .1 .0, length-append _ _) (omega (arith, c .before .report-input .ensures .0)))))
     (λ c κs. tt)
     (λ c. omega arith)
     (λ c κs. tt)

@@ -6,10 +6,10 @@ use Rattle.factab.proofs.read_input.Statement.{statement}
 use Rattle.factab.proofs.read_input.Tie as tie
 
 abbrev Inv-loop : tie.InvT-loop
-Inv-loop buffer₀ n₀ buffer n = (length buffer ≡ length buffer₀) × (n ≤ length buffer₀)
+Inv-loop bytes₀ n₀ bytes n = (length bytes ≡ length bytes₀) × (n ≤ length bytes₀)
 
 abbrev μ-loop : tie.MeasureT-loop
-μ-loop buffer₀ n₀ buffer n = length buffer₀ - n
+μ-loop bytes₀ n₀ bytes n = length bytes₀ - n
 
 pub read-input-spec : {M : Type 1} → statement M
 read-input-spec =
@@ -26,10 +26,7 @@ read-input-spec =
     (λ c. omega arith)
     (λ c. omega arith)
     (λ c. omega arith)
-    (λ c. omega arith)
     (λ c κs. tt)
-    (λ c. omega arith)
-    (λ c. omega arith)
     (λ c. omega arith)
     (λ c. omega arith)
     (λ c. omega arith)

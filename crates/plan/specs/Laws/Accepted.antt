@@ -4,6 +4,7 @@
 --   accepted                so they are where the check gives no number
 --   levels-known, factors-known, counts-known    what lines 2, 3 and 4 say where they do not apply
 --   levels-small            two or three levels are at most three
+--   signs-small             a sign is 0 or 1, and 0 is read past the end
 --   at-most-ten, sizes      the most factors, as a number; the bounds of an accepted plan's counts
 use mathlib.Core.Path.{_≡_, refl, sym, ap, _∙_}
 use mathlib.Core.Logic.{_⊎_, inl, inr}
@@ -11,12 +12,14 @@ use mathlib.Core.Bool.{Bool, true, false, cond, _||_, true≢false}
 use mathlib.Core.List.{List}
 use Prim.Native.Nat.{ℕ, _<_, _≤_}
 use native.Mathlib.Omega.{arith}
+use native.Mathlib.Decide.{decLt}
 use lib.Dec.{eqb, ltb}
 use lib.ListN.{length, getD, take}
 use lib.Seq.{length-take-le, getD-take}
 use borrow.Author.Tests.{eqb-true, eqb-false, ltb-false, not-false}
 use Rattle.algebra.specs.Tests.{neither}
 use Rattle.algebra.specs.Search.{none-at}
+use Rattle.algebra.specs.Tab.{getD-past}
 use Rattle.contrasts.specs.Limits.{mostTwo, mostThree}
 use Rattle.plan.specs.declared.types.Plan.{Plan}
 use Rattle.words.specs.Words.{letters, beyond, any, among, repeated, combined}
@@ -155,6 +158,13 @@ accepted p e =
       apart = apart-of (addedWords p) (l6 .0);
       lost = lost-of (addedWords p) (blockWords p) (l7 .0) (l8 .0);
     }
+
+pub signs-small : {p : Plan} → Accepted p → (j : ℕ) → getD (addedSigns p) j 0 ≤ 1
+signs-small {p} a j = by (decLt j (length (addedSigns p)))
+  where
+    by : Dec (j < length (addedSigns p)) → getD (addedSigns p) j 0 ≤ 1
+    by (yes h) = a .signs j h
+    by (no h) = rw (getD-past 0 (addedSigns p) j (omega arith)) (omega arith)
 
 pub sizes : (p : Plan) → planNumber p ≡ 0 → (p .k ≤ 10) × (p .added ≤ 6) × (p .blocks ≤ 4)
 sizes p e =

@@ -12,8 +12,7 @@ use lib.Dec.{eqb}
 use borrow.Author.Tests.{eqb-true}
 use Rattle.algebra.specs.Search.{some}
 use Rattle.words.specs.Words.{letters, combined}
-use Rattle.words.specs.Laws.Letters.{within, beyond-none}
-use Rattle.words.specs.Laws.Combined.{combined-beyond, combined-small}
+use Rattle.words.specs.Laws.Combined.{combined-within}
 use Rattle.plan.specs.declared.types.Plan.{Plan}
 use Rattle.plan.specs.Plan.{blockWords, someCombination, combinesTo, confoundedIn}
 use Rattle.plan.specs.Laws.Combinations.{the-combination}
@@ -32,8 +31,7 @@ module _ {p : Plan} (a : Accepted p) (w : ℕ) (e : confoundedIn p w ≡ true) w
       let c = the-combination (blockWords p) (λ v. eqb v w) e in
       let v = combined 0 (c .0) (blockWords p) in
       rw (← (eqb-true v w (c .3)))
-      (within (p .k) v (combined-small 0 (c .0) (blockWords p))
-      (combined-beyond (p .k) 0 (c .0) (blockWords p) (beyond-none (p .k) 0 (one-le-pow (p .k) 2 (zero-lt-suc 1))) (λ j h. a .blocks j h .0)))
+      (combined-within (p .k) 0 (c .0) (blockWords p) (one-le-pow (p .k) 2 (zero-lt-suc 1)) (λ j h. a .blocks j h .0))
 
 pub no-blocks : (w : ℕ) → combinesTo w [] ≡ false
 unfolding combinesTo someCombination some

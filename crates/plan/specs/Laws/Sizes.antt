@@ -2,15 +2,17 @@
 --
 --   two-levels                    an accepted plan that has not three levels has two
 --   runs-power, as-power          there are levels to the power k runs
+--   runs-two                      so with two levels there are 2 ^ k
 --   factors-two, factors-three    its base factors, by its levels
 --   plan-kind                     the factor of the plan's levels has so many
 --   plan-within                   its totals, and all values on the way, are within the limits
 --   spacing-power                 the values of the factor at position f lie levels to the power f apart
 --   RunsTwo, RunsThree, runs-known    what `runs` gives of any plan: 0, or the number of runs at two or at three levels
 --   runs-few                      there are at most 1,024 runs
+--   letters-few                   there are at most 16 letters, base and added
 --   run-count, spacing-is, confounded-is    what `runs`, `spacing` and `confounded` give of an accepted plan
 --   power-room, power-more        the loop that multiplies
-use mathlib.Core.Path.{_≡_, refl, sym, _∙_}
+use mathlib.Core.Path.{_≡_, refl, sym, ap, _∙_}
 use mathlib.Core.Logic.{_⊎_, inl, inr}
 use mathlib.Core.Bool.{Bool, true, false}
 use Prim.Native.Nat.{ℕ, _+_, _*_, _^_, _<_, _≤_}
@@ -18,7 +20,7 @@ use native.Mathlib.Nat.{le-trans, mul-le-mul-left, pow-le-pow-left, pow-le-pow-r
 use native.Mathlib.Numerals.{add-one}
 use native.Mathlib.Omega.{arith}
 use lib.Dec.{T}
-use lib.ListN.{replicate}
+use lib.ListN.{replicate, length-take}
 use borrow.Author.Tests.{eq-eqb, lt-leb}
 use Rattle.contrasts.specs.Limits.{mostTwo, mostThree}
 use Rattle.contrasts.specs.Tables.{two, three, ofLevels}
@@ -27,9 +29,9 @@ use Rattle.contrasts.specs.Laws.Alike.{size-alike, spacing-alike}
 use Rattle.contrasts.specs.Laws.Kinds.{kind-of}
 use Rattle.contrasts.specs.Laws.Limits.{withinLimits, two-within, three-within}
 use Rattle.plan.specs.declared.types.Plan.{Plan}
-use Rattle.plan.specs.Plan.{factorsOf, runsOf, confoundedIn}
+use Rattle.plan.specs.Plan.{factorsOf, runsOf, allLetters, confoundedIn}
 use Rattle.plan.specs.Check.{badLevels, badFactors, planNumber, runCount, spacingAt, confoundedAccepted}
-use Rattle.plan.specs.Laws.Accepted.{accepted, levels-known, factors-known}
+use Rattle.plan.specs.Laws.Accepted.{Accepted, accepted, at-most-ten, levels-known, factors-known}
 use Rattle.plan.specs.Laws.Accepts.{levels-right, factors-right}
 
 two-then : (p : Plan) → (p .levels ≡ 2) ⊎ (p .levels ≡ 3) → (p .levels ≡ 3 → ⊥) → p .levels ≡ 2
@@ -43,6 +45,9 @@ pub runs-power : (p : Plan) → (p .levels ≡ 2) ⊎ (p .levels ≡ 3) → runs
 unfolding factorsOf two three
 runs-power p (inl e) = rw e (size-alike (p .k) two)
 runs-power p (inr e) = rw e (size-alike (p .k) three)
+
+pub runs-two : (p : Plan) → p .levels ≡ 2 → runsOf p ≡ 2 ^ p .k
+runs-two p e = runs-power p (inl e) ∙ ap (λ (b : ℕ). b ^ p .k) e
 
 pub spacing-power : (p : Plan) (f : ℕ) → (p .levels ≡ 2) ⊎ (p .levels ≡ 3) → f < p .k → spacing (factorsOf p) f ≡ p .levels ^ f
 unfolding factorsOf two three
@@ -117,6 +122,9 @@ runs-few p ok = by (runs-known p)
     by (inr (inr t)) =
         let s : 3 ^ p .k ≤ 729 = pow-le-pow-right {n = 3} (omega arith) {i = p .k} {j = 6} (t .most) in
         rw (c ∙ t .count) (omega (arith, s))
+
+pub letters-few : (p : Plan) → Accepted p → allLetters p ≤ 16
+letters-few p a = omega (arith, at-most-ten (p .k) (a .factors .1), a .counts .0, length-take (p .added) (p .words))
 
 pub spacing-is : (p : Plan) (f : ℕ) → planNumber p ≡ 0 → f < p .k → spacingAt p f ≡ spacing (factorsOf p) f
 unfolding spacingAt

@@ -85,12 +85,12 @@ text-written sheet {a} long w =
     (s .0, s .1 ∙ ap (λ n. textOf sheet ++ drop n a) (sym (s .0)))
 
 module _ (sheet : List ℕ) {a b : List ℕ} {next : ℕ} (long : length a ≡ 69632) where
-  pub too-long : longestSheet < length sheet → Wrote a 0 (namedLine (ascii "refused") 1) b next
+  pub too-long : Wrote a 0 (namedLine (ascii "refused") 1) b next → longestSheet < length sheet
       → (next ≡ length (textOf sheet)) × (b ≡ textOf sheet ++ drop next a)
   unfolding textOf printed reportNumber
-  too-long h w = text-written sheet long (rw (lt-ltb longestSheet (length sheet) h) w)
+  too-long w h = text-written sheet long (rw (lt-ltb longestSheet (length sheet) h) w)
 
-  pub long-enough : length sheet ≤ longestSheet → Wrote a 0 (printed (marksNumber sheet) (sheetTable sheet)) b next
+  pub long-enough : Wrote a 0 (printed (marksNumber sheet) (sheetTable sheet)) b next → length sheet ≤ longestSheet
       → (next ≡ length (textOf sheet)) × (b ≡ textOf sheet ++ drop next a)
   unfolding textOf reportNumber
-  long-enough h w = text-written sheet long (rw (le-ltb longestSheet (length sheet) h) w)
+  long-enough w h = text-written sheet long (rw (le-ltb longestSheet (length sheet) h) w)

@@ -26,8 +26,8 @@ use Rattle.plan.specs.declared.types.Plan.{Plan}
 use Rattle.plan.specs.Plan.{factorsOf}
 use Rattle.plan.specs.Laws.Sizes.{plan-kind, factors-two, factors-three}
 use Rattle.contrasts.specs.Laws.Kinds.{the-three}
-use Rattle.rows.specs.Kinds.{rowsIn, kindOf, kindsOf}
-use Rattle.rows.specs.Laws.{rows-few}
+use Rattle.rows.specs.Kinds.{rowsIn, kindOf, codeOf, kindIn, kindsOf}
+use Rattle.rows.specs.Laws.{kind-in, rows-few}
 use Rattle.text.specs.Text.{Wrote}
 use Rattle.text.specs.Laws.Writing.{nothing, then, retext}
 use Rattle.lines.specs.Lines.{rowLine}
@@ -61,11 +61,11 @@ no-rows a at levels kinds rows = nothing a at
 
 module _ {a b c : List ℕ} {at next last : ℕ} (levels : ℕ) (kinds rows : List ℕ) (w : ℕ) where
   pub row-more : {d : ℕ} → d ≡ degreesBy levels w → Wrote a at (rowsBy levels kinds rows w) b next
-      → Wrote b next (rowLine w d (getD rows w 0) (getD kinds w 0)) c last → Wrote a at (rowsBy levels kinds rows (w + 1)) c last
+      → Wrote b next (rowLine w d (getD rows w 0) (kindIn (getD kinds w 0))) c last → Wrote a at (rowsBy levels kinds rows (w + 1)) c last
   unfolding rowsBy
   row-more e f g =
       retext
-      (ap (λ d. rowsBy levels kinds rows w ++ rowLine w d (getD rows w 0) (getD kinds w 0)) e ∙ ap (rowsBy levels kinds rows) (sym (add-one w)))
+      (ap (λ d. rowsBy levels kinds rows w ++ rowLine w d (getD rows w 0) (kindIn (getD kinds w 0))) e ∙ ap (rowsBy levels kinds rows) (sym (add-one w)))
       (then f g)
 
 module _ {p : Plan} {rows : List ℕ} (ready : RowsReady p rows) (marks : List ℕ) where
@@ -87,8 +87,8 @@ module _ {p : Plan} {rows : List ℕ} (ready : RowsReady p rows) (marks : List �
   unfolding rowsBy rowLines kindsOf
   so-far zero h = refl
   so-far (suc w) h =
-      ap (λ t. t ++ rowLine w (degreesBy (p .levels) w) (getD rows w 0) (getD (kindsOf p marks) w 0)) (so-far w (omega arith))
-      ∙ rw (degrees-are w (omega arith), getD-tab 0 1024 (kindOf p marks) w (omega (arith, rows-few p (ready .plan)))) refl
+      ap (λ t. t ++ rowLine w (degreesBy (p .levels) w) (getD rows w 0) (kindIn (getD (kindsOf p marks) w 0))) (so-far w (omega arith))
+      ∙ rw (degrees-are w (omega arith), getD-tab 0 1024 (λ v. codeOf (kindOf p marks v)) w (omega (arith, rows-few p (ready .plan))), kind-in (kindOf p marks w)) refl
 
   pub all-rows : {a b : List ℕ} {at next i : ℕ} {kinds : List ℕ} → kinds ≡ kindsOf p marks → i ≡ length rows → Wrote a at (rowsBy (p .levels) kinds rows i) b next
       → Wrote a at (rowLines p marks rows (length rows)) b next

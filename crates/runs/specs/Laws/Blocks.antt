@@ -3,22 +3,28 @@
 --   block-bit, block-small        a block number's bits; it is below 2 ^ (number of block words)
 --   same-parities, same-block     runs share a block exactly when they agree in the parity of every block word
 --   constant                      an effect that is confounded is odd in all runs of a block, or in none
+--   only-combined                 an effect of which this holds in every block is the mean or confounded
 --   no-block-words                without block words every run is in block 0
 use mathlib.Core.Path.{_≡_, refl, sym, ap, _∙_}
-use mathlib.Core.Bool.{true}
+use mathlib.Core.Logic.{_⊎_, inl, inr}
+use mathlib.Core.Bool.{true, false}
 use mathlib.Core.List.{List, []}
-use Prim.Native.Nat.{ℕ, _*_, _%_, _^_, _<_}
+use Prim.Native.Nat.{ℕ, zero, suc, _*_, _%_, _^_, _<_, _≤_}
+use native.Mathlib.Nat.{zero-lt-suc}
 use native.Mathlib.Omega.{arith}
 use lib.Dec.{eqb}
 use lib.ListN.{length, getD}
-use borrow.Author.Tests.{eqb-true}
+use lib.Pow.{pow-pos}
+use borrow.Author.Tests.{eqb-true, eq-eqb}
 use Rattle.algebra.specs.Naturals.{Σℕ, Σℕ-parity}
 use Rattle.algebra.specs.Bits.{bits, bit-lt, bits-lt, bits-at, bits-cong}
-use Rattle.words.specs.Words.{letter, has, shared, oddIn, combined}
+use Rattle.words.specs.Words.{letter, has, shared, oddIn, beyond, combined}
 use Rattle.words.specs.Laws.Letters.{odd-same, shared-none}
 use Rattle.words.specs.Laws.Combined.{keeps-odd, shared-combined}
-use Rattle.plan.specs.Plan.{combinesTo}
-use Rattle.plan.specs.Laws.Combinations.{the-combination}
+use Rattle.words.specs.Laws.Parity.{none-odd}
+use Rattle.words.specs.Laws.Even.{combined-none, even-combined}
+use Rattle.plan.specs.Plan.{someCombination, combinesTo}
+use Rattle.plan.specs.Laws.Combinations.{combination as chosen, the-combination}
 use Rattle.runs.specs.Run.{blockNumber}
 
 module _ (ws : List ℕ) where
@@ -68,3 +74,15 @@ constant ws w r s t e =
     let c = the-combination ws (λ v. eqb v w) t in
     rw (← (eqb-true (combined 0 (c .0) ws) w (c .3)))
     (ap (λ (m : ℕ). eqb m 1) (combination ws r s (c .0) e))
+
+-- the runs of run 0's block are those in which all block words are even, and so is the effect
+pub only-combined : (k : ℕ) (ws : List ℕ) → k ≤ 16 → ((j : ℕ) → j < length ws → beyond k (getD ws j 0) ≡ false) → (w : ℕ) → w < 2 ^ k
+    → ((r s : ℕ) → r < 2 ^ k → s < 2 ^ k → blockNumber ws r ≡ blockNumber ws s → oddIn r w ≡ oddIn s w) → (w ≡ 0) ⊎ (combinesTo w ws ≡ true)
+unfolding combinesTo
+only-combined k ws few within w small h =
+    let c = even-combined k few ws within w small (λ r l v. h r 0 l (pow-pos k) (same-block ws r 0 (λ j g. v j g ∙ sym (none-odd (getD ws j 0)))) ∙ none-odd w) in
+    by (c .0) (c .1) (c .2)
+  where
+    by : (c : ℕ) → c < 2 ^ length ws → combined 0 c ws ≡ w → (w ≡ 0) ⊎ (someCombination ws (λ v. eqb v w) ≡ true)
+    by zero l e = inl (sym e ∙ combined-none ws)
+    by (suc c) l e = inr (chosen ws (λ v. eqb v w) (suc c) (zero-lt-suc c) l (eq-eqb (combined 0 (suc c) ws) w e))

@@ -4,23 +4,23 @@
 --   added-high               letter k + j is high where added factor j is
 --   high-small, high-at      the set of high letters: its size, and each of its letters
 --   high-base, high-added    a base letter in it, and the letter of an added factor
+--   high-turned              an added factor is high by the parity of its word, turned where its sign is 1
 --   run-two                  of an accepted plan of two levels only line 10 is left
-use mathlib.Core.Path.{_≡_, refl, sym, _∙_, ap}
-use mathlib.Core.Logic.{inl}
-use mathlib.Core.Bool.{cond}
+use mathlib.Core.Path.{_≡_, refl, sym, _∙_}
+use mathlib.Core.Bool.{cond, not}
 use mathlib.Core.List.{List}
-use Prim.Native.Nat.{ℕ, _+_, _-_, _^_, _<_}
+use Prim.Native.Nat.{ℕ, zero, suc, _+_, _-_, _^_, _<_, _≤_}
 use native.Mathlib.Omega.{arith}
-use lib.Dec.{leb}
+use lib.Dec.{eqb, leb}
 use lib.ListN.{length, getD}
 use borrow.Author.Tests.{lt-ltb, le-ltb, ne-eqb}
 use Rattle.algebra.specs.Bits.{bits, bits-lt, bits-at, bits-all, bits-cong}
-use Rattle.words.specs.Words.{has}
+use Rattle.words.specs.Words.{has, oddIn}
 use Rattle.plan.specs.declared.types.Plan.{Plan}
 use Rattle.plan.specs.Plan.{runsOf}
 use Rattle.plan.specs.Check.{planNumber}
 use Rattle.runs.specs.Run.{highBy, highIn, highLetters, runNumber}
-use Rattle.plan.specs.Laws.Sizes.{two-levels, runs-power}
+use Rattle.plan.specs.Laws.Sizes.{two-levels, runs-two}
 use Rattle.plan.specs.Laws.Answers.{after-plan}
 
 module _ (k : ℕ) (words signs : List ℕ) (r : ℕ) where
@@ -47,9 +47,15 @@ module _ (k : ℕ) (words signs : List ℕ) (r : ℕ) where
   pub high-added : (j : ℕ) → j < length words → has (highLetters k words signs r) (k + j) ≡ highBy (getD signs j 0) (getD words j 0) r
   high-added j h = high-at (k + j) (omega arith) ∙ added-high j
 
+pub high-turned : (sign w r : ℕ) → sign ≤ 1 → highBy sign w r ≡ cond (eqb sign 1) (not (oddIn r w)) (oddIn r w)
+unfolding highBy
+high-turned zero w r h = refl
+high-turned (suc zero) w r h = refl
+high-turned (suc (suc sign)) w r h = absurd (omega (arith, h))
+
 pub run-two : (p : Plan) (r : ℕ) → planNumber p ≡ 0 → (p .levels ≡ 3 → ⊥) → runNumber p r ≡ cond (leb (2 ^ p .k) r) 10 0
 unfolding runNumber
 run-two p r z t =
     let e : p .levels ≡ 2 = two-levels p z t in
-    let n : runsOf p ≡ 2 ^ p .k = runs-power p (inl e) ∙ ap (λ (b : ℕ). b ^ p .k) e in
+    let n : runsOf p ≡ 2 ^ p .k = runs-two p e in
     after-plan p _ z ∙ rw (ne-eqb (p .levels) 3 t, n) refl

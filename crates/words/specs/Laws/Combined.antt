@@ -4,6 +4,7 @@
 --   combined-small         a combination is a 16-bit word
 --   combined-at            its letters
 --   combined-beyond        it has no letter beyond k where none of its words has one
+--   combined-within        so it is below 2 ^ k where its first word is
 --   keeps-odd              a digit times a number is odd or even as it is times the number's lowest digit
 --   shared-combined        how many letters it shares with a run is odd or even as the sum over its words is
 use mathlib.Core.Path.{_≡_, refl, sym, ap, _∙_}
@@ -21,7 +22,7 @@ use Rattle.algebra.specs.Bits.{bit, bit-lt, bit-xor, digit, bits-lt, bits-at, b
 use Rattle.algebra.specs.Naturals.{Σℕ, Σℕ-none, Σℕ-add, Σℕ-mul, Σℕ-cong, Σℕ-swap, Σℕ-parity}
 use Rattle.algebra.specs.Search.{some-false}
 use Rattle.words.specs.Words.{letter, has, beyond, shared, odd, times, combined}
-use Rattle.words.specs.Laws.Letters.{no-letter}
+use Rattle.words.specs.Laws.Letters.{no-letter, beyond-none, within}
 
 -- ---- the loop
 
@@ -88,6 +89,11 @@ combined-beyond k w choice ws h hs = some-false 16 _ (λ i l. by i l (leb k i) r
     by : (i : ℕ) → i < 16 → (b : Bool) → leb k i ≡ b → (leb k i && has (combined w choice ws) i) ≡ false
     by i l false e = rw e
     by i l true e = rw (e, combined-at w choice ws i l, never i l (leb-true k i e)) refl
+
+pub combined-within : (k w choice : ℕ) (ws : List ℕ) → w < 2 ^ k → ((j : ℕ) → j < length ws → beyond k (getD ws j 0) ≡ false)
+    → combined w choice ws < 2 ^ k
+combined-within k w choice ws h hs =
+    within k (combined w choice ws) (combined-small w choice ws) (combined-beyond k w choice ws (beyond-none k w h) hs)
 
 -- ---- odd or even
 

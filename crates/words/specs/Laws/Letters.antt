@@ -8,6 +8,7 @@
 --   beyond-shifted         the test is whether anything is left when n letters are shifted out
 --   odd-same               numbers that are both odd, or both even, have one remainder
 --   shared-none            a run shares no letter with the empty word
+--   shared-first           with a word below 2 ^ n it shares letters among the first n only
 --   no-letter              a word with no letter beyond k lacks each of them
 use mathlib.Core.Path.{_≡_, refl, sym, ap, _∙_, subst}
 use mathlib.Core.Bool.{Bool, true, false, cond, not, _&&_, true≢false}
@@ -20,7 +21,7 @@ use lib.Dec.{eqb, leb}
 use lib.Pow.{pow-add}
 use borrow.Author.Tests.{ne-eqb, leb-true, leb-false, le-leb}
 use Rattle.algebra.specs.Bits.{digit, bit, isSet, bit-none, bit-unset, bits-ext, ones-bits, ones-and}
-use Rattle.algebra.specs.Naturals.{Σℕ-none}
+use Rattle.algebra.specs.Naturals.{Σℕ, Σℕ-none, Σℕ-upto}
 use Rattle.algebra.specs.Search.{some-false, none-at}
 use Rattle.words.specs.Words.{letter, has, letters, beyond, shared, oddIn, odd}
 
@@ -89,3 +90,7 @@ odd-same m n e =
 pub shared-none : (r : ℕ) → shared r 0 ≡ 0
 unfolding shared
 shared-none r = Σℕ-none 16 (λ i. letter r i * letter 0 i) (λ i l. rw (zero-div (2 ^ i)) (mul-zero (letter r i)))
+
+pub shared-first : (n r w : ℕ) → n ≤ 16 → w < 2 ^ n → shared r w ≡ Σℕ n (λ i. letter r i * letter w i)
+unfolding shared
+shared-first n r w h l = Σℕ-upto n 16 (λ i. letter r i * letter w i) h (λ i g. rw (bit-none n w i l g) (mul-zero (letter r i)))

@@ -14,5 +14,5 @@ next-kind-spec =
     (λ c. search needs)
     (λ c κs. tt)
     (λ c. search needs)
-    (λ c. blocks-text _ (c .before .before .before .before .before .before .if1 .left) (c .before .before .before .before .before .if2 .taken) (c .before .before .copy2 .ensures))
+    (λ c. blocks-text _ (c .before .before .before .before .before .if2 .taken) (c .before .before .copy2 .ensures))
     (λ c. no-text _ _ _ (c .before .if1 .left) (c .if2 .left)))

@@ -9,6 +9,6 @@ report-spec =
     (tie.spec
     (λ c. search needs)
     (λ c κs. tt)
-    (λ c. too-long _ (c .before .before .named-line-arg .given .0 .1) (c .before .before .before .if1 .taken) (c .named-line .ensures))
+    (λ c. too-long _ (c .before .before .named-line-arg .given .0 .1) (c .named-line .ensures) (c .before .before .before .if1 .taken))
     (λ c κs. tt)
-    (λ c. long-enough _ (c .before .sheet-text-arg .given .0 .1) (c .before .before .if1 .left) (c .sheet-text .ensures)))
+    (λ c. long-enough _ (c .before .sheet-text-arg .given .0 .1) (c .sheet-text .ensures) (c .before .before .if1 .left)))

@@ -1,0 +1,285 @@
+-- What coefficients, added factors, blocks and aliases mean in letters, at two levels. All is said by the calls' own answers: a run's letters
+-- are those that the run call gives as high, base and added factors alike, and its block is that call's; an effect's base word and its turn are
+-- the alias call's.
+--
+--   TwoLevels p            the plan is accepted and has two levels
+--   high p r, block p r    the letters that are high in run r, and its block
+--   base p e, turn p e     the base word of the effect e, and whether its sign turns
+--   word p j, turned p j   the word of added factor j, and whether it has sign 1
+--   factorSign p r i       the sign of run r in the column of factor i: -1 where it is high, and else 1
+--   oddHigh p r e          an odd number of the letters of e are high in run r
+--   sign p r e             the sign of run r in the column of the effect e: -1 there, and else 1
+--   contrastOf p x e       the contrast of e: the readings x of the runs with sign 1, less those of the runs with sign -1
+--   turnIf t z             z, with its sign turned where t holds
+--
+--   Coefficients           CLAIM: the coefficient of a run in an effect is that sign
+--   BaseFactors            CLAIM: the column of a base factor is the coefficients of its letter
+--   AddedFactors           CLAIM: the column of an added factor is the coefficients of its word, turned exactly where it has sign 1
+--   SameInBlock            CLAIM: a confounded effect has one coefficient throughout a block
+--   OnlyConfounded         CLAIM: an effect with one coefficient throughout every block is confounded, or the mean
+--   Aliases                CLAIM: an effect's sign is the coefficient of its base word, turned exactly where the alias call says so
+--   Totals                 CLAIM: a total is that contrast
+--   AliasTotals            CLAIM: the contrast of any effect is the total of its base word, turned exactly there
+--   MainEffects            CLAIM: the total of one letter is the sum where its factor is low, less the sum where it is high
+--   AnyFactor              CLAIM: for any factor, base or added, that difference is the total of its base word, turned exactly there
+--   Answered               CLAIM: the runs and effects that the run and alias calls answer are those that the claims speak of
+--   coefficients, base-factors, added-factors, same-in-block, only-confounded, aliases, totals, alias-totals, main-effects, any-factor, answered
+--                          the proofs, in this order
+use mathlib.Core.Path.{_≡_, refl, sym, ap, _∙_}
+use mathlib.Core.Logic.{_⊎_}
+use mathlib.Core.Bool.{Bool, true, false, cond, not}
+use Prim.Native.Nat.{ℕ, _+_, _^_, _<_, _≤_}
+use native.Mathlib.Omega.{arith}
+use lib.Dec.{eqb, leb}
+use lib.IntN.{ℤ, negℤ}
+use lib.ListN.{length, getD}
+use lib.Pow.{pow-lt}
+use borrow.Author.Tests.{eqb-false, leb-false}
+use Rattle.contrasts.specs.Totals.{Column, coef*, total}
+use Rattle.contrasts.specs.Contrast.{signOf, contrast}
+use Rattle.contrasts.specs.Laws.Signed.{same-sign, contrast-turned}
+use Rattle.words.specs.Words.{has, oddIn, beyond}
+use Rattle.words.specs.Laws.Letters.{within}
+use Rattle.words.specs.Laws.Parity.{one-odd}
+use Rattle.plan.specs.declared.types.Plan.{Plan}
+use Rattle.plan.specs.Check.{planNumber}
+use Rattle.plan.specs.Plan.{addedWords, addedSigns, blockWords, factorsOf, runsOf, allLetters, confoundedIn}
+use Rattle.plan.specs.Laws.Accepted.{Accepted, accepted, signs-small, sizes}
+use Rattle.plan.specs.Laws.Answers.{passed, plan-passed}
+use Rattle.plan.specs.Laws.Confounded.{base-letters-only}
+use Rattle.plan.specs.Laws.Sizes.{two-levels, runs-two, letters-few}
+use Rattle.plan.specs.Laws.Coefficients.{plan-coef, plan-total}
+use Rattle.runs.specs.Run.{runValues, runLines, runNumber}
+use Rattle.runs.specs.Laws.Blocks.{constant, only-combined}
+use Rattle.runs.specs.Laws.High.{high-added, high-turned}
+use Rattle.runs.specs.Laws.BaseLetters.{high-odd}
+use Rattle.aliases.specs.Alias.{aliasValues, aliasLines, aliasNumber}
+use Rattle.aliases.specs.Laws.InRuns.{plan-reduces}
+use Rattle.aliases.specs.Laws.BaseWord.{base-small}
+
+-- ---- the words of the claims
+
+pub record TwoLevels (p : Plan) : Type 0 where
+  pub accepted : planNumber p ≡ 0
+  pub two : p .levels ≡ 2
+
+abbrev pub high : Plan → ℕ → ℕ
+high p r = runValues p r .0
+
+abbrev pub block : Plan → ℕ → ℕ
+block p r = runValues p r .1
+
+abbrev pub base : Plan → ℕ → ℕ
+base p e = aliasValues p e .0
+
+abbrev pub turn : Plan → ℕ → Bool
+turn p e = aliasValues p e .1
+
+abbrev pub word : Plan → ℕ → ℕ
+word p j = getD (addedWords p) j 0
+
+abbrev pub turned : Plan → ℕ → Bool
+turned p j = eqb (getD (addedSigns p) j 0) 1
+
+abbrev pub factorSign : Plan → ℕ → ℕ → ℤ
+factorSign p r i = signOf (has (high p r) i)
+
+abbrev pub oddHigh : Plan → ℕ → ℕ → Bool
+oddHigh p r e = oddIn (high p r) e
+
+abbrev pub sign : Plan → ℕ → ℕ → ℤ
+sign p r e = signOf (oddHigh p r e)
+
+abbrev pub contrastOf : Plan → Column → ℕ → ℤ
+contrastOf p x e = contrast (runsOf p) (λ r. not (oddHigh p r e)) x
+
+abbrev pub turnIf : Bool → ℤ → ℤ
+turnIf t z = cond t (negℤ z) z
+
+-- ---- the claims
+
+-- The coefficient of run r in the total of the effect e is -1 exactly when an odd number of the effect's letters are high in the run, and
+-- else 1.
+abbrev pub Coefficients : Type 0
+Coefficients = (p : Plan) → TwoLevels p → (e r : ℕ) → e < runsOf p → coef* (factorsOf p) e r ≡ sign p r e
+
+-- Base factor i, 0 for A, is high in a run exactly when the coefficient of its letter is -1.
+abbrev pub BaseFactors : Type 0
+BaseFactors = (p : Plan) → TwoLevels p → (i r : ℕ) → i < p .k → factorSign p r i ≡ coef* (factorsOf p) (2 ^ i) r
+
+-- The word of added factor j, counted from 0, is an effect of the base factors. With sign 0 the factor is high in a run exactly when the
+-- coefficient of its word is -1, and with sign 1 exactly when it is 1. The word is a 16-bit set, as the words of every plan that a call is given.
+abbrev pub AddedFactors : Type 0
+AddedFactors =
+    (p : Plan) → TwoLevels p → (j r : ℕ) → j < length (addedWords p) → word p j < 2 ^ 16
+    → (word p j < runsOf p) × (factorSign p r (p .k + j) ≡ turnIf (turned p j) (coef* (factorsOf p) (word p j) r))
+
+-- A confounded effect is one of the plan's, and any two runs of one block have the same coefficient in it: it cannot be told from a
+-- difference between blocks.
+abbrev pub SameInBlock : Type 0
+SameInBlock =
+    (p : Plan) → TwoLevels p → (e r s : ℕ) → confoundedIn p e ≡ true → block p r ≡ block p s
+    → (e < runsOf p) × (coef* (factorsOf p) e r ≡ coef* (factorsOf p) e s)
+
+-- An effect in which any two runs of one block have the same coefficient is the mean or confounded.
+abbrev pub OnlyConfounded : Type 0
+OnlyConfounded =
+    (p : Plan) → TwoLevels p → (e : ℕ) → e < runsOf p
+    → ((r s : ℕ) → r < runsOf p → s < runsOf p → block p r ≡ block p s → coef* (factorsOf p) e r ≡ coef* (factorsOf p) e s)
+    → (e ≡ 0) ⊎ (confoundedIn p e ≡ true)
+
+-- The base word of an effect of all factors is an effect of the base factors, and in every run the effect's sign is the coefficient of its
+-- base word, turned exactly where the alias call says that it turns.
+abbrev pub Aliases : Type 0
+Aliases =
+    (p : Plan) → TwoLevels p → (e r : ℕ) → e < 2 ^ allLetters p
+    → (base p e < runsOf p) × (sign p r e ≡ turnIf (turn p e) (coef* (factorsOf p) (base p e) r))
+
+-- A total is the sum of the readings of the runs in which an even number of the effect's letters are high, less the sum of the others.
+abbrev pub Totals : Type 0
+Totals = (p : Plan) → TwoLevels p → (x : Column) (e : ℕ) → e < runsOf p → total (factorsOf p) x e ≡ contrastOf p x e
+
+-- The contrast of an effect of all factors is the total of its base word, turned exactly where the alias call says so: the readings cannot
+-- tell two effects apart that have one base word.
+abbrev pub AliasTotals : Type 0
+AliasTotals =
+    (p : Plan) → TwoLevels p → (x : Column) (e : ℕ) → e < 2 ^ allLetters p
+    → contrastOf p x e ≡ turnIf (turn p e) (total (factorsOf p) x (base p e))
+
+-- For one factor, i = 0 for A: the total of its letter is the sum of the runs in which it is not high, less the sum of the others.
+abbrev pub MainEffects : Type 0
+MainEffects =
+    (p : Plan) → TwoLevels p → (x : Column) (i : ℕ) → i < p .k
+    → total (factorsOf p) x (2 ^ i) ≡ contrast (runsOf p) (λ r. not (has (high p r) i)) x
+
+-- For any factor, base or added: the sum of the runs in which it is not high, less the sum of the others, is the total of its base word, turned
+-- exactly where the alias call says so.
+abbrev pub AnyFactor : Type 0
+AnyFactor =
+    (p : Plan) → TwoLevels p → (x : Column) (i : ℕ) → i < allLetters p
+    → contrast (runsOf p) (λ r. not (has (high p r) i)) x ≡ turnIf (turn p (2 ^ i)) (total (factorsOf p) x (base p (2 ^ i)))
+
+-- Where the run call gives an answer, the plan is accepted and has two levels, and the run is one of it; where the alias call gives one of a
+-- 16-bit set of letters, the same of the plan, and the letters are those of its factors.
+abbrev pub Answered : Type 0
+Answered =
+    (p : Plan) → ((r : ℕ) → runNumber p r ≡ 0 → TwoLevels p × (r < runsOf p))
+    × ((e : ℕ) → e < 2 ^ 16 → aliasNumber p e ≡ 0 → TwoLevels p × (e < 2 ^ allLetters p))
+
+-- ---- the proofs
+
+module _ (p : Plan) (t : TwoLevels p) where
+  a : Accepted p
+  a = accepted p (t .accepted)
+
+  k-few : p .k ≤ 10
+  k-few = sizes p (t .accepted) .0
+
+  -- an effect of the base factors, by the run's number
+  coef-odd : (e r : ℕ) → e < runsOf p → coef* (factorsOf p) e r ≡ signOf (oddIn r e)
+  coef-odd e r h = plan-coef p (t .accepted) (t .two) e h r
+
+  high-same : (e r : ℕ) → e < runsOf p → oddHigh p r e ≡ oddIn r e
+  high-same e r h = high-odd (p .k) (addedWords p) (addedSigns p) r e (omega (arith, k-few)) (rw (runs-two p (t .two)) at h)
+
+  base-in : (e : ℕ) → base p e < runsOf p
+  base-in e = rw (runs-two p (t .two)) (base-small p a e)
+
+  letter-in : (i : ℕ) → i < p .k → 2 ^ i < runsOf p
+  letter-in i h = rw (runs-two p (t .two)) (pow-lt h)
+
+  one-high : (i r : ℕ) → i < allLetters p → oddHigh p r (2 ^ i) ≡ has (high p r) i
+  one-high i r h = one-odd (high p r) i (omega (arith, h, letters-few p a))
+
+pub coefficients : Coefficients
+coefficients p t e r h = coef-odd p t e r h ∙ ap signOf (sym (high-same p t e r h))
+
+pub base-factors : BaseFactors
+base-factors p t i r h = sym (coefficients p t (2 ^ i) r (letter-in p t i h) ∙ ap signOf (one-high p t i r (omega (arith, h))))
+
+pub same-in-block : SameInBlock
+same-in-block p t e r s c b =
+    let h : e < runsOf p = rw (runs-two p (t .two)) (base-letters-only (a p t) e c) in
+    (h, coef-odd p t e r h ∙ ap signOf (constant (blockWords p) e r s c b) ∙ sym (coef-odd p t e s h))
+
+pub only-confounded : OnlyConfounded
+only-confounded p t e h same =
+    let n : runsOf p ≡ 2 ^ p .k = runs-two p (t .two) in
+    only-combined (p .k) (blockWords p) (omega (arith, k-few p t)) (λ j l. a p t .blocks j l .0) e (rw n at h)
+    (λ r s l m b. same-sign (oddIn r e) (oddIn s e) (sym (coef-odd p t e r h) ∙ same r s (rw n l) (rw n m) b ∙ coef-odd p t e s h))
+
+sign-turned : (t b : Bool) → signOf (cond t (not b) b) ≡ turnIf t (signOf b)
+sign-turned true true = refl
+sign-turned true false = refl
+sign-turned false b = refl
+
+pub added-factors : AddedFactors
+added-factors p t j r l w =
+    let h : word p j < runsOf p = rw (runs-two p (t .two)) (within (p .k) (word p j) w (a p t .words j l .0)) in (
+      h,
+      ap signOf (high-added (p .k) (addedWords p) (addedSigns p) r j l ∙ high-turned (getD (addedSigns p) j 0) (word p j) r (signs-small (a p t) j))
+          ∙ sign-turned (turned p j) (oddIn r (word p j))
+          ∙ ap (turnIf (turned p j)) (sym (coef-odd p t (word p j) r h)),
+    )
+
+odd-turned : (p : Plan) → TwoLevels p → (e : ℕ) → e < 2 ^ allLetters p → (r : ℕ)
+    → oddHigh p r e ≡ cond (turn p e) (not (oddIn r (base p e))) (oddIn r (base p e))
+odd-turned p t e f r = plan-reduces p (a p t) r e f
+
+pub aliases : Aliases
+aliases p t e r f = (
+  base-in p t e,
+  ap signOf (odd-turned p t e f r)
+      ∙ sign-turned (turn p e) (oddIn r (base p e))
+      ∙ ap (turnIf (turn p e)) (sym (coef-odd p t (base p e) r (base-in p t e))),
+)
+
+pub totals : Totals
+totals p t x e h =
+    plan-total p (t .accepted) (t .two) e h x
+    ∙ sym (contrast-turned (runsOf p) (λ r. not (oddHigh p r e)) (λ r. not (oddIn r e)) x false (λ r l. ap not (high-same p t e r h)))
+
+not-turned : (t b : Bool) → not (cond t (not b) b) ≡ cond t (not (not b)) (not b)
+not-turned true b = refl
+not-turned false b = refl
+
+pub alias-totals : AliasTotals
+alias-totals p t x e f =
+    contrast-turned (runsOf p) (λ r. not (oddHigh p r e)) (λ r. not (oddIn r (base p e))) x (turn p e)
+    (λ r h. ap not (odd-turned p t e f r) ∙ not-turned (turn p e) (oddIn r (base p e)))
+    ∙ ap (turnIf (turn p e)) (sym (plan-total p (t .accepted) (t .two) (base p e) (base-in p t e) x))
+
+-- the contrast of one letter
+one-contrast : (p : Plan) → TwoLevels p → (x : Column) (i : ℕ) → i < allLetters p
+    → contrastOf p x (2 ^ i) ≡ contrast (runsOf p) (λ r. not (has (high p r) i)) x
+one-contrast p t x i h =
+    contrast-turned (runsOf p) (λ r. not (oddHigh p r (2 ^ i))) (λ r. not (has (high p r) i)) x false (λ r l. ap not (one-high p t i r h))
+
+pub main-effects : MainEffects
+main-effects p t x i h = totals p t x (2 ^ i) (letter-in p t i h) ∙ one-contrast p t x i (omega (arith, h))
+
+pub any-factor : AnyFactor
+any-factor p t x i h = sym (one-contrast p t x i h) ∙ alias-totals p t x (2 ^ i) (pow-lt h)
+
+-- a plan that passes line 9
+not-three : (p : Plan) → planNumber p ≡ 0 → eqb (p .levels) 3 ≡ false → TwoLevels p
+not-three p z e = record { accepted = z; two = two-levels p z (eqb-false (p .levels) 3 e) }
+
+run-answered : (p : Plan) (r : ℕ) → runNumber p r ≡ 0 → TwoLevels p × (r < runsOf p)
+unfolding runNumber
+run-answered p r n =
+    let l = plan-passed p (runLines p r) n in
+    let nine = passed (eqb (p .levels) 3) 9 _ (omega arith) (l .1) in
+    let ten = passed (leb (runsOf p) r) 10 _ (omega arith) (nine .1) in
+    (not-three p (l .0) (nine .0), leb-false (runsOf p) r (ten .0))
+
+alias-answered : (p : Plan) (e : ℕ) → e < 2 ^ 16 → aliasNumber p e ≡ 0 → TwoLevels p × (e < 2 ^ allLetters p)
+unfolding aliasNumber
+alias-answered p e h n =
+    let l = plan-passed p (aliasLines p e) n in
+    let nine = passed (eqb (p .levels) 3) 9 _ (omega arith) (l .1) in
+    let ten = passed (beyond (allLetters p) e) 10 _ (omega arith) (nine .1) in
+    (not-three p (l .0) (nine .0), within (allLetters p) e h (ten .0))
+
+pub answered : Answered
+answered p = (run-answered p, alias-answered p)
