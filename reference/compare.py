@@ -17,7 +17,7 @@
 #   made                     a sheet with a name, of any of these kinds
 #   answer_of                what a program writes for a sheet
 #   difference               how that differs from what report.py writes, in words
-#   compare                  tries a program on sheets, prints the differences and gives their number
+#   compare                  tries a program on sheets, prints the differences and counts them, and what is answered
 
 import os
 import subprocess
@@ -137,7 +137,8 @@ def difference(meant, found):
 
 
 def compare(program, count, seed):
-    """The number of sheets, of so many, for which a program does not write the text of report.py. Each is printed."""
+    """The number of sheets, of so many, for which a program does not write the text of report.py, each of which is
+    printed; and how often each answer is meant."""
     numbers, answers, differences = Numbers(seed), Counter(), 0
     for number in range(1, count + 1):
         own = made(numbers)
@@ -148,8 +149,7 @@ def compare(program, count, seed):
             differences += 1
             print("sheet %d, %s: %s\n  %s" % (number, own.name, "; ".join(complaints), own.sheet.hex() or "(empty)"))
         answers[reports.number_of(meant.decode())] += 1
-    print("answers: " + ", ".join("%d %d times" % pair for pair in sorted(answers.items())))
-    return differences
+    return differences, answers
 
 
 if __name__ == "__main__":
@@ -159,8 +159,9 @@ if __name__ == "__main__":
     seed = int(sys.argv[3]) if len(sys.argv) > 3 else int.from_bytes(os.urandom(4), "big")
     print("seed %d" % seed, flush=True)
     try:
-        differences = compare(sys.argv[1], count, seed)
+        differences, answers = compare(sys.argv[1], count, seed)
     except OSError as why:
         sys.exit(str(why))
+    print("answers: " + ", ".join("%d %d times" % pair for pair in sorted(answers.items())))
     print("%d sheets from seed %d, %d differences" % (count, seed, differences))
     sys.exit(1 if differences else 0)

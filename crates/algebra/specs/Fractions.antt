@@ -4,12 +4,12 @@
 --   plus q r, sumOf n f     two fractions, and n of them, added up
 --   Is q m                  a fraction is the whole number m
 --   shared                  fractions that have a common denominator, added up: their numerators over it
-use mathlib.Core.Path.{_≡_, refl, sym, ap, _∙_}
+use mathlib.Core.Path.{_≡_, ap, _∙_}
 use Prim.Native.Nat.{ℕ, zero, suc, _+_, _*_, _<_, _≤_}
-use native.Mathlib.Nat.{mul-comm, mul-assoc, mul-pos, zero-mul, mul-right-comm, eq-of-mul-eq-mul-right}
+use native.Mathlib.Nat.{mul-comm, mul-pos, zero-mul, mul-right-comm, eq-of-mul-eq-mul-right}
 use native.Mathlib.Omega.{arith}
 use lib.Dec.{lit<}
-use Rattle.algebra.specs.Naturals.{Σℕ}
+use Rattle.algebra.specs.Naturals.{Σℕ, factor-pos}
 
 pub record Fraction : Type 0 where
   pub top : ℕ
@@ -34,10 +34,6 @@ pub record Is (q : Fraction) (m : ℕ) : Type 0 where
 
 -- ---- fractions with a common denominator d: w e times the bottom of the fraction e
 
-positive : (a b c : ℕ) → a * b ≡ c → 0 < c → 0 < a
-positive zero b c e h = absurd (omega (arith, zero-mul b))
-positive (suc a) b c e h = omega arith
-
 one-more : (s u a b w d m : ℕ) → b * w ≡ d → s * d ≡ m * u → (s * b + a * u) * d ≡ (m + a * w) * (u * b)
 one-more s u a b w d m e h =
     let first : s * d * b ≡ m * u * b = ap (λ (x : ℕ). x * b) h in
@@ -48,7 +44,7 @@ module _ (n : ℕ) (f : ℕ → Fraction) (w : ℕ → ℕ) (d : ℕ) (some : 0 
   bottoms : (k : ℕ) → k ≤ n → 0 < sumOf k f .bottom
   unfolding sumOf plus
   bottoms zero h = lit< tt
-  bottoms (suc k) h = mul-pos (bottoms k (omega arith)) (positive (f k .bottom) (w k) d (share k (omega arith)) some)
+  bottoms (suc k) h = mul-pos (bottoms k (omega arith)) (factor-pos (f k .bottom) (w k) d (share k (omega arith)) some)
 
   so-far : (k : ℕ) → k ≤ n → sumOf k f .top * d ≡ Σℕ k (λ e. f e .top * w e) * sumOf k f .bottom
   unfolding sumOf plus Σℕ

@@ -23,10 +23,11 @@
 --   most n f        the largest of f 0, .., f (n - 1)
 --   most-ge         it is at least each of them
 --   mul-pow         the power of a product
+--   factor-pos      a factor of a product that is not 0 is not 0
 use mathlib.Core.Path.{_≡_, refl, sym, _∙_, ap, ap₂}
 use mathlib.Core.Bool.{Bool, true, false, cond}
 use Prim.Native.Nat.{ℕ, zero, suc, _+_, _*_, _-_, _/_, _%_, _^_, _<_, _≤_, max}
-use native.Mathlib.Nat.{add-zero, le-refl, suc-mul, le-trans, pow-zero, pow-suc, mul-mul-mul-comm}
+use native.Mathlib.Nat.{add-zero, le-refl, suc-mul, zero-mul, le-trans, pow-zero, pow-suc, mul-mul-mul-comm}
 use native.Mathlib.Numerals.{add-one}
 use native.Mathlib.Omega.{arith}
 use native.Mathlib.Decide.{ℕ-discrete}
@@ -168,3 +169,7 @@ most-ge (suc n) f i h = go (ℕ-discrete i n) (most-ge n f i)
 pub mul-pow : (a b k : ℕ) → (a * b) ^ k ≡ a ^ k * b ^ k
 mul-pow a b zero = rw (pow-zero (a * b), pow-zero a, pow-zero b) refl
 mul-pow a b (suc k) = rw (pow-suc (a * b) k, mul-pow a b k, pow-suc a k, pow-suc b k) (mul-mul-mul-comm (a ^ k) (b ^ k) a b)
+
+pub factor-pos : (a b c : ℕ) → a * b ≡ c → 0 < c → 0 < a
+factor-pos zero b c e h = absurd (omega (arith, zero-mul b))
+factor-pos (suc a) b c e h = omega arith

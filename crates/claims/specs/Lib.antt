@@ -11,7 +11,8 @@
 --   SumOfSquares   demand 3: the exact sum of squares
 --   TableAddsUp    demand 3: mean, kept, blocks and error
 --   Starred        the starred runs, as one fact
---   WrongPrograms  the programs that have to break their statements do
+--   WrongPrograms  the programs that have to break their statements
+--   Broken         that they do: what the promises come to, computed, and the proof
 pub mod Promised
 pub mod LowestNumber
 pub mod Refusals
@@ -24,3 +25,4 @@ pub mod SumOfSquares
 pub mod TableAddsUp
 pub mod Starred
 pub mod WrongPrograms
+pub mod Broken

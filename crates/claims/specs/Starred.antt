@@ -101,25 +101,28 @@ sumIn p readings rows = record {
 abbrev four : Tabled
 four = tabled (plan 2 2 [] [] []) (pos 3 ∷ pos 5 ∷ pos 4 ∷ pos 8 ∷ []) (replicate 4 0)
 
+abbrev fourSaid : Tabled
+fourSaid = record {
+  answer = given (record {
+    denominator = 4;
+    mean = source 1 400;
+    kept = source 3 56;
+    blocks = source 0 0;
+    error = source 0 0;
+    total = source 4 456;
+    checks = both (pos 12);
+  });
+  totals = pos 20 ∷ neg 6 ∷ neg 4 ∷ pos 2 ∷ [];
+  rows = 400 ∷ 36 ∷ 16 ∷ 4 ∷ [];
+}
+
 abbrev fourReadings : Run
 fourReadings = record {
   gives = table four
       ∷ numerators (numeratorsOf (plan 2 2 [] [] []) (four .totals))
       ∷ sum (sumIn (plan 2 2 [] [] []) (pos 3 ∷ pos 5 ∷ pos 4 ∷ pos 8 ∷ []) (four .rows))
       ∷ [];
-  says = table (record {
-    answer = given (record {
-      denominator = 4;
-      mean = source 1 400;
-      kept = source 3 56;
-      blocks = source 0 0;
-      error = source 0 0;
-      total = source 4 456;
-      checks = both (pos 12);
-    });
-    totals = pos 20 ∷ neg 6 ∷ neg 4 ∷ pos 2 ∷ [];
-    rows = 400 ∷ 36 ∷ 16 ∷ 4 ∷ [];
-  })
+  says = table fourSaid
       ∷ numerators (400 ∷ 36 ∷ 16 ∷ 4 ∷ [])
       ∷ sum (record { rows = 456; denominator = 4; squares = 114 })
       ∷ [];
@@ -129,24 +132,25 @@ fourReadings = record {
 abbrev threeReadings : Tabled
 threeReadings = tabled (plan 3 1 [] [] []) (pos 2 ∷ pos 5 ∷ pos 3 ∷ []) (replicate 2 0)
 
+abbrev threeSaid : Tabled
+threeSaid = record {
+  answer = given (record {
+    denominator = 6;
+    mean = source 1 200;
+    kept = source 2 28;
+    blocks = source 0 0;
+    error = source 0 0;
+    total = source 3 228;
+    checks = both (pos 4);
+  });
+  totals = pos 10 ∷ neg 1 ∷ neg 5 ∷ [];
+  rows = 200 ∷ 28 ∷ [];
+}
+
 abbrev threeLevels : Run
 threeLevels = record {
   gives = table threeReadings ∷ numerators (numeratorsOf (plan 3 1 [] [] []) (threeReadings .totals)) ∷ [];
-  says = table (record {
-    answer = given (record {
-      denominator = 6;
-      mean = source 1 200;
-      kept = source 2 28;
-      blocks = source 0 0;
-      error = source 0 0;
-      total = source 3 228;
-      checks = both (pos 4);
-    });
-    totals = pos 10 ∷ neg 1 ∷ neg 5 ∷ [];
-    rows = 200 ∷ 28 ∷ [];
-  })
-      ∷ numerators (200 ∷ 3 ∷ 25 ∷ [])
-      ∷ [];
+  says = table threeSaid ∷ numerators (200 ∷ 3 ∷ 25 ∷ []) ∷ [];
 }
 
 -- "Readings 1 to 8, block word ABC: totals 36, -4, -8, 0, -16, 0, 0, 0; row ABC is blocks." So its degree is one of blocks, its effect is lost,
@@ -157,6 +161,21 @@ eightReadings = pos 1 ∷ pos 2 ∷ pos 3 ∷ pos 4 ∷ pos 5 ∷ pos 6 ∷ pos 
 abbrev eight : Tabled
 eight = tabled (plan 2 3 [] [] (ABC ∷ [])) eightReadings (replicate 8 0)
 
+abbrev eightSaid : Tabled
+eightSaid = record {
+  answer = given (record {
+    denominator = 8;
+    mean = source 1 1296;
+    kept = source 6 336;
+    blocks = source 1 0;
+    error = source 0 0;
+    total = source 8 1632;
+    checks = both (pos 8);
+  });
+  totals = pos 36 ∷ neg 4 ∷ neg 8 ∷ pos 0 ∷ neg 16 ∷ pos 0 ∷ pos 0 ∷ pos 0 ∷ [];
+  rows = 1296 ∷ 16 ∷ 64 ∷ 0 ∷ 256 ∷ 0 ∷ 0 ∷ 0 ∷ [];
+}
+
 abbrev inBlocks : Run
 inBlocks = record {
   gives = table eight
@@ -164,19 +183,7 @@ inBlocks = record {
       ∷ estimate (promisedEstimate (plan 2 3 [] [] (ABC ∷ [])) ABC (read (eight .totals) ABC))
       ∷ table (tabled (plan 2 3 [] [] (ABC ∷ [])) eightReadings (0 ∷ 0 ∷ 0 ∷ 0 ∷ 0 ∷ 0 ∷ 0 ∷ 1 ∷ []))
       ∷ [];
-  says = table (record {
-    answer = given (record {
-      denominator = 8;
-      mean = source 1 1296;
-      kept = source 6 336;
-      blocks = source 1 0;
-      error = source 0 0;
-      total = source 8 1632;
-      checks = both (pos 8);
-    });
-    totals = pos 36 ∷ neg 4 ∷ neg 8 ∷ pos 0 ∷ neg 16 ∷ pos 0 ∷ pos 0 ∷ pos 0 ∷ [];
-    rows = 1296 ∷ 16 ∷ 64 ∷ 0 ∷ 256 ∷ 0 ∷ 0 ∷ 0 ∷ [];
-  })
+  says = table eightSaid
       ∷ kinds (meanRow ∷ keptRow ∷ keptRow ∷ keptRow ∷ keptRow ∷ keptRow ∷ keptRow ∷ blocksRow ∷ [])
       ∷ estimate (given lost)
       ∷ table (record { answer = refused 13; totals = replicate 8 (pos 0); rows = replicate 8 0 })
@@ -188,24 +195,25 @@ inBlocks = record {
 abbrev limits : Tabled
 limits = tabled (plan 2 1 [] [] []) (neg 100_000 ∷ pos 100_000 ∷ []) (replicate 2 0)
 
+abbrev limitsSaid : Tabled
+limitsSaid = record {
+  answer = given (record {
+    denominator = 2;
+    mean = source 1 0;
+    kept = source 1 40_000_000_000;
+    blocks = source 0 0;
+    error = source 0 0;
+    total = source 2 40_000_000_000;
+    checks = both (neg 200_000);
+  });
+  totals = pos 0 ∷ neg 200_000 ∷ [];
+  rows = 0 ∷ 40_000_000_000 ∷ [];
+}
+
 abbrev atLimits : Run
 atLimits = record {
   gives = table limits ∷ estimate (promisedEstimate (plan 2 1 [] [] []) A (read (limits .totals) A)) ∷ [];
-  says = table (record {
-    answer = given (record {
-      denominator = 2;
-      mean = source 1 0;
-      kept = source 1 40_000_000_000;
-      blocks = source 0 0;
-      error = source 0 0;
-      total = source 2 40_000_000_000;
-      checks = both (neg 200_000);
-    });
-    totals = pos 0 ∷ neg 200_000 ∷ [];
-    rows = 0 ∷ 40_000_000_000 ∷ [];
-  })
-      ∷ estimate (given (difference (fin true 3125 (pos 6))))
-      ∷ [];
+  says = table limitsSaid ∷ estimate (given (difference (fin true 3125 (pos 6)))) ∷ [];
 }
 
 -- "k = 3, D = ABC: AD reduces to BC, unturned; with sign 1, turned."
@@ -216,18 +224,16 @@ reduced = record {
 }
 
 -- "Two three-level factors: divisors 9, 6, 18, 6, 4, 12, 18, 12, 36."
+abbrev nine : List ℕ
+nine = 9 ∷ 6 ∷ 18 ∷ 6 ∷ 4 ∷ 12 ∷ 18 ∷ 12 ∷ 36 ∷ []
+
+abbrev divisorsIn : Plan → Divisors
+divisorsIn p = record { by-digits = tab (runsOf p) (divisor* (factorsOf p)); divided-by = take (runsOf p) (effectDivisors p) }
+
 abbrev nineDivisors : Run
 nineDivisors = record {
-  gives = divisors (record {
-    by-digits = tab 9 (divisor* (factorsOf (plan 3 2 [] [] [])));
-    divided-by = take 9 (effectDivisors (plan 3 2 [] [] []));
-  })
-      ∷ [];
-  says = divisors (record {
-    by-digits = 9 ∷ 6 ∷ 18 ∷ 6 ∷ 4 ∷ 12 ∷ 18 ∷ 12 ∷ 36 ∷ [];
-    divided-by = 9 ∷ 6 ∷ 18 ∷ 6 ∷ 4 ∷ 12 ∷ 18 ∷ 12 ∷ 36 ∷ [];
-  })
-      ∷ [];
+  gives = divisors (divisorsIn (plan 3 2 [] [] [])) ∷ [];
+  says = divisors (record { by-digits = nine; divided-by = nine }) ∷ [];
 }
 
 -- "k = 4, block words AD, ABC: accepted, BCD confounded too.": its estimate is lost, as those of the block words are

@@ -18,47 +18,27 @@
 --   lostAlways, lostForEvery          answer lost for every effect, or for every one that is not refused
 --   emptyPart                         gives an empty part for every sheet
 --   four, readings, .. , blank        the named inputs; the sheets are those of `report/specs/Examples.antt`
---   WrongPrograms, wrong-programs     THE CLAIM, and its proof
-use mathlib.Core.Path.{_≡_, refl, sym, _∙_, ap}
+--   WrongPrograms                     THE CLAIM; its proof is `wrong-programs` in `Broken.antt`
+use mathlib.Core.Path.{_≡_}
 use mathlib.Core.Bool.{cond}
 use mathlib.Core.List.{List, [], _∷_, _++_}
 use Prim.Native.Nat.{ℕ, zero, suc, _<_}
-use native.Mathlib.Omega.{arith}
 use lib.Dec.{eqb}
-use lib.IntN.{ℤ, pos, natAbs}
+use lib.IntN.{ℤ, pos}
 use lib.ListN.{length, drop, replicate}
-use Rattle.algebra.specs.Bits.{bits}
-use Rattle.algebra.specs.Naturals.{Σℕ}
-use Rattle.algebra.specs.Search.{some}
-use Rattle.algebra.specs.Sorted.{sumAt}
-use Rattle.algebra.specs.Sum.{Σ}
-use Rattle.algebra.specs.Tab.{tabFrom}
-use Rattle.contrasts.specs.Columns.{read, passOf, totalsOf}
-use Rattle.contrasts.specs.Limits.{readingLimit, valueLimit, mostTwo, mostThree}
-use Rattle.contrasts.specs.Rows.{rowOf, degreesOf}
-use Rattle.contrasts.specs.Tables.{two, three, neg}
-use Rattle.contrasts.specs.Totals.{size, passAt, passFrom, coef*, total, denominator, squared, checkWeight, round, rounds}
-use Rattle.words.specs.Words.{letters, beyond, times, combined, any, among, repeated}
+use Rattle.contrasts.specs.Columns.{totalsOf}
+use Rattle.contrasts.specs.Tables.{neg}
+use Rattle.contrasts.specs.Totals.{total, denominator}
 use Rattle.plan.specs.declared.types.Plan.{Plan}
-use Rattle.plan.specs.Check.{badLevels, badFactors, badCounts, badWord, badSign, badWords, dependent, factorWord, losesFactor, planNumber, withPlan}
+use Rattle.plan.specs.Check.{planNumber}
 use Rattle.plan.specs.Examples.{plan}
 use Rattle.plan.specs.Outcome.{Outcome, given, refused, outcome, written}
-use Rattle.plan.specs.Plan.{factorsOf, runsOf, someCombination, combinesTo}
-use Rattle.plan.specs.Laws.Answers.{refused-is, given-is, given-with, written-new}
-use Rattle.columns.specs.Lines.{wrongLength, isBeyond, anyBeyond, columnsNumber}
-use Rattle.rows.specs.Kinds.{wrongRows, kindByMark, kindOf, badMark, badMarks}
-use Rattle.yates.specs.Calls.{passNumber, passColumn, totalsNumber, totalsColumn}
-use Rattle.yates.specs.Laws.Admitted.{pass-admits}
-use Rattle.estimates.specs.Estimate.{Value, mean, difference, lost, differenceOf, valueBy, estimateNumber, estimateValue}
+use Rattle.plan.specs.Plan.{factorsOf, runsOf}
+use Rattle.yates.specs.Calls.{passNumber, totalsNumber}
+use Rattle.estimates.specs.Estimate.{Value, mean, lost, estimateNumber}
 use Rattle.anova.specs.declared.types.Figures.{Figures}
-use Rattle.anova.specs.Table.{wrongLengths, tableNumber, sourceOf, totalSource, checksOf, tableFigures, tableTotals, tableRows}
-use Rattle.numerals.specs.Numbers.{big, twos}
-use Rattle.fields.specs.Fields.{parse, fieldsOf, bodies, bodyAt}
-use Rattle.fields.specs.Rules.{badFrom, badFields}
-use Rattle.contents.specs.Contents.{planIn, readingAt, readingsOf}
-use Rattle.sheet.specs.Sheet.{numberWith, marksNumber, marksOf}
-use Rattle.report.specs.Report.{printed, reportNumber, textOf}
-use Rattle.report.specs.Examples.{rulesSheet, rules-text, threeSheet, three-text}
+use Rattle.anova.specs.Table.{tableNumber, tableFigures, tableTotals, tableRows}
+use Rattle.report.specs.Report.{printed, reportNumber}
 use Rattle.claims.specs.Promised.{Left, Tabled, Printed, promisedCheck, promisedPass, promisedTotals, promisedTable, promisedEstimate, promisedMarks, promisedReport}
 use Rattle.claims.specs.AnyOrder.{Readings, ownPass}
 
@@ -273,184 +253,3 @@ pub record WrongPrograms : Type 0 where
   pub lost-for-every : KeepsEstimate lostForEvery → ⊥
   -- "or an empty marks part for every sheet (demand 2, by the conditions given above)"
   pub empty-part : KeepsMarks emptyPart → ⊥
-
--- ---- what the promises come to at the named inputs, computed
-
-four-accepted : planNumber four ≡ 0
-unfolding planNumber badLevels badFactors mostTwo mostThree badCounts badWords badWord badSign repeated dependent losesFactor factorWord any among beyond letters combined times someCombination combinesTo some bits Σℕ
-four-accepted = refl
-
--- the pass of A is made, and that of B on the totals
-pass-A : passColumn four 0 readings ≡ pos 8 ∷ neg 2 ∷ pos 12 ∷ neg 4 ∷ []
-unfolding passColumn passNumber withPlan planNumber badLevels badFactors mostTwo mostThree badCounts badWords badWord badSign repeated dependent losesFactor factorWord any among beyond letters combined times someCombination combinesTo some bits Σℕ wrongLength anyBeyond isBeyond valueLimit factorsOf size two passOf passFrom passAt Σ tabFrom
-pass-A = refl
-
-done-A : passNumber four 0 readings ≡ 0
-unfolding passNumber withPlan planNumber badLevels badFactors mostTwo mostThree badCounts badWords badWord badSign repeated dependent losesFactor factorWord any among beyond letters combined times someCombination combinesTo some bits Σℕ wrongLength anyBeyond isBeyond valueLimit factorsOf size two
-done-A = refl
-
-own-A : ownPass four 0 readings ≡ pos 8 ∷ neg 2 ∷ pos 12 ∷ neg 4 ∷ []
-unfolding factorsOf size two passOf passFrom passAt Σ tabFrom
-own-A = refl
-
-own-B : ownPass four 1 fourTotals ≡ pos 16 ∷ neg 4 ∷ pos 24 ∷ neg 8 ∷ []
-unfolding factorsOf size two passOf passFrom passAt Σ tabFrom
-own-B = refl
-
-four-totals : totalsOf (factorsOf four) readings ≡ fourTotals
-unfolding factorsOf size two totalsOf total coef* Σ tabFrom
-four-totals = refl
-
-totals-over-zeros : totalsColumn four readings zeros ≡ fourTotals
-unfolding totalsColumn columnsNumber withPlan planNumber badLevels badFactors mostTwo mostThree badCounts badWords badWord badSign repeated dependent losesFactor factorWord any among beyond letters combined times someCombination combinesTo some bits Σℕ wrongLength anyBeyond isBeyond readingLimit factorsOf size two totalsOf total coef* Σ tabFrom
-totals-over-zeros = refl
-
--- three tables are made: of 3, 5, 4, 8 with every row kept and with AB pooled, and of zeros
-made : (tableNumber four readings allKept zeros allKept ≡ 0) × (tableNumber four readings pooled zeros allKept ≡ 0) × (tableNumber four zeros allKept zeros allKept ≡ 0)
-unfolding tableNumber wrongLengths wrongRows wrongLength anyBeyond isBeyond badMarks badMark withPlan planNumber badLevels badFactors mostTwo mostThree badCounts badWords badWord badSign repeated dependent losesFactor factorWord any among beyond letters combined times someCombination combinesTo some bits Σℕ readingLimit factorsOf size two
-made = (refl, refl, refl)
-
-table-totals : tableTotals four readings allKept zeros allKept ≡ fourTotals
-unfolding tableTotals
-table-totals = sym (written-new _ (totalsOf (factorsOf four) readings) zeros (made .0)) ∙ four-totals
-
-total-numerators : (tableFigures four readings allKept .total .numerator ≡ 456) × (tableFigures four zeros allKept .total .numerator ≡ 0)
-unfolding tableFigures totalSource factorsOf size two denominator squared Σℕ
-total-numerators = (refl, refl)
-
-kept-degrees : (tableFigures four readings allKept .kept .degrees ≡ 3) × (tableFigures four readings pooled .kept .degrees ≡ 2)
-unfolding tableFigures sourceOf kindOf kindByMark combinesTo someCombination some combined times bits Σℕ factorsOf size two degreesOf
-kept-degrees = (refl, refl)
-
-check-numbers : (tableFigures four readings allKept .checks .readings ≡ pos 12) × (tableFigures four zeros allKept .checks .readings ≡ pos 0)
-unfolding tableFigures checksOf factorsOf size two checkWeight round rounds Σ
-check-numbers = (refl, refl)
-
--- the estimate of A, whose total is -6, is not lost
-A-estimated : estimateNumber four 1 (neg 6) ≡ 0
-unfolding estimateNumber withPlan planNumber badLevels badFactors mostTwo mostThree badCounts badWords badWord badSign repeated dependent losesFactor factorWord any among beyond letters combined times someCombination combinesTo some bits Σℕ readingLimit
-A-estimated = refl
-
-A-not-lost : estimateValue four 1 (neg 6) ≡ difference (differenceOf 2 (neg 6))
-unfolding valueBy combinesTo someCombination combined times some bits Σℕ
-A-not-lost = refl
-
--- the sheet of the rules' example, and that of 2, 5, 3 at three levels
-sheets-accepted : (reportNumber rulesSheet ≡ 0) × (reportNumber threeSheet ≡ 0)
-unfolding reportNumber marksNumber numberWith planIn readingsOf readingAt twos big fieldsOf parse bodies bodyAt badFields badFrom wrongLength wrongRows anyBeyond isBeyond badMarks badMark withPlan planNumber badLevels badFactors mostTwo mostThree badCounts badWords badWord badSign repeated dependent losesFactor factorWord any among beyond letters combined times someCombination combinesTo some bits Σℕ readingLimit factorsOf size two three tabFrom
-sheets-accepted = (refl, refl)
-
-rules-marks : marksOf rulesSheet ≡ 0 ∷ 0 ∷ 0 ∷ 1 ∷ []
-unfolding marksOf marksNumber numberWith planIn readingsOf readingAt twos big fieldsOf parse bodies bodyAt badFields badFrom wrongLength wrongRows anyBeyond isBeyond badMarks badMark withPlan planNumber badLevels badFactors mostTwo mostThree badCounts badWords badWord badSign repeated dependent losesFactor factorWord any among beyond letters combined times someCombination combinesTo some bits Σℕ readingLimit factorsOf size two three tabFrom
-rules-marks = refl
-
--- ---- the proof
-
--- the size of a column's first value
-abbrev first : List ℤ → ℕ
-first xs = natAbs (read xs 0)
-
--- a table call that differs in its figures alone has the promised ones, where a table is made
-same-figures : (figures : Plan → List ℤ → List ℕ → Figures) → KeepsTable (figuresBy figures)
-    → (readings : List ℤ) (marks : List ℕ) → tableNumber four readings marks zeros allKept ≡ 0
-    → figures four readings marks ≡ tableFigures four readings marks
-same-figures figures keeps readings marks e =
-    given-is
-    (tableNumber four readings marks zeros allKept)
-    (tableFigures four readings marks)
-    (sym (given-with _ (figures four readings marks) e) ∙ ap (λ r. r .answer) (keeps four readings marks zeros allKept))
-    .1
-
--- the texts of the two sheets are 90 and 68 bytes long
-two-lengths : (t : List ℕ) → length t ≡ length (textOf rulesSheet) → length t ≡ length (textOf threeSheet) → ⊥
-two-lengths t a b = omega (arith, a ∙ ap length rules-text, b ∙ ap length three-text)
-
-printed-table : (t sheet : List ℕ) → reportNumber sheet ≡ 0 → printed (reportNumber sheet) t ≡ t
-unfolding printed
-printed-table t sheet e = sym (written-new (reportNumber sheet) t _ e)
-
-table-length : (t : List ℕ) → KeepsReport (constantTable t) → (sheet : List ℕ) → reportNumber sheet ≡ 0 → length t ≡ length (textOf sheet)
-table-length t keeps sheet e = ap length (sym (printed-table t sheet e)) ∙ ap (λ r. r .count) (keeps sheet blank)
-
--- later calls leave the column, so that the first one's totals stay
-idle : (n : ℕ) (p : Plan) (fs : List ℕ) (column : List ℤ) → afterTold firstDoesAll (suc n) p fs column ≡ column
-unfolding afterTold
-idle n p [] column = refl
-idle n p (f ∷ fs) column = idle (suc n) p fs column
-
-all-at-once : (p : Plan) → planNumber p ≡ 0 → (column : List ℤ) → Readings p column → (f : ℕ) → f < p .k → (fs : List ℕ)
-    → afterTold firstDoesAll 0 p (f ∷ fs) column ≡ totalsOf (factorsOf p) column
-unfolding afterTold readingLimit valueLimit
-all-at-once p ok column start f base fs =
-    idle 0 p fs _
-    ∙ sym (written-new (passNumber p f column) (totalsOf (factorsOf p) column) column
-    (pass-admits (record { plan = ok; base = base; whole = start .whole; within = λ i. omega (arith, start .within i) })))
-
--- a pass call that keeps its promise has 8 in the first place after the pass of A
-eight : (program : PassCall) → KeepsPass program → first (program four 0 readings .column) ≡ 8
-eight program keeps = ap (λ r. first (r .column)) (keeps four 0 readings) ∙ ap first pass-A
-
-all-at-A : doesAll four 0 readings .column ≡ fourTotals
-all-at-A = sym (written-new (passNumber four 0 readings) (totalsOf (factorsOf four) readings) readings done-A) ∙ four-totals
-
-A-then-B : afterTold firstDoesAll 0 four (0 ∷ 1 ∷ []) readings ≡ fourTotals
-unfolding afterTold
-A-then-B = idle 0 four (1 ∷ []) (doesAll four 0 readings .column) ∙ all-at-A
-
--- a value is lost, or not
-abbrev isLost : Outcome Value → ℕ
-isLost (given lost) = 1
-isLost (given (mean x)) = 0
-isLost (given (difference x)) = 0
-isLost (refused n) = 0
-
-promised-not-lost : promisedEstimate four 1 (neg 6) ≡ given (difference (differenceOf 2 (neg 6)))
-promised-not-lost = given-with _ (estimateValue four 1 (neg 6)) A-estimated ∙ ap given A-not-lost
-
-pub wrong-programs : WrongPrograms
-wrong-programs =
-    record {
-      refusing-plans = λ number keeps. refused-is (planNumber four) tt (keeps four) .1 four-accepted;
-      refusing-tables = λ number keeps.
-          refused-is _ (tableFigures four readings allKept) (ap (λ r. r .answer) (keeps four readings allKept zeros allKept)) .1 (made .0);
-      constant-text = λ t keeps. two-lengths t (ap (λ r. r .count) (keeps rulesSheet blank)) (ap (λ r. r .count) (keeps threeSheet blank));
-      constant-table = λ t keeps.
-          two-lengths t (table-length t keeps rulesSheet (sheets-accepted .0)) (table-length t keeps threeSheet (sheets-accepted .1));
-      constant-figures = λ f keeps.
-          let same = same-figures (λ p readings marks. f) keeps in
-          omega (
-            arith,
-            ap (λ g. g .total .numerator) (same readings allKept (made .0)) ∙ total-numerators .0,
-            ap (λ g. g .total .numerator) (same zeros allKept (made .2)) ∙ total-numerators .1,
-          );
-      untouched-pass = λ keeps. omega (arith, eight untouchedPass keeps);
-      untouched-totals = λ keeps. omega (arith, ap (λ r. first (r .column)) (keeps four readings zeros) ∙ ap first totals-over-zeros);
-      untouched-table = λ keeps. omega (arith, ap (λ r. first (r .totals)) (keeps four readings allKept zeros allKept) ∙ ap first table-totals);
-      first-does-all = λ keeps. omega (arith, sym (ap first all-at-A) ∙ eight doesAll keeps);
-      later-idle = λ n keeps. omega (arith, eight untouchedPass keeps);
-      does-all-at-A = λ keeps. omega (arith, sym (ap first all-at-A) ∙ eight doesAllAtA keeps);
-      not-A = λ own. omega (arith, sym (ap first all-at-A) ∙ ap first (own ∙ own-A));
-      not-B = λ own. omega (arith, ap first (own ∙ own-B));
-      ends-so = A-then-B;
-      ends-right = all-at-once;
-      invented-degrees = λ m k b e keeps.
-          let same = same-figures _ keeps in
-          omega (
-            arith,
-            ap (λ g. g .kept .degrees) (same readings allKept (made .0)) ∙ kept-degrees .0,
-            ap (λ g. g .kept .degrees) (same readings pooled (made .1)) ∙ kept-degrees .1,
-          );
-      all-to-mean = λ keeps. omega (arith, ap (λ g. g .kept .degrees) (same-figures _ keeps readings allKept (made .0)) ∙ kept-degrees .0);
-      invented-checks = λ c keeps.
-          let same = same-figures _ keeps in
-          let sizeOf : Figures → ℕ = λ g. natAbs (g .checks .readings) in
-          omega (
-            arith,
-            ap sizeOf (same readings allKept (made .0)) ∙ ap natAbs (check-numbers .0),
-            ap sizeOf (same zeros allKept (made .2)) ∙ ap natAbs (check-numbers .1),
-          );
-      lost-always = λ keeps. omega (arith, ap isLost (keeps four 1 (neg 6)) ∙ ap isLost promised-not-lost);
-      lost-for-every = λ keeps.
-          omega (arith, ap isLost (sym (given-with _ lost A-estimated)) ∙ ap isLost (keeps four 1 (neg 6)) ∙ ap isLost promised-not-lost);
-      empty-part = λ keeps. omega (arith, ap length (keeps rulesSheet ∙ rules-marks));
-    }

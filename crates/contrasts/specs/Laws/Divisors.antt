@@ -7,21 +7,17 @@
 --   divisor-more                 factors added behind: their first divisors are multiplied on
 use mathlib.Core.Path.{_≡_, refl, sym, _∙_, ap}
 use mathlib.Core.List.{List, [], _∷_, _++_}
-use Prim.Native.Nat.{ℕ, zero, suc, _*_, _/_, _%_, _<_}
-use native.Mathlib.Nat.{mul-comm, mod-lt, mul-mul-mul-comm, mul-pos, mul-assoc, one-mul, div-eq-of-eq-mul-right, zero-mul}
-use native.Mathlib.Omega.{arith}
+use Prim.Native.Nat.{ℕ, _*_, _/_, _%_, _<_}
+use native.Mathlib.Nat.{mul-comm, mod-lt, mul-mul-mul-comm, mul-pos, mul-assoc, one-mul, div-eq-of-eq-mul-right}
 use lib.Arith.{lt-one}
 use lib.Dec.{lit<}
+use Rattle.algebra.specs.Naturals.{factor-pos}
 use Rattle.contrasts.specs.Factor.{Factor, weight}
 use Rattle.contrasts.specs.Totals.{size, divisor*, denominator, weight*}
 use Rattle.contrasts.specs.Laws.Digits.{rest-lt}
 
-positive : (a b c : ℕ) → a * b ≡ c → 0 < c → 0 < a
-positive zero b c e h = absurd (omega (arith, zero-mul b))
-positive (suc a) b c e h = omega arith
-
 pub divisor-pos : (F : Factor) (d : ℕ) → d < F .levels → 0 < F .divisor d
-divisor-pos F d h = positive (F .divisor d) (weight F d) (F .common) (F .divides d h) (F .some-common)
+divisor-pos F d h = factor-pos (F .divisor d) (weight F d) (F .common) (F .divides d h) (F .some-common)
 
 pub divisor*-pos : (Fs : List Factor) (e : ℕ) → 0 < divisor* Fs e
 unfolding divisor*
@@ -56,7 +52,7 @@ denominator-pos (F ∷ Fs) = mul-pos (F .some-common) (denominator-pos Fs)
 
 pub weight-pos : (Fs : List Factor) (e : ℕ) → 0 < weight* Fs e
 weight-pos Fs e =
-    positive (weight* Fs e) (divisor* Fs e) (denominator Fs) (mul-comm (weight* Fs e) (divisor* Fs e) ∙ shares Fs e) (denominator-pos Fs)
+    factor-pos (weight* Fs e) (divisor* Fs e) (denominator Fs) (mul-comm (weight* Fs e) (divisor* Fs e) ∙ shares Fs e) (denominator-pos Fs)
 
 pub weight-nil : (e : ℕ) → weight* [] e ≡ 1
 unfolding divisor* denominator weight*

@@ -1,0 +1,245 @@
+# Runs the program factab as it was linked, beside report.py: which bytes it reads and writes by way of the system, no
+# contract can say. It is a stage of the gate, and a command:
+#
+#   python3 reference/program.py PROGRAM
+#
+# PROGRAM is the path of the program. Of each run the text must be that of report.py; on standard error there must be
+# nothing, or the line that tells that a read or a write failed; and the run must end within a time limit and not by a
+# signal. Every difference is printed; the last line says how many there are, and the exit is 1 if there is one.
+#
+# The runs: sheets of no byte to a megabyte, most of about 5,187; the sheets of examples/; inputs that come in parts or
+# late; inputs and outputs that are closed or fail; and 500 sheets of compare.py from a seed that is always the same.
+#
+# Defined here:
+#   Run                              a run: its name, what the program is given, and what must be seen
+#   sized, stored, parted, failing   the runs, by what is tried
+#   seen, complaints_of              what is seen of a run, and how it differs from what is meant
+#   part_taken                       the same of a run whose output takes a part of the text
+#   tried                            makes all runs and prints the differences
+
+import fcntl
+import os
+import subprocess
+import sys
+import tempfile
+import time
+from collections import namedtuple
+from shlex import quote
+from threading import Timer
+
+import compare
+import csv_sheet
+import report
+import sheet
+from compare import difference
+from factab import Plan
+from sheets import Numbers
+
+COUNT, SEED = 500, 5187
+TIME_LIMIT = 20
+MEGABYTE = 1_000_000
+MOST = report.MOST_SHEET
+
+# In seconds: between two bytes, and before an end or a beginning that is late.
+SHORT, LATE = 0.002, 0.2
+
+# The size of the smallest pipe, and the request of Linux that sets it.
+PIPE, SET_PIPE_SIZE = 4096, 1031
+
+# What the program says on standard error.
+NOT_READ = b"factab: the input cannot be read\n"
+NOT_WRITTEN = b"factab: the text cannot be written\n"
+
+# parts are what comes to the input in turn, bytes and seconds of waiting; how is what the shell redirects; text and
+# error are what must be on standard output and standard error.
+Run = namedtuple("Run", "name parts how text error")
+
+
+# ---- the runs ----
+
+def in_parts(name, parts):
+    """A run whose input comes in parts."""
+    return Run(name, parts, "", report.text(b"".join(part for part in parts if isinstance(part, bytes))), b"")
+
+
+def of_sheet(name, own_sheet):
+    """A run on a sheet."""
+    return in_parts("%s, %d bytes" % (name, len(own_sheet)), [own_sheet])
+
+
+def of_four_levels(added, blocks):
+    """A sheet of four runs at four levels, which is refused with 2 unless it is too long, with so many words."""
+    return sheet.write(Plan(4, 2, ((3, 0),) * added, (3,) * blocks), [3, 5, 4, 8], [0, 0, 0, 1])
+
+
+def fewer_words(contents):
+    """The same with a block word less, which makes a sheet of 5,182 bytes; no lawful one is nearer to 5,187."""
+    return contents._replace(plan=contents.plan._replace(blocks=contents.plan.blocks[:-1]))
+
+
+def sized(contents):
+    """Runs on sheets by their length; the contents are those of a longest sheet."""
+    longest = sheet.write(*contents)
+    runs = [of_sheet("no byte", b""), of_sheet("one byte", bytes([sheet.PLAN]))]
+    runs += [of_sheet("lawful, with a word less", sheet.write(*fewer_words(contents)))]
+    runs += [of_sheet("lawful", longest), of_sheet("lawful, without the last byte", longest[:-1])]
+    runs += [of_sheet("lawful, and a byte more", longest + bytes([last])) for last in (0, 1, 255)]
+    runs += [of_sheet("four levels", of_four_levels(*words)) for words in ((0, 1031), (1, 1030), (2, 1029))]
+    runs += [of_sheet("zeros", bytes(length)) for length in (MOST - 1, MOST, MOST + 1, MEGABYTE)]
+    runs += [of_sheet("lawful, and zeros", own.ljust(MEGABYTE, b"\0")) for own in (longest, report.RULES_SHEET)]
+    return runs
+
+
+def stored():
+    """Runs on the sheets of examples/, each a file that is the input."""
+    paths = [csv_sheet.FOLDER / (name + ".sheet") for name in csv_sheet.EXAMPLES]
+    return [Run(path.name, [], "<" + quote(str(path)), report.text(path.read_bytes()), b"") for path in paths]
+
+
+def chunks(numbers, own_sheet, most):
+    """A sheet in parts of 1 byte to a number of bytes."""
+    parts, at = [], 0
+    while at < len(own_sheet):
+        length = 1 + numbers.below(most)
+        parts.append(own_sheet[at:at + length])
+        at += length
+    return parts
+
+
+def parted(numbers, longest):
+    """Runs on inputs that come byte by byte, in other parts, or late."""
+    small = report.RULES_SHEET
+    runs = [in_parts("byte by byte", [part for byte in small for part in (bytes([byte]), SHORT)])]
+    runs += [in_parts("bytes of 5,187", chunks(numbers, longest, 1))]
+    runs += [in_parts("parts of 5,187, up to %d" % most, chunks(numbers, longest, most)) for most in (7, 100, 2000)]
+    runs += [in_parts("parts of 5,188", chunks(numbers, longest + b"\0", 2000))]
+    runs += [in_parts("5,187, the last byte late", [longest[:-1], LATE, longest[-1:]])]
+    runs += [in_parts("a late beginning", [LATE, small]), in_parts("nothing, and a late end", [LATE])]
+    runs += [in_parts("a late end of %d" % len(own), [own, LATE]) for own in (small, longest)]
+    runs += [in_parts("a byte more, late, after %d" % len(own), [own, LATE, b"\0"]) for own in (small, longest)]
+    return runs
+
+
+def failing():
+    """Runs with an input or an output that is closed or fails, and with standard error closed."""
+    own, meant = [report.RULES_SHEET], report.RULES_TEXT
+    return [
+        Run("a closed input", [], "<&-", b"", NOT_READ),
+        Run("a directory as input", [], "</", b"", NOT_READ),
+        Run("an empty file as input", [], "</dev/null", report.text(b""), b""),
+        Run("a closed output", own, ">&-", b"", NOT_WRITTEN),
+        Run("an output that is full", own, ">/dev/full", b"", NOT_WRITTEN),
+        Run("a closed input and a closed output", [], "<&- >&-", b"", NOT_READ),
+        Run("standard error closed", own, "2>&-", meant, b""),
+        Run("standard error and the input closed", [], "<&- 2>&-", b"", b""),
+        Run("standard error and the output closed", own, ">&- 2>&-", b"", b""),
+        Run("standard error and the output full", own, ">/dev/full 2>/dev/full", b"", b""),
+        Run("all closed", [], "<&- >&- 2>&-", b"", b""),
+    ]
+
+
+# ---- what is seen ----
+
+def feed(process, parts, text):
+    """Writes the parts to a program's input; a complaint if it has written something while the input could go on."""
+    sent, complaint = 0, ""
+    try:
+        for part in parts:
+            if isinstance(part, bytes):
+                process.stdin.write(part)
+                sent += len(part)
+                continue
+            time.sleep(part)
+            if sent <= MOST and os.fstat(text.fileno()).st_size:
+                complaint = "writes before the input ends"
+        process.stdin.close()
+    except BrokenPipeError:
+        pass  # it has ended, or wants no more
+    return complaint
+
+
+def ending(status, seconds):
+    """A complaint if a program had to be ended or was ended by a signal."""
+    if seconds >= TIME_LIMIT:
+        return "not ended after %d seconds" % TIME_LIMIT
+    return "ended by signal %d" % -status if status < 0 else ""
+
+
+def seen(program, run):
+    """What a program writes in a run to standard output and standard error, and complaints about how it went."""
+    with tempfile.TemporaryFile() as text, tempfile.TemporaryFile() as error:
+        began = time.monotonic()
+        process = subprocess.Popen(["sh", "-c", 'exec "$0" ' + run.how, program], bufsize=0,
+                                   stdin=subprocess.PIPE, stdout=text, stderr=error)
+        limit = Timer(TIME_LIMIT, process.kill)
+        limit.start()
+        early = feed(process, run.parts, text)
+        status = process.wait()
+        limit.cancel()
+        text.seek(0)
+        error.seek(0)
+        return text.read(), error.read(), [early, ending(status, time.monotonic() - began)]
+
+
+def complaints_of(program, run):
+    """How a run differs from what is meant."""
+    text, error, complaints = seen(program, run)
+    complaints.append(difference(run.text, text))
+    if error != run.error:
+        complaints.append("standard error: meant %r, found %r" % (run.error, error))
+    return [complaint for complaint in complaints if complaint]
+
+
+def part_taken(program, own_sheet):
+    """How a run differs whose output takes 4,096 bytes of a longer text: these must be there, and the line."""
+    out, end = os.pipe()
+    fcntl.fcntl(end, SET_PIPE_SIZE, PIPE)
+    os.set_blocking(end, False)
+    with open(out, "rb") as output:
+        try:
+            found = subprocess.run([program], input=own_sheet, stdout=end, stderr=subprocess.PIPE, timeout=TIME_LIMIT)
+        except subprocess.TimeoutExpired:
+            return [ending(0, TIME_LIMIT)]
+        finally:
+            os.close(end)
+        complaints = [difference(report.text(own_sheet)[:PIPE], output.read()), ending(found.returncode, 0)]
+    if found.stderr != NOT_WRITTEN:
+        complaints.append("standard error: meant %r, found %r" % (NOT_WRITTEN, found.stderr))
+    return [complaint for complaint in complaints if complaint]
+
+
+# ---- the command ----
+
+def all_runs(program):
+    """All runs but those of compare.py: name and complaints of each."""
+    numbers = Numbers(SEED)
+    contents = compare.longest(numbers)
+    longest = sheet.write(*contents)
+    if report.answer(longest) or len(longest) != MOST:
+        sys.exit("the longest sheet is not lawful or not of %d bytes" % MOST)
+    for run in sized(contents) + stored() + parted(numbers, longest) + failing():
+        yield run.name, complaints_of(program, run)
+    yield "an output that takes a part", part_taken(program, longest)
+
+
+def tried(program):
+    """The number of all runs, and of those that differ from what is meant, each of which is printed."""
+    count, wrong = 0, 0
+    for name, complaints in all_runs(program):
+        count += 1
+        if complaints:
+            wrong += 1
+            print("%s: %s" % (name, "; ".join(complaints)), flush=True)
+    differences, _ = compare.compare(program, COUNT, SEED)
+    return count + COUNT, wrong + differences
+
+
+if __name__ == "__main__":
+    if len(sys.argv) != 2:
+        sys.exit("program.py PROGRAM")
+    try:
+        count, wrong = tried(sys.argv[1])
+    except OSError as why:
+        sys.exit(str(why))
+    print("program: %d runs, %d differences" % (count, wrong))
+    sys.exit(1 if wrong else 0)
