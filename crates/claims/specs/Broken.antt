@@ -26,7 +26,7 @@ use Rattle.plan.specs.Outcome.{Outcome, given, refused}
 use Rattle.plan.specs.Plan.{factorsOf, someCombination, combinesTo}
 use Rattle.plan.specs.Laws.Answers.{refused-is, given-is, given-with, written-new}
 use Rattle.columns.specs.Lines.{wrongLength, isBeyond, anyBeyond, columnsNumber}
-use Rattle.rows.specs.Kinds.{wrongRows, kindByMark, kindOf, badMark, badMarks}
+use Rattle.rows.specs.Kinds.{keptRow, wrongRows, kindByMark, kindOf, badMark, badMarks}
 use Rattle.yates.specs.Calls.{passNumber, passColumn, totalsColumn}
 use Rattle.yates.specs.Laws.Admitted.{pass-admits}
 use Rattle.estimates.specs.Estimate.{Value, mean, difference, lost, differenceOf, valueBy, estimateNumber, estimateValue}
@@ -39,9 +39,9 @@ use Rattle.contents.specs.Contents.{planIn, readingAt, readingsOf}
 use Rattle.sheet.specs.Sheet.{numberWith, marksNumber, marksOf}
 use Rattle.report.specs.Report.{printed, reportNumber, textOf}
 use Rattle.report.specs.Examples.{rulesSheet, rules-text, threeSheet, three-text}
-use Rattle.claims.specs.Promised.{promisedEstimate}
+use Rattle.promises.specs.Promised.{promisedEstimate}
 use Rattle.claims.specs.AnyOrder.{Readings, ownPass}
-use Rattle.claims.specs.WrongPrograms.{PassCall, KeepsPass, KeepsTable, KeepsReport, constantTable, figuresBy, untouchedPass, doesAll, firstDoesAll, doesAllAtA, afterTold, four, readings, fourTotals, zeros, allKept, pooled, blank, WrongPrograms}
+use Rattle.claims.specs.WrongPrograms.{PassCall, KeepsPass, KeepsTable, KeepsReport, constantTable, figuresBy, untouchedPass, doesAll, firstDoesAll, doesAllAtA, afterTold, four, readings, fourTotals, zeros, allKept, pooled, blank, WrongPrograms, rowsOfKind, threeLevels, threeReadings}
 
 -- ---- what the promises come to at the named inputs, computed
 
@@ -91,6 +91,15 @@ kept-degrees : (tableFigures four readings allKept .kept .degrees ≡ 3) × (tab
 unfolding tableFigures sourceOf kindOf kindByMark combinesTo someCombination some combined times bits Σℕ factorsOf size two degreesOf
 kept-degrees = (refl, refl)
 
+-- one three-level factor: one row is kept, and it has 2 degrees
+three-made : tableNumber threeLevels threeReadings (0 ∷ 0 ∷ []) threeReadings (0 ∷ 0 ∷ []) ≡ 0
+unfolding tableNumber wrongLengths wrongRows wrongLength anyBeyond isBeyond badMarks badMark withPlan planNumber badLevels badFactors mostTwo mostThree badCounts badWords badWord badSign repeated dependent losesFactor factorWord any among beyond letters combined times someCombination combinesTo some bits Σℕ readingLimit factorsOf size two three
+three-made = refl
+
+two-degrees : (rowsOfKind threeLevels (0 ∷ 0 ∷ []) keptRow ≡ 1) × (tableFigures threeLevels threeReadings (0 ∷ 0 ∷ []) .kept .degrees ≡ 2)
+unfolding tableFigures sourceOf kindOf kindByMark combinesTo someCombination some combined times bits Σℕ factorsOf size two three degreesOf
+two-degrees = (refl, refl)
+
 check-numbers : (tableFigures four readings allKept .checks .readings ≡ pos 12) × (tableFigures four zeros allKept .checks .readings ≡ pos 0)
 unfolding tableFigures checksOf factorsOf size two checkWeight round rounds Σ
 check-numbers = (refl, refl)
@@ -120,15 +129,20 @@ abbrev first : List ℤ → ℕ
 first xs = natAbs (read xs 0)
 
 -- a table call that differs in its figures alone has the promised ones, where a table is made
+same-in : (figures : Plan → List ℤ → List ℕ → Figures) → KeepsTable (figuresBy figures)
+    → (p : Plan) (readings : List ℤ) (marks : List ℕ) (totals : List ℤ) (rows : List ℕ) → tableNumber p readings marks totals rows ≡ 0
+    → figures p readings marks ≡ tableFigures p readings marks
+same-in figures keeps p readings marks totals rows e =
+    given-is
+    (tableNumber p readings marks totals rows)
+    (tableFigures p readings marks)
+    (sym (given-with _ (figures p readings marks) e) ∙ ap (λ r. r .answer) (keeps p readings marks totals rows))
+    .1
+
 same-figures : (figures : Plan → List ℤ → List ℕ → Figures) → KeepsTable (figuresBy figures)
     → (readings : List ℤ) (marks : List ℕ) → tableNumber four readings marks zeros allKept ≡ 0
     → figures four readings marks ≡ tableFigures four readings marks
-same-figures figures keeps readings marks e =
-    given-is
-    (tableNumber four readings marks zeros allKept)
-    (tableFigures four readings marks)
-    (sym (given-with _ (figures four readings marks) e) ∙ ap (λ r. r .answer) (keeps four readings marks zeros allKept))
-    .1
+same-figures figures keeps readings marks e = same-in figures keeps four readings marks zeros allKept e
 
 -- the texts of the two sheets are 90 and 68 bytes long
 two-lengths : (t : List ℕ) → length t ≡ length (textOf rulesSheet) → length t ≡ length (textOf threeSheet) → ⊥
@@ -210,6 +224,12 @@ wrong-programs =
             ap (λ g. g .kept .degrees) (same readings pooled (made .1)) ∙ kept-degrees .1,
           );
       all-to-mean = λ keeps. omega (arith, ap (λ g. g .kept .degrees) (same-figures _ keeps readings allKept (made .0)) ∙ kept-degrees .0);
+      one-degree-each = λ keeps.
+          omega (
+            arith,
+            ap (λ g. g .kept .degrees) (same-in _ keeps threeLevels threeReadings (0 ∷ 0 ∷ []) threeReadings (0 ∷ 0 ∷ []) three-made) ∙ two-degrees .1,
+            two-degrees .0,
+          );
       invented-checks = λ c keeps.
           let same = same-figures _ keeps in
           let sizeOf : Figures → ℕ = λ g. natAbs (g .checks .readings) in

@@ -1,6 +1,5 @@
 -- The demands, as theorems about the calls' own definitions.
 --
---   Promised       what each call promises, whole
 --   LowestNumber   demand 1: the number of every call is the lowest that applies
 --   Refusals       demand 1: thirteen numbers, and nothing is written
 --   Letters        demand 2: coefficients, totals, blocks and aliases in letters, at two levels
@@ -13,7 +12,6 @@
 --   Starred        the starred runs, as one fact
 --   WrongPrograms  the programs that have to break their statements
 --   Broken         that they do: what the promises come to, computed, and the proof
-pub mod Promised
 pub mod LowestNumber
 pub mod Refusals
 pub mod Letters

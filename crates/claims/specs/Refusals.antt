@@ -3,7 +3,7 @@
 -- Which number it is, is `LowestNumber`; here, of every call: that there are thirteen, and that a refusal leaves what was lent to write.
 --
 --   upTo m lines               no line has a number over m
---   OneOfThirteen n            a call's number: from 1 to 13, or 0 where it refuses nothing
+--   OneOfThirteen n            a number that refuses, and so is not 0, is one from 1 to 13
 --   OnPlan, on-any-plan        THE CLAIM on the calls that take a plan: check, run, alias, estimate, pass, step, totals, table; its proof
 --   OnSheet, on-any-sheet      on those that take a sheet: reader, marks, report
 --   ForC, for-C                on the table call for C; the others for C have the numbers and columns of the first
@@ -42,7 +42,10 @@ upTo m [] = true
 upTo m (line n holds ∷ rest) = leb n m && upTo m rest
 
 abbrev pub OneOfThirteen : ℕ → Type 0
-OneOfThirteen n = n ≤ 13
+OneOfThirteen n = (n ≡ 0 → ⊥) → (1 ≤ n) × (n ≤ 13)
+
+one-of : {n : ℕ} → n ≤ 13 → OneOfThirteen n
+one-of l h = (omega (arith, h), l)
 
 lowest-up-to : (m : ℕ) (lines : List Line) → T (upTo m lines) → lowest lines ≤ m
 unfolding upTo
@@ -51,7 +54,7 @@ lowest-up-to m (line n true ∷ rest) t = leb→le n m (and-left (leb n m) (upTo
 lowest-up-to m (line n false ∷ rest) t = lowest-up-to m rest (and-right (leb n m) (upTo m rest) t)
 
 -- the number of a call on a plan
-by-plan : (p : Plan) (further : List Line) → T (upTo 13 further) → OneOfThirteen (withPlan p further)
+by-plan : (p : Plan) (further : List Line) → T (upTo 13 further) → withPlan p further ≤ 13
 unfolding withPlan planNumber upTo
 by-plan p further t = by (ℕ-discrete (planNumber p) 0)
   where
@@ -82,14 +85,14 @@ pub on-any-plan : (p : Plan) → OnPlan p
 unfolding planNumber runNumber aliasNumber estimateNumber passNumber passColumn stepColumn columnsNumber totalsColumn tableNumber tableTotals tableRows upTo
 on-any-plan p =
     record {
-      check = lowest-up-to 13 (planLines p) tt;
-      run = λ r. by-plan p (runLines p r) tt;
-      alias = λ e. by-plan p (aliasLines p e) tt;
-      estimate = λ e t. by-plan p (estimateLines p e t) tt;
-      pass = λ f column. by-plan p (passLines p f column) tt;
-      step = λ from to. by-plan p (stepLines p from to) tt;
-      totals = λ readings column. by-plan p (totalsLines p readings column) tt;
-      table = λ readings marks column rows. by-plan p (tableLines p readings marks column rows) tt;
+      check = one-of (lowest-up-to 13 (planLines p) tt);
+      run = λ r. one-of (by-plan p (runLines p r) tt);
+      alias = λ e. one-of (by-plan p (aliasLines p e) tt);
+      estimate = λ e t. one-of (by-plan p (estimateLines p e t) tt);
+      pass = λ f column. one-of (by-plan p (passLines p f column) tt);
+      step = λ from to. one-of (by-plan p (stepLines p from to) tt);
+      totals = λ readings column. one-of (by-plan p (totalsLines p readings column) tt);
+      table = λ readings marks column rows. one-of (by-plan p (tableLines p readings marks column rows) tt);
       pass-unwritten = λ f column n. sym (unwritten _ _ column n);
       step-unwritten = λ from to n. sym (unwritten _ _ to n);
       totals-unwritten = λ readings column n. sym (unwritten _ _ column n);
@@ -106,7 +109,7 @@ pub record OnSheet (sheet : List ℕ) : Type 0 where
   -- "(the marks call with an empty part)"
   pub marks-empty : (marksNumber sheet ≡ 0 → ⊥) → marksOf sheet ≡ []
 
-of-sheet : (fs : Fields) (narrow : Bool) → OneOfThirteen (numberWith fs (planIn fs) narrow)
+of-sheet : (fs : Fields) (narrow : Bool) → numberWith fs (planIn fs) narrow ≤ 13
 unfolding numberWith upTo
 of-sheet fs narrow = by (badFields fs)
   where
@@ -114,7 +117,7 @@ of-sheet fs narrow = by (badFields fs)
     by true = omega arith
     by false = by-plan (planIn fs) (sheetLines fs (planIn fs) narrow) tt
 
-of-report : (sheet : List ℕ) → OneOfThirteen (reportNumber sheet)
+of-report : (sheet : List ℕ) → reportNumber sheet ≤ 13
 unfolding reportNumber marksNumber
 of-report sheet = by (ltb longestSheet (length sheet))
   where
@@ -126,9 +129,9 @@ pub on-any-sheet : (sheet : List ℕ) → OnSheet sheet
 unfolding readNumber marksNumber readColumn marksOf
 on-any-sheet sheet =
     record {
-      reader = λ room. of-sheet (fieldsOf sheet) _;
-      marks = of-sheet (fieldsOf sheet) false;
-      report = of-report sheet;
+      reader = λ room. one-of (of-sheet (fieldsOf sheet) _);
+      marks = one-of (of-sheet (fieldsOf sheet) false);
+      report = one-of (of-report sheet);
       reader-unwritten = λ column n. sym (unwritten _ _ column n);
       marks-empty = λ n. sym (unwritten _ _ [] n);
     }
@@ -145,13 +148,13 @@ pub record ForC (p : Plan) (readings : List ℤ) (marks : List ℕ) (totals : Li
 
 pub for-C : (p : Plan) (readings : List ℤ) (marks : List ℕ) (totals : List ℤ) (rows figures : List ℕ) (checks : List ℤ)
     → ForC p readings marks totals rows figures checks
-unfolding callNumber roomNumber callTotals callRows callFigures callChecks upTo
+unfolding callNumber roomNumber tableNumber callTotals callRows callFigures callChecks upTo
 for-C p readings marks totals rows figures checks =
     record {
-      number = by (wrongRoom (length figures) (length checks));
+      number = one-of (by (wrongRoom (length figures) (length checks)));
       unwritten-all = λ n. (sym (unwritten _ _ totals n), sym (unwritten _ _ rows n), sym (unwritten _ _ figures n), sym (unwritten _ _ checks n));
     }
   where
     by : (room : Bool) → cond room (roomNumber p) (tableNumber p readings marks totals rows) ≤ 13
     by true = by-plan p (line 11 true ∷ []) tt
-    by false = on-any-plan p .table readings marks totals rows
+    by false = by-plan p (tableLines p readings marks totals rows) tt

@@ -43,7 +43,7 @@ use Rattle.estimates.specs.Estimate.{Value, mean, difference, lost, meanOf, dif
 use Rattle.anova.specs.declared.types.Source.{Source}
 use Rattle.anova.specs.declared.types.Checks.{Checks}
 use Rattle.anova.specs.Table.{wrongLengths, tableNumber, sourceOf, totalSource, checksOf, tableFigures, tableTotals, tableRows, rowsOf}
-use Rattle.claims.specs.Promised.{Tabled, promisedCheck, promisedAlias, promisedTable, promisedEstimate}
+use Rattle.promises.specs.Promised.{Tabled, promisedCheck, promisedAlias, promisedTable, promisedEstimate}
 
 -- ---- what a run is
 

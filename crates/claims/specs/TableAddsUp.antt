@@ -4,7 +4,8 @@
 -- Also whatever the slices held that it is lent to write.
 --
 --   ofKind p marks rows c        the numerators of the rows of the kind c, added up
---   Formed p marks rows f        each of the four is formed as the rules say, from the rows that the call writes
+--   degreesOfKind p marks c      and their degrees
+--   Formed p marks ts rows f     each of the four is formed as the rules say, from the totals and rows that the call writes
 --   totalNumerator p readings    the total
 --   AddsUp p readings f          what is claimed of the figures f
 --   NoneBeyond p readings f      no number of the table exceeds the limit
@@ -14,14 +15,16 @@ use mathlib.Core.Bool.{Bool, cond}
 use mathlib.Core.List.{List}
 use Prim.Native.Nat.{ℕ, _+_, _*_, _<_, _≤_}
 use native.Mathlib.Omega.{arith}
+use lib.Dec.{eqb}
 use lib.IntN.{ℤ, pos, natAbs}
 use lib.ListN.{getD}
 use Rattle.algebra.specs.Naturals.{Σℕ, Σℕ-cong, Σℕ-by}
+use Rattle.algebra.specs.Sorted.{sumAt}
 use Rattle.algebra.specs.Tab.{getD-tab}
 use Rattle.contrasts.specs.Columns.{read, totalsOf}
 use Rattle.contrasts.specs.Limits.{numeratorLimit}
-use Rattle.contrasts.specs.Rows.{degreesOf, rowNumerator}
-use Rattle.contrasts.specs.Totals.{total, denominator, numerator, squared}
+use Rattle.contrasts.specs.Rows.{rowOf, degreesOf, rowNumerator}
+use Rattle.contrasts.specs.Totals.{total, denominator, numerator, numeratorOf, squared}
 use Rattle.contrasts.specs.Laws.CheckSum.{check-rounds}
 use Rattle.plan.specs.declared.types.Plan.{Plan}
 use Rattle.plan.specs.Plan.{factorsOf, runsOf}
@@ -30,7 +33,7 @@ use Rattle.rows.specs.Kinds.{rowsIn, Kind, meanRow, blocksRow, errorRow, keptRo
 use Rattle.rows.specs.Laws.{four-kinds}
 use Rattle.anova.specs.declared.types.Figures.{Figures}
 use Rattle.anova.specs.Ready.{TableReady}
-use Rattle.anova.specs.Table.{tableNumber, sourceOf, totalSource, checksOf, tableFigures, tableRows, rowsOf}
+use Rattle.anova.specs.Table.{tableNumber, sourceOf, totalSource, checksOf, tableFigures, tableTotals, tableRows, rowsOf}
 use Rattle.anova.specs.Laws.Admitted.{table-admitted}
 use Rattle.anova.specs.Laws.Within.{SourceWithin, all-rows, all-degrees, fit, some-within, row-within, kind-within, total-source-within, total-within-limit, checks-within}
 
@@ -39,8 +42,18 @@ use Rattle.anova.specs.Laws.Within.{SourceWithin, all-rows, all-degrees, fit, s
 abbrev pub ofKind : Plan → List ℕ → List ℕ → Kind → ℕ
 ofKind p marks rows c = Σℕ (rowsIn p) (λ w. cond (same (kindOf p marks w) c) (getD rows w 0) 0)
 
+abbrev pub degreesOfKind : Plan → List ℕ → Kind → ℕ
+degreesOfKind p marks c = Σℕ (rowsIn p) (λ w. cond (same (kindOf p marks w) c) (degreesOf (factorsOf p) w) 0)
+
 -- "each formed as the table's rules say"
-pub record Formed (p : Plan) (marks rows : List ℕ) (f : Figures) : Type 0 where
+pub record Formed (p : Plan) (marks : List ℕ) (totals : List ℤ) (rows : List ℕ) (f : Figures) : Type 0 where
+  -- "A three-level row adds the numerators of every effect using exactly its letters.": of the totals that the call writes
+  pub each-row : (w : ℕ) → w < rowsIn p
+      → getD rows w 0 ≡ Σℕ (runsOf p) (λ e. cond (eqb (rowOf (factorsOf p) e) w) (numeratorOf (factorsOf p) e (read totals e)) 0)
+  pub degrees : (f .mean .degrees ≡ degreesOfKind p marks meanRow)
+      × (f .kept .degrees ≡ degreesOfKind p marks keptRow)
+      × (f .blocks .degrees ≡ degreesOfKind p marks blocksRow)
+      × (f .error .degrees ≡ degreesOfKind p marks errorRow)
   pub mean : f .mean .numerator ≡ ofKind p marks rows meanRow
   pub kept : f .kept .numerator ≡ ofKind p marks rows keptRow
   pub blocks : f .blocks .numerator ≡ ofKind p marks rows blocksRow
@@ -77,7 +90,7 @@ abbrev pub TableAddsUp : Type 0
 TableAddsUp =
     (p : Plan) (readings : List ℤ) (marks : List ℕ) (totals : List ℤ) (rows : List ℕ)
     → tableNumber p readings marks totals rows ≡ 0
-    → Formed p marks (tableRows p readings marks totals rows) (tableFigures p readings marks)
+    → Formed p marks (tableTotals p readings marks totals rows) (tableRows p readings marks totals rows) (tableFigures p readings marks)
     × AddsUp p readings (tableFigures p readings marks)
     × NoneBeyond p readings (tableFigures p readings marks)
 
@@ -89,13 +102,26 @@ unfolding sourceOf rowsOf
 by-rows p readings marks c =
     Σℕ-cong (rowsIn p) (λ w h. ap (λ (n : ℕ). cond (same (kindOf p marks w) c) n 0) (sym (getD-tab 0 (rowsIn p) (rowNumerator (factorsOf p) (read readings)) w h)))
 
+row-formed : (p : Plan) (readings : List ℤ) (w : ℕ) → w < rowsIn p
+    → getD (rowsOf p readings) w 0
+    ≡ Σℕ (runsOf p) (λ e. cond (eqb (rowOf (factorsOf p) e) w) (numeratorOf (factorsOf p) e (read (totalsOf (factorsOf p) readings) e)) 0)
+unfolding rowsOf sumAt totalsOf
+row-formed p readings w h =
+    getD-tab 0 (rowsIn p) (rowNumerator (factorsOf p) (read readings)) w h
+    ∙ Σℕ-cong (runsOf p) (λ e l.
+    ap (λ (z : ℤ). cond (eqb (rowOf (factorsOf p) e) w) (numeratorOf (factorsOf p) e z) 0)
+    (sym (getD-tab (pos 0) (runsOf p) (total (factorsOf p) (read readings)) e l)))
+
 formed : (p : Plan) (readings : List ℤ) (marks : List ℕ) (totals : List ℤ) (rows : List ℕ) → tableNumber p readings marks totals rows ≡ 0
-    → Formed p marks (tableRows p readings marks totals rows) (tableFigures p readings marks)
-unfolding tableFigures tableRows
+    → Formed p marks (tableTotals p readings marks totals rows) (tableRows p readings marks totals rows) (tableFigures p readings marks)
+unfolding tableFigures tableTotals tableRows sourceOf
 formed p readings marks totals rows e =
     let new = written-new (tableNumber p readings marks totals rows) (rowsOf p readings) rows e in
-    rw (← new)
+    let newTotals = written-new (tableNumber p readings marks totals rows) (totalsOf (factorsOf p) readings) totals e in
+    rw (← new, ← newTotals)
     (record {
+      each-row = row-formed p readings;
+      degrees = (refl, refl, refl, refl);
       mean = by-rows p readings marks meanRow;
       kept = by-rows p readings marks keptRow;
       blocks = by-rows p readings marks blocksRow;

@@ -4,6 +4,7 @@
 -- the call's promise (`Promised.antt`). As far as the rules' words leave it, a program is right in all else. The inputs at which they break are
 -- named below; each is one that the call can be handed, and what is promised of it is computed.
 --
+--   PassCall, TableCall               what a pass call and a table call are, from their inputs to what they leave
 --   KeepsCheck, .. , KeepsReport      to keep a call's promise: to come to the same for every input
 --   refusesPlans, refusesTables       refuse every plan, with any numbers
 --   constantText, constantTable       print one text for every sheet, or for every sheet that is accepted
@@ -14,6 +15,7 @@
 --   afterTold                         the column after a list of calls that are told their numbers
 --   withDegrees, withChecks           figures with other degrees, or other check numbers
 --   inventedDegrees, allToMean        table calls with invented degrees: any numbers; all degrees for the mean
+--   rowsOfKind, oneDegreeEach         how many rows are of a kind; the table call with 1 degree for each row
 --   inventedChecks                    and with one invented number for both checks
 --   lostAlways, lostForEvery          answer lost for every effect, or for every one that is not refused
 --   emptyPart                         gives an empty part for every sheet
@@ -26,9 +28,11 @@ use Prim.Native.Nat.{ℕ, zero, suc, _<_}
 use lib.Dec.{eqb}
 use lib.IntN.{ℤ, pos}
 use lib.ListN.{length, drop, replicate}
+use Rattle.algebra.specs.Naturals.{Σℕ}
 use Rattle.contrasts.specs.Columns.{totalsOf}
 use Rattle.contrasts.specs.Tables.{neg}
 use Rattle.contrasts.specs.Totals.{total, denominator}
+use Rattle.rows.specs.Kinds.{Kind, meanRow, blocksRow, errorRow, keptRow, rowsIn, kindOf, same}
 use Rattle.plan.specs.declared.types.Plan.{Plan}
 use Rattle.plan.specs.Check.{planNumber}
 use Rattle.plan.specs.Examples.{plan}
@@ -39,10 +43,12 @@ use Rattle.estimates.specs.Estimate.{Value, mean, lost, estimateNumber}
 use Rattle.anova.specs.declared.types.Figures.{Figures}
 use Rattle.anova.specs.Table.{tableNumber, tableFigures, tableTotals, tableRows}
 use Rattle.report.specs.Report.{printed, reportNumber}
-use Rattle.claims.specs.Promised.{Left, Tabled, Printed, promisedCheck, promisedPass, promisedTotals, promisedTable, promisedEstimate, promisedMarks, promisedReport}
+use Rattle.promises.specs.Promised.{Left, Tabled, Printed, promisedCheck, promisedPass, promisedTotals, promisedTable, promisedEstimate, promisedMarks, promisedReport}
 use Rattle.claims.specs.AnyOrder.{Readings, ownPass}
 
 -- ---- to keep a promise
+
+-- for every list of numbers, also for such as no call can be handed; each program below breaks its promise at an input that one can be handed
 
 abbrev pub KeepsCheck : (Plan → Outcome Unit) → Type 0
 KeepsCheck program = (p : Plan) → program p ≡ promisedCheck p
@@ -162,6 +168,15 @@ inventedDegrees m k b e = figuresBy (λ p readings marks. withDegrees m k b e (t
 abbrev pub allToMean : TableCall
 allToMean = figuresBy (λ p readings marks. withDegrees (runsOf p) 0 0 0 (tableFigures p readings marks))
 
+-- 1 degree for each row, as at two levels: "Giving a main effect 1 degree at three levels."
+abbrev pub rowsOfKind : Plan → List ℕ → Kind → ℕ
+rowsOfKind p marks c = Σℕ (rowsIn p) (λ w. cond (same (kindOf p marks w) c) 1 0)
+
+abbrev pub oneDegreeEach : TableCall
+oneDegreeEach = figuresBy (λ p readings marks.
+    withDegrees (rowsOfKind p marks meanRow) (rowsOfKind p marks keptRow) (rowsOfKind p marks blocksRow) (rowsOfKind p marks errorRow)
+    (tableFigures p readings marks))
+
 -- figures with other check numbers
 abbrev pub withChecks : ℤ → ℤ → Figures → Figures
 withChecks totals readings f = record {
@@ -213,6 +228,13 @@ allKept = 0 ∷ 0 ∷ 0 ∷ 0 ∷ []
 abbrev pub pooled : List ℕ
 pooled = 0 ∷ 0 ∷ 0 ∷ 1 ∷ []
 
+-- "Three levels, 2, 5, 3": one factor
+abbrev pub threeLevels : Plan
+threeLevels = plan 3 1 [] [] []
+
+abbrev pub threeReadings : List ℤ
+threeReadings = pos 2 ∷ pos 5 ∷ pos 3 ∷ []
+
 -- the buffer that the report call is lent
 abbrev pub blank : List ℕ
 blank = replicate 69_632 0
@@ -247,6 +269,7 @@ pub record WrongPrograms : Type 0 where
   -- "one with invented degrees or check numbers (demand 2)"
   pub invented-degrees : (m k b e : ℕ) → KeepsTable (inventedDegrees m k b e) → ⊥
   pub all-to-mean : KeepsTable allToMean → ⊥
+  pub one-degree-each : KeepsTable oneDegreeEach → ⊥
   pub invented-checks : (c : ℤ) → KeepsTable (inventedChecks c) → ⊥
   -- "one answering lost for every effect"
   pub lost-always : KeepsEstimate lostAlways → ⊥

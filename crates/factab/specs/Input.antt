@@ -1,10 +1,12 @@
 -- What came of the input.
 --
---   bytesOf r    how many bytes, none where a read failed
-use Prim.Native.Nat.{ℕ}
+--   FullOrEnded r room    a full buffer has as many bytes as there is room, and an input that ended no more
+use mathlib.Core.Path.{_≡_}
+use Prim.Native.Nat.{ℕ, _≤_}
 use Rattle.factab.specs.declared.Input.{Input}
-use Rattle.factab.specs.declared.Input.the-variants.{Bytes, Failed}
+use Rattle.factab.specs.declared.Input.the-variants.{Full, Ended, Failed}
 
-abbrev pub bytesOf : Input → ℕ
-bytesOf (Bytes n) = n
-bytesOf Failed = 0
+abbrev pub FullOrEnded : Input → ℕ → Type 0
+FullOrEnded (Full n) room = n ≡ room
+FullOrEnded (Ended n) room = n ≤ room
+FullOrEnded Failed room = Unit

@@ -6,19 +6,19 @@ use libc::STDOUT_FILENO;
 use report::INPUT;
 use report::TEXT;
 use report::report_input;
-ghost use Prim.Native.Nat.{_≤_};
 ghost use lib.ListN.{length};
-ghost use Rattle.factab.specs.Input.{bytesOf};
+ghost use Rattle.factab.specs.Input.{FullOrEnded};
 
 // What came: so many bytes at the start of the buffer, or a read failed.
 enum Input {
-    Bytes(usize),
+    Full(usize),
+    Ended(usize),
     Failed,
 }
 
 // Reads until the buffer is full or the input ends. One read may bring a part only.
 fn read_input(buffer: &mut [u8; INPUT]) -> Input
-    ensures { λ r. ⌜ bytesOf r ≤ length (now (buffer .exit)) ⌝ }
+    ensures { λ r. ⌜ FullOrEnded r (length (now (buffer .exit))) ⌝ }
 {
     let bytes: &mut [u8] = buffer;
     let mut n = 0;
@@ -29,11 +29,11 @@ fn read_input(buffer: &mut [u8; INPUT]) -> Input
         }
         let more = io::count(got, &bytes[n..]);
         if more == 0 {
-            return Input::Bytes(n);
+            return Input::Ended(n);
         }
         n += more;
     }
-    Input::Bytes(n)
+    Input::Full(n)
 }
 
 fn print_report(input: &[u8; INPUT], count: usize) {
@@ -47,7 +47,8 @@ fn print_report(input: &[u8; INPUT], count: usize) {
 fn main() {
     let mut buffer = [0u8; INPUT];
     match read_input(&mut buffer) {
-        Input::Bytes(n) => print_report(&buffer, n),
+        Input::Full(n) => print_report(&buffer, n),
+        Input::Ended(n) => print_report(&buffer, n),
         Input::Failed => {
             io::write_all(STDERR_FILENO, b"factab: the input cannot be read\n");
         }

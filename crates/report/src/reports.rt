@@ -82,8 +82,8 @@ pub fn report(sheet: &[u8], text: &mut [u8; TEXT]) -> usize
 pub fn report_input(input: &[u8; INPUT], count: usize, text: &mut [u8; TEXT]) -> usize
     ensures { λ r. ⌜ r ≡ length (textOf (take count (now (input .entry)))) ⌝ }
     ensures { λ r. ⌜ now (text .exit) ≡ textOf (take count (now (input .entry))) ++ drop r (now (text .entry)) ⌝ }
-    ensures { λ r. ⌜ Decides (now (input .entry)) count ⌝ }
-    ensures { λ r. ⌜ length (now (input .entry)) ≡ suc longestSheet ⌝ }
+    ensures { λ _. ⌜ Decides (now (input .entry)) count ⌝ }
+    ensures { λ _. ⌜ length (now (input .entry)) ≡ suc longestSheet ⌝ }
 {
     let bytes: &[u8] = input;
     if bytes.len() <= count {

@@ -1,13 +1,14 @@
--- What each call promises, whole: its answer, and every slice that it was lent to write, at exit. Each is what stands on the right of the
--- equations in the call's `ensures`, so a program keeps the call's promise where it comes to the same for every input.
+-- What each call promises, whole: its answer, and every slice that it was lent to write, at exit. So a program keeps the call's promise where it
+-- comes to the same for every input. That these are the calls' own promises is proved by the functions of src/, each of which is a call.
 --
---   Left, Tabled, Printed             what a call leaves: an answer and a column; a table with totals and rows; a text and its length
+--   Left, Read, Tabled, Printed       what a call leaves: an answer and a column; a plan too; a table with totals and rows; a text and its length
 --   promisedCheck p                   the plan check
 --   promisedRun, promisedAlias        the run and the alias call
 --   promisedPass, promisedStep        the pass, and the step
 --   promisedTotals                    the totals of all effects
 --   promisedTable                     the table
 --   promisedEstimate                  the estimate
+--   promisedRead sheet column         the reader
 --   promisedMarks sheet               the marks call, which answers with a part of the sheet alone
 --   promisedReport sheet text         the report
 use mathlib.Core.Bool.{Bool}
@@ -25,13 +26,18 @@ use Rattle.yates.specs.Calls.{passNumber, passColumn, totalsNumber, totalsColum
 use Rattle.estimates.specs.Estimate.{Value, estimateNumber, estimateValue}
 use Rattle.anova.specs.declared.types.Figures.{Figures}
 use Rattle.anova.specs.Table.{tableNumber, tableFigures, tableTotals, tableRows}
-use Rattle.sheet.specs.Sheet.{marksOf}
+use Rattle.sheet.specs.Sheet.{readNumber, readPlan, readColumn, marksOf}
 use Rattle.report.specs.Report.{textOf}
 
 -- ---- what calls leave
 
 pub record Left : Type 0 where
   pub answer : Outcome Unit
+  pub column : List ℤ
+
+pub record Read : Type 0 where
+  pub answer : Outcome Unit
+  pub plan : Plan
   pub column : List ℤ
 
 pub record Tabled : Type 0 where
@@ -78,6 +84,13 @@ promisedTable p readings marks totals rows = record {
 
 abbrev pub promisedEstimate : Plan → ℕ → ℤ → Outcome Value
 promisedEstimate p e total = outcome (estimateNumber p e total) (estimateValue p e total)
+
+abbrev pub promisedRead : List ℕ → List ℤ → Read
+promisedRead sheet column = record {
+  answer = outcome (readNumber sheet (length column)) tt;
+  plan = readPlan sheet (length column);
+  column = readColumn sheet column;
+}
 
 abbrev pub promisedMarks : List ℕ → List ℕ
 promisedMarks sheet = marksOf sheet
