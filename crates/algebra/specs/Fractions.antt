@@ -3,13 +3,8 @@
 --   Fraction, _over_        a number over another
 --   plus q r, sumOf n f     two fractions, and n of them, added up
 --   Is q m                  a fraction is the whole number m
---   shared                  fractions that have a common denominator, added up: their numerators over it
-use mathlib.Core.Path.{_≡_, ap, _∙_}
-use Prim.Native.Nat.{ℕ, zero, suc, _+_, _*_, _<_, _≤_}
-use native.Mathlib.Nat.{mul-comm, mul-pos, zero-mul, mul-right-comm, eq-of-mul-eq-mul-right}
-use native.Mathlib.Omega.{arith}
-use lib.Dec.{lit<}
-use Rattle.algebra.specs.Naturals.{Σℕ, factor-pos}
+use mathlib.Core.Path.{_≡_}
+use Prim.Native.Nat.{ℕ, zero, suc, _+_, _*_, _<_}
 
 pub record Fraction : Type 0 where
   pub top : ℕ
@@ -31,33 +26,3 @@ sumOf (suc n) f = plus (sumOf n f) (f n)
 pub record Is (q : Fraction) (m : ℕ) : Type 0 where
   pub bottom : 0 < q .bottom
   pub top : q .top ≡ m * q .bottom
-
--- ---- fractions with a common denominator d: w e times the bottom of the fraction e
-
-one-more : (s u a b w d m : ℕ) → b * w ≡ d → s * d ≡ m * u → (s * b + a * u) * d ≡ (m + a * w) * (u * b)
-one-more s u a b w d m e h =
-    let first : s * d * b ≡ m * u * b = ap (λ (x : ℕ). x * b) h in
-    let second : a * u * (b * w) ≡ a * u * d = ap (λ (x : ℕ). a * u * x) e in
-    omega (arith, first, second)
-
-module _ (n : ℕ) (f : ℕ → Fraction) (w : ℕ → ℕ) (d : ℕ) (some : 0 < d) (share : (e : ℕ) → e < n → f e .bottom * w e ≡ d) where
-  bottoms : (k : ℕ) → k ≤ n → 0 < sumOf k f .bottom
-  unfolding sumOf plus
-  bottoms zero h = lit< tt
-  bottoms (suc k) h = mul-pos (bottoms k (omega arith)) (factor-pos (f k .bottom) (w k) d (share k (omega arith)) some)
-
-  so-far : (k : ℕ) → k ≤ n → sumOf k f .top * d ≡ Σℕ k (λ e. f e .top * w e) * sumOf k f .bottom
-  unfolding sumOf plus Σℕ
-  so-far zero h = zero-mul d
-  so-far (suc k) h =
-      one-more (sumOf k f .top) (sumOf k f .bottom) (f k .top) (f k .bottom) (w k) d (Σℕ k (λ e. f e .top * w e))
-      (share k (omega arith)) (so-far k (omega arith))
-
-  pub shared : (m : ℕ) → Σℕ n (λ e. f e .top * w e) ≡ d * m → Is (sumOf n f) m
-  shared m h =
-      record {
-        bottom = bottoms n (omega arith);
-        top =
-            eq-of-mul-eq-mul-right d some (sumOf n f .top) (m * sumOf n f .bottom)
-            (so-far n (omega arith) ∙ rw h (rw (mul-comm d m) (mul-right-comm m d (sumOf n f .bottom))));
-      }

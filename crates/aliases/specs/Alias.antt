@@ -3,8 +3,8 @@
 --   baseWord k words e   the base word
 --   turnsOf, turns       how many of the replaced letters have sign 1, and whether the sign turns
 --   aliasValues p e      both, of a plan
---   aliasLines p e       the lines of the call besides those of the plan
---   aliasNumber p e      the lowest number that applies, 0 where the alias is given
+--   aliasRefusals p e       the refusals of the call besides those of the plan
+--   aliasRefused p e      the lowest number that applies, 0 where the alias is given
 --   aliasOutcome         the cases of the call's answer
 use mathlib.Core.Bool.{Bool, cond, _&&_}
 use mathlib.Core.List.{List, [], _∷_}
@@ -15,7 +15,7 @@ use Rattle.algebra.specs.Naturals.{Σℕ}
 use Rattle.plan.specs.declared.types.Plan.{Plan}
 use Rattle.aliases.specs.declared.types.Alias.{Alias}
 use Rattle.aliases.specs.declared.types.Alias.the-variants.{Reduced, Refused}
-use Rattle.plan.specs.Outcome.{Line, line, Outcome, given, refused}
+use Rattle.plan.specs.Outcome.{Refusal, refusal, Outcome, given, refused}
 use Rattle.words.specs.Words.{has, odd, beyond, combined}
 use Rattle.plan.specs.Plan.{addedWords, addedSigns, allLetters}
 use Rattle.plan.specs.Check.{withPlan}
@@ -36,11 +36,11 @@ abbrev pub aliasValues : Plan → ℕ → ℕ × Bool
 aliasValues p e = (baseWord (p .k) (addedWords p) e, turns (p .k) (addedSigns p) e)
 
 -- 9: "estimate, alias or run call asked at three levels"; 10: "alias letter [..] not in the plan"
-abbrev pub aliasLines : Plan → ℕ → List Line
-aliasLines p e = line 9 (eqb (p .levels) 3) ∷ line 10 (beyond (allLetters p) e) ∷ []
+abbrev pub aliasRefusals : Plan → ℕ → List Refusal
+aliasRefusals p e = refusal 9 (eqb (p .levels) 3) ∷ refusal 10 (beyond (allLetters p) e) ∷ []
 
-unfoldable pub aliasNumber : Plan → ℕ → ℕ
-aliasNumber p e = withPlan p (aliasLines p e)
+unfoldable pub aliasRefused : Plan → ℕ → ℕ
+aliasRefused p e = withPlan p (aliasRefusals p e)
 
 abbrev pub aliasOutcome : Alias → Outcome (ℕ × Bool)
 aliasOutcome (Reduced word turned) = given (word, turned)

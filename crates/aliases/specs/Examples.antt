@@ -1,7 +1,7 @@
 -- "k = 3, D = ABC: AD reduces to BC, unturned; with sign 1, turned.", and the numbers 9 and 10, computed over the definitions.
 --
 --   AD-is-BC, AD-turned    the starred run, with either sign
---   line-9, line-10        "levels 3, k = 1"; a letter that the plan does not have
+--   refusal-9, refusal-10        "levels 3, k = 1"; a letter that the plan does not have
 use mathlib.Core.Path.{_≡_, refl}
 use mathlib.Core.Bool.{Bool, true, false}
 use mathlib.Core.List.{[], _∷_}
@@ -15,25 +15,25 @@ use Rattle.plan.specs.declared.types.Plan.{Plan}
 use Rattle.plan.specs.Examples.{plan, ABC, AD, BC}
 use Rattle.plan.specs.Outcome.{Outcome, given, refused, outcome}
 use Rattle.plan.specs.Plan.{someCombination, combinesTo}
-use Rattle.plan.specs.Check.{badLevels, badFactors, badCounts, badWord, badSign, badWords, dependent, factorWord, losesFactor, planNumber, withPlan}
-use Rattle.aliases.specs.Alias.{baseWord, turnsOf, turns, aliasNumber, aliasValues}
+use Rattle.plan.specs.Check.{badLevels, badFactors, badCounts, badWord, badSign, badWords, dependent, factorWord, losesFactor, planRefused, withPlan}
+use Rattle.aliases.specs.Alias.{baseWord, turnsOf, turns, aliasRefused, aliasValues}
 
 abbrev answer : Plan → ℕ → Outcome (ℕ × Bool)
-answer p e = outcome (aliasNumber p e) (aliasValues p e)
+answer p e = outcome (aliasRefused p e) (aliasValues p e)
 
 AD-is-BC : answer (plan 2 3 (ABC ∷ []) (0 ∷ []) []) AD ≡ given (BC, false)
-unfolding aliasNumber withPlan planNumber badLevels badFactors mostTwo mostThree badCounts badWords badWord badSign repeated dependent losesFactor factorWord any among beyond letters combined times someCombination combinesTo some bits Σℕ baseWord turns turnsOf
+unfolding aliasRefused withPlan planRefused badLevels badFactors mostTwo mostThree badCounts badWords badWord badSign repeated dependent losesFactor factorWord any among beyond letters combined times someCombination combinesTo some bits Σℕ baseWord turns turnsOf
 AD-is-BC = refl
 
 AD-turned : answer (plan 2 3 (ABC ∷ []) (1 ∷ []) []) AD ≡ given (BC, true)
-unfolding aliasNumber withPlan planNumber badLevels badFactors mostTwo mostThree badCounts badWords badWord badSign repeated dependent losesFactor factorWord any among beyond letters combined times someCombination combinesTo some bits Σℕ baseWord turns turnsOf
+unfolding aliasRefused withPlan planRefused badLevels badFactors mostTwo mostThree badCounts badWords badWord badSign repeated dependent losesFactor factorWord any among beyond letters combined times someCombination combinesTo some bits Σℕ baseWord turns turnsOf
 AD-turned = refl
 
-line-9 : answer (plan 3 1 [] [] []) 0 ≡ refused 9
-unfolding aliasNumber withPlan planNumber badLevels badFactors mostTwo mostThree badCounts badWords badWord badSign repeated dependent losesFactor factorWord any among beyond letters combined times someCombination combinesTo some bits Σℕ baseWord turns turnsOf
-line-9 = refl
+refusal-9 : answer (plan 3 1 [] [] []) 0 ≡ refused 9
+unfolding aliasRefused withPlan planRefused badLevels badFactors mostTwo mostThree badCounts badWords badWord badSign repeated dependent losesFactor factorWord any among beyond letters combined times someCombination combinesTo some bits Σℕ baseWord turns turnsOf
+refusal-9 = refl
 
 -- E, where the plan ends with D
-line-10 : answer (plan 2 3 (ABC ∷ []) (0 ∷ []) []) 16 ≡ refused 10
-unfolding aliasNumber withPlan planNumber badLevels badFactors mostTwo mostThree badCounts badWords badWord badSign repeated dependent losesFactor factorWord any among beyond letters combined times someCombination combinesTo some bits Σℕ baseWord turns turnsOf
-line-10 = refl
+refusal-10 : answer (plan 2 3 (ABC ∷ []) (0 ∷ []) []) 16 ≡ refused 10
+unfolding aliasRefused withPlan planRefused badLevels badFactors mostTwo mostThree badCounts badWords badWord badSign repeated dependent losesFactor factorWord any among beyond letters combined times someCombination combinesTo some bits Σℕ baseWord turns turnsOf
+refusal-10 = refl

@@ -12,7 +12,7 @@ use words::has_beyond;
 use words::has_letter;
 ghost use Rattle.words.specs.Words.{beyond};
 ghost use Rattle.plan.specs.Outcome.{outcome};
-ghost use Rattle.aliases.specs.Alias.{turnsOf, baseWord, turns, aliasNumber, aliasValues, aliasOutcome};
+ghost use Rattle.aliases.specs.Alias.{turnsOf, baseWord, turns, aliasRefused, aliasValues, aliasOutcome};
 
 // The base letters of an effect.
 fn base_letters(effect: u16, k: usize) -> u16
@@ -63,7 +63,7 @@ fn reduced(effect: u16, k: usize, added: usize, words: [u16; 6], signs: [u8; 6])
 
 // The base word that the effect reduces to, and whether the sign turns.
 pub fn alias(p: Plan, effect: u16) -> Alias
-    ensures { λ r. ⌜ aliasOutcome r ≡ outcome (aliasNumber p effect) (aliasValues p effect) ⌝ }
+    ensures { λ r. ⌜ aliasOutcome r ≡ outcome (aliasRefused p effect) (aliasValues p effect) ⌝ }
 {
     let n = lowest(p);
     if n != 0 {

@@ -15,15 +15,16 @@ use lib.ListN.{length, replicate}
 use lib.Signed.{mag}
 use mir.Syntax.{w32, w64}
 use mir.Val.{SFits, toZ, ofZ}
-use Rattle.algebra.specs.Size.{natAbs-*ℤ, fits, wrap, back, widened}
+use Rattle.algebra.specs.Laws.Size.{natAbs-*ℤ}
+use Rattle.algebra.specs.Laws.Machine.{fits, wrap, back, widened}
 use Rattle.contrasts.specs.Columns.{read}
 use Rattle.contrasts.specs.Limits.{readingLimit}
-use Rattle.contrasts.specs.Tables.{three, ofLevels}
-use Rattle.contrasts.specs.Totals.{rounds}
+use Rattle.contrasts.specs.Factors.{three, ofLevels}
+use Rattle.contrasts.specs.Checks.{rounds}
 use Rattle.contrasts.specs.Laws.Kinds.{some-levels, the-three, as-two, as-three}
 use Rattle.contrasts.specs.Laws.TwoLevels.{rounds-two}
-use Rattle.columns.specs.Copies.{copied}
-use Rattle.anova.specs.Ready.{Rounds, Checkable}
+use Rattle.columns.specs.Inner.Copies.{copied}
+use Rattle.anova.specs.Inner.Ready.{Rounds, Checkable}
 
 -- the one fact on the limit
 largest : 1024 * readingLimit < 2 ^ 63

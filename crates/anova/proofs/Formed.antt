@@ -14,10 +14,13 @@ use borrow.Author.Tests.{lt-ltb}
 use lib.Dec.{ltb}
 use lib.IntN.{ℤ, pos}
 use lib.ListN.{length, getD}
-use Rattle.algebra.specs.Naturals.{Σℕ, Σℕ-cong}
-use Rattle.algebra.specs.Sorted.{sum-cong, sorted-cong}
-use Rattle.algebra.specs.Sum.{Σ, Σ-cong}
-use Rattle.algebra.specs.Tab.{tab, length-tab, getD-tab, tab-cong}
+use Rattle.algebra.specs.Naturals.{Σℕ}
+use Rattle.algebra.specs.Laws.Naturals.{Σℕ-cong}
+use Rattle.algebra.specs.Laws.Sorted.{sum-cong, sorted-cong}
+use Rattle.algebra.specs.Sum.{Σ}
+use Rattle.algebra.specs.Laws.Sum.{Σ-cong}
+use Rattle.algebra.specs.Tab.{tab}
+use Rattle.algebra.specs.Laws.Tab.{length-tab, getD-tab, tab-cong}
 use Rattle.contrasts.specs.Columns.{read, totalsOf}
 use Rattle.contrasts.specs.Rows.{rowOf}
 use Rattle.contrasts.specs.Totals.{total, denominator, divisor*, weight*, numeratorOf, numerator, squared}
@@ -31,15 +34,16 @@ use Rattle.plan.specs.Plan.{factorsOf, runsOf}
 use Rattle.plan.specs.Laws.Answers.{written-new}
 use Rattle.plan.specs.Laws.Sizes.{run-count, runs-few}
 use Rattle.columns.specs.Laws.Admitted.{admits}
-use Rattle.yates.specs.Calls.{totalsNumber, totalsColumn}
+use Rattle.yates.specs.Calls.{totalsRefused, totalsColumn}
 use Rattle.effects.specs.Effects.{effectRows, effectDivisors}
 use Rattle.rows.specs.Kinds.{rowsIn, kindOf, codeOf, kindIn, kindsOf}
-use Rattle.rows.specs.Laws.{four-kinds, code-in, rows-few}
+use Rattle.rows.specs.Laws.Kinds.{four-kinds, code-in}
+use Rattle.rows.specs.Laws.Rows.{rows-few}
 use Rattle.anova.specs.declared.walks.Sums.{Sums}
 use Rattle.anova.specs.Laws.Admitted.{rows-power, limit-fits, within-limit}
-use Rattle.anova.specs.Ready.{Walkable, TableReady}
+use Rattle.anova.specs.Inner.Ready.{Walkable, TableReady}
 use Rattle.anova.specs.Table.{sourceOf, rowsOf}
-use Rattle.anova.specs.Walk.{walkNumerator, walkRow, walkKind, rowsAfter, numeratorsAfter, degreesAfter, zeros, sumsOf}
+use Rattle.anova.specs.Inner.Walk.{walkNumerator, walkRow, walkKind, rowsAfter, numeratorsAfter, degreesAfter, zeros, sumsOf}
 
 -- ---- the lists that the walk is handed
 
@@ -58,7 +62,7 @@ module _ {p : Plan} {readings : List ℤ} {marks : List ℕ} {totals : List ℤ}
   unfolding totalsColumn
   totals-made e =
       e
-      ∙ sym (written-new (totalsNumber p readings totals) (totalsOf (factorsOf p) readings) totals
+      ∙ sym (written-new (totalsRefused p readings totals) (totalsOf (factorsOf p) readings) totals
       (admits (record { plan = a .plan; whole = a .whole; same = a .same; within = a .within })))
 
   -- ---- the walk

@@ -1,6 +1,6 @@
 -- What the table call refuses, as the code judges it.
 --
---   readings-wrong, totals-wrong, rows-not, by-marks    line 11, length by length, of an accepted plan
+--   readings-wrong, totals-wrong, rows-not, by-marks    refusal 11, length by length, of an accepted plan
 --   table-stopped, table-completed                        a call that is refused, and one that is not
 use mathlib.Core.Path.{_≡_, refl, _∙_, ap}
 use mathlib.Core.Bool.{true, not}
@@ -10,19 +10,19 @@ use lib.Dec.{eqb}
 use lib.IntN.{ℤ}
 use Rattle.contrasts.specs.Columns.{totalsOf}
 use Rattle.plan.specs.declared.types.Plan.{Plan}
-use Rattle.plan.specs.Check.{planNumber, runCount}
+use Rattle.plan.specs.Check.{planRefused, runCount}
 use Rattle.plan.specs.Laws.Answers.{stopped, completed}
 use Rattle.plan.specs.Outcome.{Outcome, given, refused, outcome}
 use Rattle.plan.specs.Plan.{factorsOf}
 use Rattle.columns.specs.Laws.Lengths.{wrong, right}
 use Rattle.rows.specs.Kinds.{rowCount}
-use Rattle.rows.specs.Laws.{rows-wrong, rows-right, rows-by}
+use Rattle.rows.specs.Laws.Rows.{rows-wrong, rows-right, rows-by}
 use Rattle.anova.specs.declared.types.Figures.{Figures}
-use Rattle.anova.specs.Table.{wrongLengths, tableNumber, tableFigures, tableTotals, tableRows, rowsOf}
+use Rattle.anova.specs.Table.{wrongLengths, tableRefused, tableFigures, tableTotals, tableRows, rowsOf}
 
--- ---- line 11
+-- ---- refusal 11
 
-module _ (p : Plan) (ok : planNumber p ≡ 0) {n : ℕ} (runs : n ≡ runCount p) (readings marks totals rows : ℕ) where
+module _ (p : Plan) (ok : planRefused p ≡ 0) {n : ℕ} (runs : n ≡ runCount p) (readings marks totals rows : ℕ) where
   pub readings-wrong : (readings ≡ n → ⊥) → true ≡ wrongLengths p readings marks totals rows
   unfolding wrongLengths
   readings-wrong h = rw (wrong p ok runs readings h) refl
@@ -47,16 +47,16 @@ module _ (p : Plan) (readings : List ℤ) (marks : List ℕ) (totals : List ℤ)
   -- what the call promises of its answer and of the two slices
   abbrev Told : Outcome Figures → List ℤ → List ℕ → Type 0
   Told answer ts rs =
-      (answer ≡ outcome (tableNumber p readings marks totals rows) (tableFigures p readings marks))
+      (answer ≡ outcome (tableRefused p readings marks totals rows) (tableFigures p readings marks))
       × ((ts ≡ tableTotals p readings marks totals rows) × (rs ≡ tableRows p readings marks totals rows))
 
-  pub table-stopped : {n : ℕ} → n ≡ tableNumber p readings marks totals rows → (n ≡ 0 → ⊥) → Told (refused n) totals rows
+  pub table-stopped : {n : ℕ} → n ≡ tableRefused p readings marks totals rows → (n ≡ 0 → ⊥) → Told (refused n) totals rows
   unfolding tableTotals tableRows
   table-stopped e h =
       let s = stopped (tableFigures p readings marks) (totalsOf (factorsOf p) readings) totals e h in
       (s .0, (s .1, stopped (tableFigures p readings marks) (rowsOf p readings) rows e h .1))
 
-  pub table-completed : tableNumber p readings marks totals rows ≡ 0 → {figures : Figures} {ts : List ℤ} {rs : List ℕ} → figures ≡ tableFigures p readings marks
+  pub table-completed : tableRefused p readings marks totals rows ≡ 0 → {figures : Figures} {ts : List ℤ} {rs : List ℕ} → figures ≡ tableFigures p readings marks
       → ts ≡ totalsOf (factorsOf p) readings → rs ≡ rowsOf p readings → Told (given figures) ts rs
   unfolding tableTotals tableRows
   table-completed z f t r =

@@ -18,12 +18,13 @@ use borrow.Author.Tests.{eq-eqb, ne-eqb}
 use lib.Dec.{eqb}
 use lib.IntN.{ℤ}
 use lib.ListN.{length, getD, replicate}
-use Rattle.algebra.specs.Naturals.{mul-pow}
-use Rattle.algebra.specs.Size.{wrap, back}
-use Rattle.algebra.specs.Tab.{getD-tab}
+use Rattle.algebra.specs.Laws.Products.{mul-pow}
+use Rattle.algebra.specs.Laws.Machine.{wrap, back}
+use Rattle.algebra.specs.Laws.Tab.{getD-tab}
 use Rattle.contrasts.specs.Columns.{read}
-use Rattle.contrasts.specs.Tables.{ofLevels}
-use Rattle.contrasts.specs.Totals.{total, denominator, squared, rounds}
+use Rattle.contrasts.specs.Factors.{ofLevels}
+use Rattle.contrasts.specs.Totals.{total, denominator, squared}
+use Rattle.contrasts.specs.Checks.{rounds}
 use Rattle.contrasts.specs.Laws.Divisors.{denominator-pos}
 use Rattle.contrasts.specs.Laws.Squares.{check-within}
 use Rattle.contrasts.specs.Laws.ThreeLevels.{denominator-three}
@@ -35,14 +36,15 @@ use Rattle.plan.specs.Laws.Sizes.{as-power, plan-kind, factors-two, factors-thr
 use Rattle.contrasts.specs.Limits.{mostThree}
 use Rattle.contrasts.specs.Laws.Kinds.{the-three}
 use Rattle.rows.specs.Kinds.{rowsIn, Kind, meanRow, blocksRow, errorRow, keptRow, codeOf, kindIn}
-use Rattle.rows.specs.Laws.{four-kinds, kind-in, rows-few}
+use Rattle.rows.specs.Laws.Kinds.{four-kinds, kind-in}
+use Rattle.rows.specs.Laws.Rows.{rows-few}
 use Rattle.anova.specs.declared.types.Source.{Source}
 use Rattle.anova.specs.declared.types.Figures.{Figures}
 use Rattle.anova.specs.declared.walks.Sums.{Sums}
 use Rattle.anova.specs.Laws.Admitted.{within-limit, limit-fits}
-use Rattle.anova.specs.Ready.{SquaresFit, Checkable, TableReady}
+use Rattle.anova.specs.Inner.Ready.{SquaresFit, Checkable, TableReady}
 use Rattle.anova.specs.Table.{sourceOf, totalSource, checksOf, tableFigures}
-use Rattle.anova.specs.Walk.{squaresOf, sumsOf}
+use Rattle.anova.specs.Inner.Walk.{squaresOf, sumsOf}
 
 at-most-six : (k : ℕ) → k ≤ mostThree → k ≤ 6
 unfolding mostThree

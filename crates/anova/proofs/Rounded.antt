@@ -18,18 +18,18 @@ use borrow.Author.Tests.{lt-ltb, le-ltb}
 use lib.Dec.{ltb, lit<, lit≤}
 use lib.IntN.{ℤ, pos, natAbs, _+ℤ_, _-ℤ_, _*ℤ_}
 use lib.ListN.{length, set, replicate}
-use Rattle.algebra.specs.Fill.{Filled, filled-none, filled-long, filled-old, filled-more}
-use Rattle.algebra.specs.Tab.{length-tab, getD-tab}
+use Rattle.algebra.specs.Laws.Fill.{Filled, filled-none, filled-long, filled-old, filled-more}
+use Rattle.algebra.specs.Laws.Tab.{length-tab, getD-tab}
 use Rattle.contrasts.specs.Columns.{read, AllWithin}
 use Rattle.contrasts.specs.Limits.{readingLimit, valueLimit}
-use Rattle.contrasts.specs.Tables.{three}
-use Rattle.contrasts.specs.Totals.{round, rounds}
+use Rattle.contrasts.specs.Factors.{three}
+use Rattle.contrasts.specs.Checks.{round, rounds}
 use Rattle.contrasts.specs.Laws.CheckSum.{rounds-cong}
-use Rattle.contrasts.specs.Laws.Lists.{within-tab}
+use Rattle.contrasts.specs.Laws.Within.{within-tab}
 use Rattle.contrasts.specs.Laws.ThreeLevels.{round-three, round-bound, size-three}
-use Rattle.contrasts.specs.Laws.Turns.{Small}
-use Rattle.anova.specs.Ready.{Sets, Rounds}
-use Rattle.anova.specs.Walk.{afterRound}
+use Rattle.contrasts.specs.Laws.Small.{Small}
+use Rattle.anova.specs.Inner.Ready.{Sets, Rounds}
+use Rattle.anova.specs.Inner.Walk.{afterRound}
 
 -- ---- one round
 

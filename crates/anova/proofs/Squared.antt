@@ -10,10 +10,11 @@ use native.Mathlib.Numerals.{add-one}
 use native.Mathlib.Omega.{arith}
 use lib.IntN.{ℤ, natAbs}
 use lib.ListN.{length}
-use Rattle.algebra.specs.Naturals.{Σℕ, Σℕ-term, Σℕ-shorter}
+use Rattle.algebra.specs.Naturals.{Σℕ}
+use Rattle.algebra.specs.Laws.Naturals.{Σℕ-term, Σℕ-shorter}
 use Rattle.contrasts.specs.Columns.{read}
-use Rattle.anova.specs.Ready.{Squarable, SquaresFit}
-use Rattle.anova.specs.Walk.{squaresOf}
+use Rattle.anova.specs.Inner.Ready.{Squarable, SquaresFit}
+use Rattle.anova.specs.Inner.Walk.{squaresOf}
 
 abbrev squareAt : List ℤ → ℕ → ℕ
 squareAt xs i = natAbs (read xs i) * natAbs (read xs i)

@@ -19,15 +19,16 @@ use lib.IntN.{ℤ, natAbs, _+ℤ_}
 use lib.ListN.{length, getD, set, replicate, getD-replicate}
 use mir.Syntax.{w64}
 use mir.Val.{SFits, toZ, ofZ}
-use Rattle.algebra.specs.Fill.{Filled, filled-none, filled-long, filled-more, filled-all}
-use Rattle.algebra.specs.Naturals.{Σℕ-le, Σℕ-term, Σℕ-shorter, Σℕ-ones}
-use Rattle.algebra.specs.Size.{natAbs-Σ, size-below, fits, wrap, back}
-use Rattle.algebra.specs.Sorted.{sorted-none, sorted-more, sorted-at, sum-next}
+use Rattle.algebra.specs.Laws.Fill.{Filled, filled-none, filled-long, filled-more, filled-all}
+use Rattle.algebra.specs.Laws.Naturals.{Σℕ-le, Σℕ-term, Σℕ-shorter, Σℕ-ones}
+use Rattle.algebra.specs.Laws.Size.{natAbs-Σ, size-below}
+use Rattle.algebra.specs.Laws.Machine.{fits, wrap, back}
+use Rattle.algebra.specs.Laws.Sorted.{sorted-none, sorted-more, sorted-at, sum-next}
 use Rattle.algebra.specs.Sum.{Σ}
-use Rattle.algebra.specs.Tab.{length-tab, getD-tab}
+use Rattle.algebra.specs.Laws.Tab.{length-tab, getD-tab}
 use Rattle.contrasts.specs.Columns.{read}
-use Rattle.anova.specs.Ready.{Weighable, Walkable}
-use Rattle.anova.specs.Walk.{walkNumerator, walkRow, walkKind, rowsAfter, numeratorsAfter, degreesAfter, zeros}
+use Rattle.anova.specs.Inner.Ready.{Weighable, Walkable}
+use Rattle.anova.specs.Inner.Walk.{walkNumerator, walkRow, walkKind, rowsAfter, numeratorsAfter, degreesAfter, zeros}
 
 -- ---- rows of 0
 

@@ -3,8 +3,8 @@
 --   four-figures     readings 3, 5, 4, 8 with marks 0, 0, 0, 1
 --   three-figures    two three-level factors, the interaction pooled
 --   block-figures    eight readings in two blocks, the block word being ABC
---   lengths          line 11, slice by slice
---   small-inputs     lines 12 and 13, and the lowest number where several apply
+--   lengths          refusal 11, slice by slice
+--   small-inputs     refusals 12 and 13, and the lowest number where several apply
 --   unchanged        a table that is refused
 use mathlib.Core.Path.{_≡_, refl}
 use mathlib.Core.List.{List, [], _∷_}
@@ -17,17 +17,19 @@ use Rattle.algebra.specs.Sorted.{sumAt}
 use Rattle.algebra.specs.Sum.{Σ}
 use Rattle.contrasts.specs.Limits.{readingLimit, mostTwo, mostThree}
 use Rattle.contrasts.specs.Rows.{rowOf, degreesOf}
-use Rattle.contrasts.specs.Tables.{two, three, neg}
-use Rattle.contrasts.specs.Totals.{size, coef*, total, divisor*, denominator, weight*, numeratorOf, squared, checkWeight, round, rounds}
+use Rattle.contrasts.specs.Factors.{two, three}
+use Rattle.contrasts.specs.Codings.{neg}
+use Rattle.contrasts.specs.Totals.{size, coef*, total, divisor*, denominator, weight*, numeratorOf, squared}
+use Rattle.contrasts.specs.Checks.{checkWeight, round, rounds}
 use Rattle.words.specs.Words.{letters, beyond, times, combined, any, among, repeated}
 use Rattle.plan.specs.declared.types.Plan.{Plan}
 use Rattle.plan.specs.Examples.{plan, ABC, AD}
 use Rattle.plan.specs.Plan.{factorsOf, someCombination, combinesTo}
-use Rattle.plan.specs.Check.{badLevels, badFactors, badCounts, badWord, badSign, badWords, dependent, factorWord, losesFactor, planNumber, withPlan}
-use Rattle.columns.specs.Lines.{wrongLength, isBeyond, anyBeyond}
+use Rattle.plan.specs.Check.{badLevels, badFactors, badCounts, badWord, badSign, badWords, dependent, factorWord, losesFactor, planRefused, withPlan}
+use Rattle.columns.specs.Refusals.{wrongLength, isBeyond, anyBeyond}
 use Rattle.rows.specs.Kinds.{wrongRows, kindByMark, kindOf, badMark, badMarks}
 use Rattle.anova.specs.declared.types.Figures.{Figures}
-use Rattle.anova.specs.Table.{wrongLengths, tableNumber, sourceOf, totalSource, checksOf, tableFigures, tableTotals, tableRows}
+use Rattle.anova.specs.Table.{wrongLengths, tableRefused, sourceOf, totalSource, checksOf, tableFigures, tableTotals, tableRows}
 
 -- degrees and numerators of mean, kept, blocks, error and total, after the denominator; then both check numbers
 abbrev numbers : Figures → List ℤ
@@ -69,14 +71,14 @@ abbrev noMarks : List ℕ
 noMarks = 0 ∷ 0 ∷ 0 ∷ 0 ∷ []
 
 -- "k = 2, 3 readings", and so of marks, totals and rows
-lengths : tableNumber four (pos 3 ∷ pos 5 ∷ pos 4 ∷ []) noMarks readings noMarks
-    ∷ tableNumber four readings (0 ∷ 0 ∷ 0 ∷ []) readings noMarks
-    ∷ tableNumber four readings noMarks (pos 3 ∷ pos 5 ∷ pos 4 ∷ []) noMarks
-    ∷ tableNumber four readings noMarks readings (0 ∷ 0 ∷ 0 ∷ [])
-    ∷ tableNumber four readings noMarks readings noMarks
+lengths : tableRefused four (pos 3 ∷ pos 5 ∷ pos 4 ∷ []) noMarks readings noMarks
+    ∷ tableRefused four readings (0 ∷ 0 ∷ 0 ∷ []) readings noMarks
+    ∷ tableRefused four readings noMarks (pos 3 ∷ pos 5 ∷ pos 4 ∷ []) noMarks
+    ∷ tableRefused four readings noMarks readings (0 ∷ 0 ∷ 0 ∷ [])
+    ∷ tableRefused four readings noMarks readings noMarks
     ∷ []
     ≡ 11 ∷ 11 ∷ 11 ∷ 11 ∷ 0 ∷ []
-unfolding tableNumber wrongLengths wrongRows wrongLength anyBeyond isBeyond badMarks badMark withPlan planNumber badLevels badFactors mostTwo mostThree badCounts badWords badWord badSign repeated dependent losesFactor factorWord any among beyond letters combined times someCombination combinesTo some bits Σℕ readingLimit factorsOf size two
+unfolding tableRefused wrongLengths wrongRows wrongLength anyBeyond isBeyond badMarks badMark withPlan planRefused badLevels badFactors mostTwo mostThree badCounts badWords badWord badSign repeated dependent losesFactor factorWord any among beyond letters combined times someCombination combinesTo some bits Σℕ readingLimit factorsOf size two
 lengths = refl
 
 -- "reading 100,001", and as much below 0; "mark 1 on row 0", a mark of 2, mark 1 on BCD, which AD and ABC combine to; then 11 and 12, 12 and 13, and 2 and all of these
@@ -92,19 +94,19 @@ sixteen = pos 0 ∷ pos 0 ∷ pos 0 ∷ pos 0 ∷ pos 0 ∷ pos 0 ∷ pos 0 ∷ 
 abbrev onBCD : List ℕ
 onBCD = 0 ∷ 0 ∷ 0 ∷ 0 ∷ 0 ∷ 0 ∷ 0 ∷ 0 ∷ 0 ∷ 0 ∷ 0 ∷ 0 ∷ 0 ∷ 0 ∷ 1 ∷ 0 ∷ []
 
-small-inputs : tableNumber four large noMarks readings noMarks
-    ∷ tableNumber four low noMarks readings noMarks
-    ∷ tableNumber four readings (1 ∷ 0 ∷ 0 ∷ 0 ∷ []) readings noMarks
-    ∷ tableNumber four readings (0 ∷ 0 ∷ 2 ∷ 0 ∷ []) readings noMarks
-    ∷ tableNumber (plan 2 4 [] [] (AD ∷ ABC ∷ [])) sixteen onBCD sixteen onBCD
-    ∷ tableNumber four large noMarks readings []
-    ∷ tableNumber four large (1 ∷ 0 ∷ 0 ∷ 0 ∷ []) readings noMarks
-    ∷ tableNumber (plan 4 2 [] [] []) large (1 ∷ []) readings []
+small-inputs : tableRefused four large noMarks readings noMarks
+    ∷ tableRefused four low noMarks readings noMarks
+    ∷ tableRefused four readings (1 ∷ 0 ∷ 0 ∷ 0 ∷ []) readings noMarks
+    ∷ tableRefused four readings (0 ∷ 0 ∷ 2 ∷ 0 ∷ []) readings noMarks
+    ∷ tableRefused (plan 2 4 [] [] (AD ∷ ABC ∷ [])) sixteen onBCD sixteen onBCD
+    ∷ tableRefused four large noMarks readings []
+    ∷ tableRefused four large (1 ∷ 0 ∷ 0 ∷ 0 ∷ []) readings noMarks
+    ∷ tableRefused (plan 4 2 [] [] []) large (1 ∷ []) readings []
     ∷ []
     ≡ 12 ∷ 12 ∷ 13 ∷ 13 ∷ 13 ∷ 11 ∷ 12 ∷ 2 ∷ []
-unfolding tableNumber wrongLengths wrongRows wrongLength anyBeyond isBeyond badMarks badMark withPlan planNumber badLevels badFactors mostTwo mostThree badCounts badWords badWord badSign repeated dependent losesFactor factorWord any among beyond letters combined times someCombination combinesTo some bits Σℕ readingLimit factorsOf size two
+unfolding tableRefused wrongLengths wrongRows wrongLength anyBeyond isBeyond badMarks badMark withPlan planRefused badLevels badFactors mostTwo mostThree badCounts badWords badWord badSign repeated dependent losesFactor factorWord any among beyond letters combined times someCombination combinesTo some bits Σℕ readingLimit factorsOf size two
 small-inputs = refl
 
 unchanged : (tableTotals four readings (1 ∷ 0 ∷ 0 ∷ 0 ∷ []) readings noMarks ≡ readings) × (tableRows four readings (1 ∷ 0 ∷ 0 ∷ 0 ∷ []) readings noMarks ≡ noMarks)
-unfolding tableTotals tableRows tableNumber wrongLengths wrongRows wrongLength anyBeyond isBeyond badMarks badMark withPlan planNumber badLevels badFactors mostTwo mostThree badCounts badWords badWord badSign repeated dependent losesFactor factorWord any among beyond letters combined times someCombination combinesTo some bits Σℕ readingLimit factorsOf size two
+unfolding tableTotals tableRows tableRefused wrongLengths wrongRows wrongLength anyBeyond isBeyond badMarks badMark withPlan planRefused badLevels badFactors mostTwo mostThree badCounts badWords badWord badSign repeated dependent losesFactor factorWord any among beyond letters combined times someCombination combinesTo some bits Σℕ readingLimit factorsOf size two
 unchanged = (refl, refl)

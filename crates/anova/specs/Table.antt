@@ -1,8 +1,8 @@
 -- The table call: its number, its figures, and the columns that it leaves.
 --
---   wrongLengths               line 11, of all four slices
---   tableLines                 the lines of the call besides those of the plan
---   tableNumber                the lowest number that applies, 0 where the table is made
+--   wrongLengths               refusal 11, of all four slices
+--   tableRefusals                 the refusals of the call besides those of the plan
+--   tableRefused                the lowest number that applies, 0 where the table is made
 --   sourceOf p xs marks c      degrees and numerator of the rows of the kind c
 --   totalSource p xs           those of the total
 --   checksOf p xs              both check numbers
@@ -21,12 +21,13 @@ use Rattle.algebra.specs.Tab.{tab}
 use Rattle.contrasts.specs.Columns.{read, totalsOf}
 use Rattle.contrasts.specs.Limits.{readingLimit}
 use Rattle.contrasts.specs.Rows.{degreesOf, rowNumerator}
-use Rattle.contrasts.specs.Totals.{total, denominator, squared, rounds}
+use Rattle.contrasts.specs.Totals.{total, denominator, squared}
+use Rattle.contrasts.specs.Checks.{rounds}
 use Rattle.plan.specs.declared.types.Plan.{Plan}
 use Rattle.plan.specs.Check.{withPlan}
-use Rattle.plan.specs.Outcome.{Line, line, Outcome, given, refused, written}
+use Rattle.plan.specs.Outcome.{Refusal, refusal, Outcome, given, refused, written}
 use Rattle.plan.specs.Plan.{factorsOf, runsOf}
-use Rattle.columns.specs.Lines.{wrongLength, anyBeyond}
+use Rattle.columns.specs.Refusals.{wrongLength, anyBeyond}
 use Rattle.rows.specs.Kinds.{rowsIn, wrongRows, Kind, meanRow, blocksRow, errorRow, keptRow, kindOf, same, badMarks}
 use Rattle.anova.specs.declared.types.Source.{Source}
 use Rattle.anova.specs.declared.types.Checks.{Checks}
@@ -41,15 +42,15 @@ unfoldable pub wrongLengths : Plan → ℕ → ℕ → ℕ → ℕ → Bool
 wrongLengths p readings marks totals rows = wrongLength p readings || (wrongLength p totals || (wrongRows p rows || wrongRows p marks))
 
 -- "the table 11, 12, 13", after the plan's own numbers
-abbrev pub tableLines : Plan → List ℤ → List ℕ → List ℤ → List ℕ → List Line
-tableLines p readings marks totals rows =
-    line 11 (wrongLengths p (length readings) (length marks) (length totals) (length rows))
-    ∷ line 12 (anyBeyond readingLimit readings)
-    ∷ line 13 (badMarks p marks)
+abbrev pub tableRefusals : Plan → List ℤ → List ℕ → List ℤ → List ℕ → List Refusal
+tableRefusals p readings marks totals rows =
+    refusal 11 (wrongLengths p (length readings) (length marks) (length totals) (length rows))
+    ∷ refusal 12 (anyBeyond readingLimit readings)
+    ∷ refusal 13 (badMarks p marks)
     ∷ []
 
-unfoldable pub tableNumber : Plan → List ℤ → List ℕ → List ℤ → List ℕ → ℕ
-tableNumber p readings marks totals rows = withPlan p (tableLines p readings marks totals rows)
+unfoldable pub tableRefused : Plan → List ℤ → List ℕ → List ℤ → List ℕ → ℕ
+tableRefused p readings marks totals rows = withPlan p (tableRefusals p readings marks totals rows)
 
 -- ---- the figures
 
@@ -95,10 +96,10 @@ rowsOf p readings = tab (rowsIn p) (rowNumerator (factorsOf p) (read readings))
 
 -- "writes N totals"
 unfoldable pub tableTotals : Plan → List ℤ → List ℕ → List ℤ → List ℕ → List ℤ
-tableTotals p readings marks totals rows = written (tableNumber p readings marks totals rows) (totalsOf (factorsOf p) readings) totals
+tableTotals p readings marks totals rows = written (tableRefused p readings marks totals rows) (totalsOf (factorsOf p) readings) totals
 
 unfoldable pub tableRows : Plan → List ℤ → List ℕ → List ℤ → List ℕ → List ℕ
-tableRows p readings marks totals rows = written (tableNumber p readings marks totals rows) (rowsOf p readings) rows
+tableRows p readings marks totals rows = written (tableRefused p readings marks totals rows) (rowsOf p readings) rows
 
 -- ---- the answer
 

@@ -4,11 +4,11 @@ ghost use lib.IntN.{pos, _+ℤ_, _-ℤ_, _*ℤ_};
 ghost use lib.ListN.{length, replicate};
 use columns::copy;
 ghost use Rattle.contrasts.specs.Columns.{read};
-ghost use Rattle.contrasts.specs.Tables.{three, ofLevels};
-ghost use Rattle.contrasts.specs.Totals.{rounds};
-ghost use Rattle.contrasts.specs.Laws.Turns.{Small};
-ghost use Rattle.anova.specs.Ready.{Sets, Rounds, Checkable};
-ghost use Rattle.anova.specs.Walk.{afterRound};
+ghost use Rattle.contrasts.specs.Factors.{three, ofLevels};
+ghost use Rattle.contrasts.specs.Checks.{rounds};
+ghost use Rattle.contrasts.specs.Laws.Small.{Small};
+ghost use Rattle.anova.specs.Inner.Ready.{Sets, Rounds, Checkable};
+ghost use Rattle.anova.specs.Inner.Walk.{afterRound};
 
 // 3 times first minus middle plus third.
 fn turned(first: i64, middle: i64, third: i64) -> i64

@@ -4,7 +4,7 @@
 //   Table, Figures, Source, Checks            what it answers
 //   estimate(p, effect, total), Estimate      of the crate `estimates`
 mod checks;
-mod numbers;
+mod refusals;
 mod squares;
 mod tables;
 mod types;

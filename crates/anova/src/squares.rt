@@ -2,8 +2,8 @@
 ghost use mathlib.Core.Path.{_≡_};
 ghost use Prim.Native.Nat.{_*_};
 ghost use lib.IntN.{natAbs};
-ghost use Rattle.anova.specs.Ready.{Squarable, SquaresFit};
-ghost use Rattle.anova.specs.Walk.{squaresOf};
+ghost use Rattle.anova.specs.Inner.Ready.{Squarable, SquaresFit};
+ghost use Rattle.anova.specs.Inner.Walk.{squaresOf};
 
 pub fn square(x: i64) -> u64
     requires { ⌜ Squarable x ⌝ }

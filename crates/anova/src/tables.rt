@@ -5,7 +5,7 @@ ghost use Prim.Native.Nat.{_*_, _<_, _≤_};
 ghost use lib.Dec.{eqb};
 ghost use lib.ListN.{getD};
 use super::checks::check_number;
-use super::numbers::table_number;
+use super::refusals::table_refused;
 use super::squares::sum_of_squares;
 use super::types::Checks;
 use super::types::Figures;
@@ -22,9 +22,9 @@ ghost use Rattle.contrasts.specs.Columns.{totalsOf};
 ghost use Rattle.contrasts.specs.Totals.{denominator};
 ghost use Rattle.plan.specs.Outcome.{outcome};
 ghost use Rattle.plan.specs.Plan.{factorsOf};
-ghost use Rattle.anova.specs.Ready.{TableReady};
-ghost use Rattle.anova.specs.Table.{tableNumber, tableFigures, tableTotals, tableRows, tableOutcome, rowsOf};
-ghost use Rattle.anova.specs.Walk.{sumsOf};
+ghost use Rattle.anova.specs.Inner.Ready.{TableReady};
+ghost use Rattle.anova.specs.Table.{tableRefused, tableFigures, tableTotals, tableRows, tableOutcome, rowsOf};
+ghost use Rattle.anova.specs.Inner.Walk.{sumsOf};
 
 const KEPT: usize = 0;
 
@@ -118,11 +118,11 @@ fn make(p: Plan, readings: &[i32], marks: &[u8], column: &mut [i64], rows: &mut 
 
 // The table of a plan's readings, with the rows that are marked pooled as error.
 pub fn table(p: Plan, readings: &[i32], marks: &[u8], totals: &mut [i64], rows: &mut [u64]) -> Table
-    ensures { λ r. ⌜ tableOutcome r ≡ outcome (tableNumber p (now (readings .entry)) (now (marks .entry)) (now (totals .entry)) (now (rows .entry))) (tableFigures p (now (readings .entry)) (now (marks .entry))) ⌝ }
+    ensures { λ r. ⌜ tableOutcome r ≡ outcome (tableRefused p (now (readings .entry)) (now (marks .entry)) (now (totals .entry)) (now (rows .entry))) (tableFigures p (now (readings .entry)) (now (marks .entry))) ⌝ }
     ensures { λ _. ⌜ now (totals .exit) ≡ tableTotals p (now (readings .entry)) (now (marks .entry)) (now (totals .entry)) (now (rows .entry)) ⌝ }
     ensures { λ _. ⌜ now (rows .exit) ≡ tableRows p (now (readings .entry)) (now (marks .entry)) (now (totals .entry)) (now (rows .entry)) ⌝ }
 {
-    let n = table_number(p, readings, marks, totals, rows);
+    let n = table_refused(p, readings, marks, totals, rows);
     if n != 0 {
         return Table::Refused(n);
     }

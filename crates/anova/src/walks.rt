@@ -6,8 +6,8 @@ ghost use lib.ListN.{length};
 use super::squares::square;
 ghost use Rattle.algebra.specs.Sum.{Σ};
 ghost use Rattle.contrasts.specs.Columns.{read};
-ghost use Rattle.anova.specs.Ready.{Weighable, Walkable};
-ghost use Rattle.anova.specs.Walk.{zeros, rowsAfter, numeratorsAfter, degreesAfter};
+ghost use Rattle.anova.specs.Inner.Ready.{Weighable, Walkable};
+ghost use Rattle.anova.specs.Inner.Walk.{zeros, rowsAfter, numeratorsAfter, degreesAfter};
 
 // Numerators and degrees of the four kinds of rows, by the kind's number, and the sum of the totals.
 pub struct Sums {

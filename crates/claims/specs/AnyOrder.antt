@@ -33,23 +33,27 @@ use Rattle.algebra.specs.Bits.{bits}
 use Rattle.algebra.specs.Naturals.{Σℕ}
 use Rattle.algebra.specs.Search.{some}
 use Rattle.algebra.specs.Sum.{Σ}
-use Rattle.algebra.specs.Tab.{tab, tabFrom, length-tab}
+use Rattle.algebra.specs.Tab.{tab, tabFrom}
+use Rattle.algebra.specs.Laws.Tab.{length-tab}
 use Rattle.contrasts.specs.Columns.{read, AllWithin, passOf, passesOf, totalsOf}
 use Rattle.contrasts.specs.Limits.{readingLimit, valueLimit, mostTwo, mostThree}
-use Rattle.contrasts.specs.Tables.{two, ofLevels, neg}
-use Rattle.contrasts.specs.Totals.{size, count, passAt, passFrom, passes}
+use Rattle.contrasts.specs.Factors.{two, ofLevels}
+use Rattle.contrasts.specs.Codings.{neg}
+use Rattle.contrasts.specs.Totals.{size}
+use Rattle.contrasts.specs.Passes.{count, passAt, passFrom, passes}
 use Rattle.contrasts.specs.Laws.Limits.{values-fit}
-use Rattle.contrasts.specs.Laws.Lists.{tab-read, passes-list, passes-more, order-list, within-tab, pass-past}
+use Rattle.contrasts.specs.Laws.Lists.{tab-read, passes-list, passes-more, order-list, pass-past}
+use Rattle.contrasts.specs.Laws.Within.{within-tab}
 use Rattle.plan.specs.declared.types.Plan.{Plan}
 use Rattle.words.specs.Words.{letters, beyond, times, combined, any, among, repeated}
-use Rattle.plan.specs.Check.{badLevels, badFactors, badCounts, badWord, badSign, badWords, dependent, factorWord, losesFactor, planNumber, withPlan}
+use Rattle.plan.specs.Check.{badLevels, badFactors, badCounts, badWord, badSign, badWords, dependent, factorWord, losesFactor, planRefused, withPlan}
 use Rattle.plan.specs.Examples.{plan}
 use Rattle.plan.specs.Outcome.{Outcome, given, refused, outcome}
 use Rattle.plan.specs.Plan.{factorsOf, runsOf, someCombination, combinesTo}
 use Rattle.plan.specs.Laws.Answers.{unwritten, written-new}
 use Rattle.plan.specs.Laws.Sizes.{plan-within}
-use Rattle.columns.specs.Lines.{wrongLength, isBeyond, anyBeyond}
-use Rattle.yates.specs.Calls.{passNumber, passColumn}
+use Rattle.columns.specs.Refusals.{wrongLength, isBeyond, anyBeyond}
+use Rattle.yates.specs.Calls.{passRefused, passColumn}
 use Rattle.yates.specs.Laws.Admitted.{PassAdmitted, pass-admits, pass-ten}
 
 -- "Each call works on what the last one left, and nobody else writes": `passColumn` is what the pass call promises to leave
@@ -73,9 +77,9 @@ call calls n = getD calls n 0
 abbrev pub found : Plan → List ℕ → List ℤ → ℕ → List ℤ
 found p calls column n = afterCalls p (take n calls) column
 
--- what call n answers: `passNumber` is the lowest number that applies to it, 0 where it is done
+-- what call n answers: `passRefused` is the lowest number that applies to it, 0 where it is done
 abbrev pub answer : Plan → List ℕ → List ℤ → ℕ → Outcome Unit
-answer p calls column n = outcome (passNumber p (call calls n) (found p calls column n)) tt
+answer p calls column n = outcome (passRefused p (call calls n) (found p calls column n)) tt
 
 -- "A call whose factor is not a base factor gives 10 ..; every other call in such a list is accepted"
 abbrev pub doneOrTen : Plan → ℕ → Outcome Unit
@@ -97,7 +101,7 @@ pub record InAnyOrder (p : Plan) (column : List ℤ) (calls : List ℕ) : Type 0
 -- for every accepted plan, every column of N readings within the limit, and every list of calls that names each base factor once
 abbrev pub AnyOrder : Type 0
 AnyOrder =
-    (p : Plan) → planNumber p ≡ 0
+    (p : Plan) → planRefused p ≡ 0
     → (column : List ℤ) → Readings p column
     → (calls : List ℕ) → EachOnce p calls
     → InAnyOrder p column calls
@@ -123,7 +127,7 @@ calls-of-four : (tab 4 (answer four fourCalls fourReadings) ≡ refused 10 ∷ g
     ∷ (pos 7 ∷ pos 13 ∷ neg 1 ∷ neg 3 ∷ [])
     ∷ (pos 20 ∷ neg 6 ∷ neg 4 ∷ pos 2 ∷ [])
     ∷ [])
-unfolding afterCalls passNumber passColumn passOf passFrom passAt withPlan planNumber badLevels badFactors mostTwo mostThree badCounts badWords badWord badSign repeated dependent losesFactor factorWord any among beyond letters combined times someCombination combinesTo some bits Σℕ Σ wrongLength anyBeyond isBeyond valueLimit factorsOf size two tabFrom
+unfolding afterCalls passRefused passColumn passOf passFrom passAt withPlan planRefused badLevels badFactors mostTwo mostThree badCounts badWords badWord badSign repeated dependent losesFactor factorWord any among beyond letters combined times someCombination combinesTo some bits Σℕ Σ wrongLength anyBeyond isBeyond valueLimit factorsOf size two tabFrom
 calls-of-four = (refl, refl)
 
 -- ---- the proof
@@ -135,7 +139,7 @@ after-more p [] xs n h = absurd (omega arith)
 after-more p (f ∷ fs) xs zero h = refl
 after-more p (f ∷ fs) xs (suc n) h = after-more p fs (passColumn p f xs) n (omega arith)
 
-module _ (p : Plan) (ok : planNumber p ≡ 0) (xs : List ℤ) (start : Readings p xs) (calls : List ℕ) (once : EachOnce p calls) where
+module _ (p : Plan) (ok : planRefused p ≡ 0) (xs : List ℤ) (start : Readings p xs) (calls : List ℕ) (once : EachOnce p calls) where
   -- the column after n passes, as a list and as a column
   passed : ℕ → List ℤ
   passed n = passesOf (factorsOf p) (take n calls) xs
@@ -166,12 +170,12 @@ module _ (p : Plan) (ok : planNumber p ≡ 0) (xs : List ℤ) (start : Readings 
   -- one call on the column after n passes
   one-base : (n : ℕ) → call calls n < p .k → passColumn p (call calls n) (passed n) ≡ passOf (factorsOf p) (call calls n) (passed n)
   unfolding passColumn
-  one-base n h = sym (written-new (passNumber p (call calls n) (passed n)) _ (passed n) (pass-admits (admitted n h)))
+  one-base n h = sym (written-new (passRefused p (call calls n) (passed n)) _ (passed n) (pass-admits (admitted n h)))
 
   one-other : (n : ℕ) → p .k ≤ call calls n → passColumn p (call calls n) (passed n) ≡ passed n
   unfolding passColumn
   one-other n h =
-      sym (unwritten (passNumber p (call calls n) (passed n)) _ (passed n) (λ e. omega (arith, pass-ten p (call calls n) (passed n) ok h, e)))
+      sym (unwritten (passRefused p (call calls n) (passed n)) _ (passed n) (λ e. omega (arith, pass-ten p (call calls n) (passed n) ok h, e)))
 
   one-call : (n : ℕ) → n < length calls → passColumn p (call calls n) (passed n) ≡ passed (suc n)
   unfolding passed
@@ -193,7 +197,7 @@ module _ (p : Plan) (ok : planNumber p ≡ 0) (xs : List ℤ) (start : Readings 
   answers-at n h = rw (so-far n (omega arith)) (by (decLt (call calls n) (p .k)))
     where
       on : Outcome Unit
-      on = outcome (passNumber p (call calls n) (passed n)) tt
+      on = outcome (passRefused p (call calls n) (passed n)) tt
 
       by : Dec (call calls n < p .k) → on ≡ doneOrTen p (call calls n)
       by (yes b) = rw (pass-admits (admitted n b), lt-ltb (call calls n) (p .k) b) refl

@@ -16,46 +16,49 @@ use Rattle.algebra.specs.Tab.{tabFrom}
 use Rattle.contrasts.specs.Columns.{read, passOf, totalsOf}
 use Rattle.contrasts.specs.Limits.{readingLimit, valueLimit, mostTwo, mostThree}
 use Rattle.contrasts.specs.Rows.{degreesOf}
-use Rattle.contrasts.specs.Tables.{two, three, neg}
-use Rattle.contrasts.specs.Totals.{size, passAt, passFrom, coef*, total, denominator, squared, checkWeight, round, rounds}
+use Rattle.contrasts.specs.Factors.{two, three}
+use Rattle.contrasts.specs.Codings.{neg}
+use Rattle.contrasts.specs.Totals.{size, coef*, total, denominator, squared}
+use Rattle.contrasts.specs.Passes.{passAt, passFrom}
+use Rattle.contrasts.specs.Checks.{checkWeight, round, rounds}
 use Rattle.words.specs.Words.{letters, beyond, times, combined, any, among, repeated}
 use Rattle.plan.specs.declared.types.Plan.{Plan}
-use Rattle.plan.specs.Check.{badLevels, badFactors, badCounts, badWord, badSign, badWords, dependent, factorWord, losesFactor, planNumber, withPlan}
+use Rattle.plan.specs.Check.{badLevels, badFactors, badCounts, badWord, badSign, badWords, dependent, factorWord, losesFactor, planRefused, withPlan}
 use Rattle.plan.specs.Examples.{plan}
 use Rattle.plan.specs.Outcome.{Outcome, given, refused}
 use Rattle.plan.specs.Plan.{factorsOf, someCombination, combinesTo}
 use Rattle.plan.specs.Laws.Answers.{refused-is, given-is, given-with, written-new}
-use Rattle.columns.specs.Lines.{wrongLength, isBeyond, anyBeyond, columnsNumber}
+use Rattle.columns.specs.Refusals.{wrongLength, isBeyond, anyBeyond, columnsRefused}
 use Rattle.rows.specs.Kinds.{keptRow, wrongRows, kindByMark, kindOf, badMark, badMarks}
-use Rattle.yates.specs.Calls.{passNumber, passColumn, totalsColumn}
+use Rattle.yates.specs.Calls.{passRefused, passColumn, totalsColumn}
 use Rattle.yates.specs.Laws.Admitted.{pass-admits}
-use Rattle.estimates.specs.Estimate.{Value, mean, difference, lost, differenceOf, valueBy, estimateNumber, estimateValue}
+use Rattle.estimates.specs.Estimate.{Value, mean, difference, lost, differenceOf, valueBy, estimateRefused, estimateValue}
 use Rattle.anova.specs.declared.types.Figures.{Figures}
-use Rattle.anova.specs.Table.{wrongLengths, tableNumber, sourceOf, totalSource, checksOf, tableFigures, tableTotals}
+use Rattle.anova.specs.Table.{wrongLengths, tableRefused, sourceOf, totalSource, checksOf, tableFigures, tableTotals}
 use Rattle.numerals.specs.Numbers.{big, twos}
 use Rattle.fields.specs.Fields.{parse, fieldsOf, bodies, bodyAt}
 use Rattle.fields.specs.Rules.{badFrom, badFields}
 use Rattle.contents.specs.Contents.{planIn, readingAt, readingsOf}
-use Rattle.sheet.specs.Sheet.{numberWith, marksNumber, marksOf}
-use Rattle.report.specs.Report.{printed, reportNumber, textOf}
-use Rattle.report.specs.Examples.{rulesSheet, rules-text, threeSheet, three-text}
+use Rattle.sheet.specs.Sheet.{refusedWith, marksRefused, marksOf}
+use Rattle.printing.specs.Printed.{printed, printRefused, textOf}
+use Rattle.printing.specs.Examples.{rulesSheet, rules-text, threeSheet, three-text}
 use Rattle.promises.specs.Promised.{promisedEstimate}
 use Rattle.claims.specs.AnyOrder.{Readings, ownPass}
-use Rattle.claims.specs.WrongPrograms.{PassCall, KeepsPass, KeepsTable, KeepsReport, constantTable, figuresBy, untouchedPass, doesAll, firstDoesAll, doesAllAtA, afterTold, four, readings, fourTotals, zeros, allKept, pooled, blank, WrongPrograms, rowsOfKind, threeLevels, threeReadings}
+use Rattle.claims.specs.WrongPrograms.{PassCall, KeepsPass, KeepsTable, KeepsPrint, constantTable, figuresBy, untouchedPass, doesAll, firstDoesAll, doesAllAtA, afterTold, four, readings, fourTotals, zeros, allKept, pooled, blank, WrongPrograms, rowsOfKind, threeLevels, threeReadings}
 
 -- ---- what the promises come to at the named inputs, computed
 
-four-accepted : planNumber four ≡ 0
-unfolding planNumber badLevels badFactors mostTwo mostThree badCounts badWords badWord badSign repeated dependent losesFactor factorWord any among beyond letters combined times someCombination combinesTo some bits Σℕ
+four-accepted : planRefused four ≡ 0
+unfolding planRefused badLevels badFactors mostTwo mostThree badCounts badWords badWord badSign repeated dependent losesFactor factorWord any among beyond letters combined times someCombination combinesTo some bits Σℕ
 four-accepted = refl
 
 -- the pass of A over 3, 5, 4, 8 is made, by the call and by demand 3; that of B over the totals
 pass-A : passColumn four 0 readings ≡ pos 8 ∷ neg 2 ∷ pos 12 ∷ neg 4 ∷ []
-unfolding passColumn passNumber withPlan planNumber badLevels badFactors mostTwo mostThree badCounts badWords badWord badSign repeated dependent losesFactor factorWord any among beyond letters combined times someCombination combinesTo some bits Σℕ wrongLength anyBeyond isBeyond valueLimit factorsOf size two passOf passFrom passAt Σ tabFrom
+unfolding passColumn passRefused withPlan planRefused badLevels badFactors mostTwo mostThree badCounts badWords badWord badSign repeated dependent losesFactor factorWord any among beyond letters combined times someCombination combinesTo some bits Σℕ wrongLength anyBeyond isBeyond valueLimit factorsOf size two passOf passFrom passAt Σ tabFrom
 pass-A = refl
 
-done-A : passNumber four 0 readings ≡ 0
-unfolding passNumber withPlan planNumber badLevels badFactors mostTwo mostThree badCounts badWords badWord badSign repeated dependent losesFactor factorWord any among beyond letters combined times someCombination combinesTo some bits Σℕ wrongLength anyBeyond isBeyond valueLimit factorsOf size two
+done-A : passRefused four 0 readings ≡ 0
+unfolding passRefused withPlan planRefused badLevels badFactors mostTwo mostThree badCounts badWords badWord badSign repeated dependent losesFactor factorWord any among beyond letters combined times someCombination combinesTo some bits Σℕ wrongLength anyBeyond isBeyond valueLimit factorsOf size two
 done-A = refl
 
 own-A : ownPass four 0 readings ≡ pos 8 ∷ neg 2 ∷ pos 12 ∷ neg 4 ∷ []
@@ -71,12 +74,12 @@ unfolding factorsOf size two totalsOf total coef* Σ tabFrom
 four-totals = refl
 
 totals-over-zeros : totalsColumn four readings zeros ≡ fourTotals
-unfolding totalsColumn columnsNumber withPlan planNumber badLevels badFactors mostTwo mostThree badCounts badWords badWord badSign repeated dependent losesFactor factorWord any among beyond letters combined times someCombination combinesTo some bits Σℕ wrongLength anyBeyond isBeyond readingLimit factorsOf size two totalsOf total coef* Σ tabFrom
+unfolding totalsColumn columnsRefused withPlan planRefused badLevels badFactors mostTwo mostThree badCounts badWords badWord badSign repeated dependent losesFactor factorWord any among beyond letters combined times someCombination combinesTo some bits Σℕ wrongLength anyBeyond isBeyond readingLimit factorsOf size two totalsOf total coef* Σ tabFrom
 totals-over-zeros = refl
 
 -- three tables are made: of 3, 5, 4, 8 with every row kept and with AB pooled, and of zeros
-made : (tableNumber four readings allKept zeros allKept ≡ 0) × (tableNumber four readings pooled zeros allKept ≡ 0) × (tableNumber four zeros allKept zeros allKept ≡ 0)
-unfolding tableNumber wrongLengths wrongRows wrongLength anyBeyond isBeyond badMarks badMark withPlan planNumber badLevels badFactors mostTwo mostThree badCounts badWords badWord badSign repeated dependent losesFactor factorWord any among beyond letters combined times someCombination combinesTo some bits Σℕ readingLimit factorsOf size two
+made : (tableRefused four readings allKept zeros allKept ≡ 0) × (tableRefused four readings pooled zeros allKept ≡ 0) × (tableRefused four zeros allKept zeros allKept ≡ 0)
+unfolding tableRefused wrongLengths wrongRows wrongLength anyBeyond isBeyond badMarks badMark withPlan planRefused badLevels badFactors mostTwo mostThree badCounts badWords badWord badSign repeated dependent losesFactor factorWord any among beyond letters combined times someCombination combinesTo some bits Σℕ readingLimit factorsOf size two
 made = (refl, refl, refl)
 
 table-totals : tableTotals four readings allKept zeros allKept ≡ fourTotals
@@ -92,8 +95,8 @@ unfolding tableFigures sourceOf kindOf kindByMark combinesTo someCombination som
 kept-degrees = (refl, refl)
 
 -- one three-level factor: one row is kept, and it has 2 degrees
-three-made : tableNumber threeLevels threeReadings (0 ∷ 0 ∷ []) threeReadings (0 ∷ 0 ∷ []) ≡ 0
-unfolding tableNumber wrongLengths wrongRows wrongLength anyBeyond isBeyond badMarks badMark withPlan planNumber badLevels badFactors mostTwo mostThree badCounts badWords badWord badSign repeated dependent losesFactor factorWord any among beyond letters combined times someCombination combinesTo some bits Σℕ readingLimit factorsOf size two three
+three-made : tableRefused threeLevels threeReadings (0 ∷ 0 ∷ []) threeReadings (0 ∷ 0 ∷ []) ≡ 0
+unfolding tableRefused wrongLengths wrongRows wrongLength anyBeyond isBeyond badMarks badMark withPlan planRefused badLevels badFactors mostTwo mostThree badCounts badWords badWord badSign repeated dependent losesFactor factorWord any among beyond letters combined times someCombination combinesTo some bits Σℕ readingLimit factorsOf size two three
 three-made = refl
 
 two-degrees : (rowsOfKind threeLevels (0 ∷ 0 ∷ []) keptRow ≡ 1) × (tableFigures threeLevels threeReadings (0 ∷ 0 ∷ []) .kept .degrees ≡ 2)
@@ -105,8 +108,8 @@ unfolding tableFigures checksOf factorsOf size two checkWeight round rounds Σ
 check-numbers = (refl, refl)
 
 -- the estimate of A, whose total is -6, is not lost
-A-estimated : estimateNumber four 1 (neg 6) ≡ 0
-unfolding estimateNumber withPlan planNumber badLevels badFactors mostTwo mostThree badCounts badWords badWord badSign repeated dependent losesFactor factorWord any among beyond letters combined times someCombination combinesTo some bits Σℕ readingLimit
+A-estimated : estimateRefused four 1 (neg 6) ≡ 0
+unfolding estimateRefused withPlan planRefused badLevels badFactors mostTwo mostThree badCounts badWords badWord badSign repeated dependent losesFactor factorWord any among beyond letters combined times someCombination combinesTo some bits Σℕ readingLimit
 A-estimated = refl
 
 A-not-lost : estimateValue four 1 (neg 6) ≡ difference (differenceOf 2 (neg 6))
@@ -114,12 +117,12 @@ unfolding valueBy combinesTo someCombination combined times some bits Σℕ
 A-not-lost = refl
 
 -- the sheet of the rules' example, and that of 2, 5, 3 at three levels
-sheets-accepted : (reportNumber rulesSheet ≡ 0) × (reportNumber threeSheet ≡ 0)
-unfolding reportNumber marksNumber numberWith planIn readingsOf readingAt twos big fieldsOf parse bodies bodyAt badFields badFrom wrongLength wrongRows anyBeyond isBeyond badMarks badMark withPlan planNumber badLevels badFactors mostTwo mostThree badCounts badWords badWord badSign repeated dependent losesFactor factorWord any among beyond letters combined times someCombination combinesTo some bits Σℕ readingLimit factorsOf size two three tabFrom
+sheets-accepted : (printRefused rulesSheet ≡ 0) × (printRefused threeSheet ≡ 0)
+unfolding printRefused marksRefused refusedWith planIn readingsOf readingAt twos big fieldsOf parse bodies bodyAt badFields badFrom wrongLength wrongRows anyBeyond isBeyond badMarks badMark withPlan planRefused badLevels badFactors mostTwo mostThree badCounts badWords badWord badSign repeated dependent losesFactor factorWord any among beyond letters combined times someCombination combinesTo some bits Σℕ readingLimit factorsOf size two three tabFrom
 sheets-accepted = (refl, refl)
 
 rules-marks : marksOf rulesSheet ≡ 0 ∷ 0 ∷ 0 ∷ 1 ∷ []
-unfolding marksOf marksNumber numberWith planIn readingsOf readingAt twos big fieldsOf parse bodies bodyAt badFields badFrom wrongLength wrongRows anyBeyond isBeyond badMarks badMark withPlan planNumber badLevels badFactors mostTwo mostThree badCounts badWords badWord badSign repeated dependent losesFactor factorWord any among beyond letters combined times someCombination combinesTo some bits Σℕ readingLimit factorsOf size two three tabFrom
+unfolding marksOf marksRefused refusedWith planIn readingsOf readingAt twos big fieldsOf parse bodies bodyAt badFields badFrom wrongLength wrongRows anyBeyond isBeyond badMarks badMark withPlan planRefused badLevels badFactors mostTwo mostThree badCounts badWords badWord badSign repeated dependent losesFactor factorWord any among beyond letters combined times someCombination combinesTo some bits Σℕ readingLimit factorsOf size two three tabFrom
 rules-marks = refl
 
 -- ---- the proof
@@ -130,17 +133,17 @@ first xs = natAbs (read xs 0)
 
 -- a table call that differs in its figures alone has the promised ones, where a table is made
 same-in : (figures : Plan → List ℤ → List ℕ → Figures) → KeepsTable (figuresBy figures)
-    → (p : Plan) (readings : List ℤ) (marks : List ℕ) (totals : List ℤ) (rows : List ℕ) → tableNumber p readings marks totals rows ≡ 0
+    → (p : Plan) (readings : List ℤ) (marks : List ℕ) (totals : List ℤ) (rows : List ℕ) → tableRefused p readings marks totals rows ≡ 0
     → figures p readings marks ≡ tableFigures p readings marks
 same-in figures keeps p readings marks totals rows e =
     given-is
-    (tableNumber p readings marks totals rows)
+    (tableRefused p readings marks totals rows)
     (tableFigures p readings marks)
     (sym (given-with _ (figures p readings marks) e) ∙ ap (λ r. r .answer) (keeps p readings marks totals rows))
     .1
 
 same-figures : (figures : Plan → List ℤ → List ℕ → Figures) → KeepsTable (figuresBy figures)
-    → (readings : List ℤ) (marks : List ℕ) → tableNumber four readings marks zeros allKept ≡ 0
+    → (readings : List ℤ) (marks : List ℕ) → tableRefused four readings marks zeros allKept ≡ 0
     → figures four readings marks ≡ tableFigures four readings marks
 same-figures figures keeps readings marks e = same-in figures keeps four readings marks zeros allKept e
 
@@ -148,11 +151,11 @@ same-figures figures keeps readings marks e = same-in figures keeps four reading
 two-lengths : (t : List ℕ) → length t ≡ length (textOf rulesSheet) → length t ≡ length (textOf threeSheet) → ⊥
 two-lengths t a b = omega (arith, a ∙ ap length rules-text, b ∙ ap length three-text)
 
-printed-table : (t sheet : List ℕ) → reportNumber sheet ≡ 0 → printed (reportNumber sheet) t ≡ t
+printed-table : (t sheet : List ℕ) → printRefused sheet ≡ 0 → printed (printRefused sheet) t ≡ t
 unfolding printed
-printed-table t sheet e = sym (written-new (reportNumber sheet) t _ e)
+printed-table t sheet e = sym (written-new (printRefused sheet) t _ e)
 
-table-length : (t : List ℕ) → KeepsReport (constantTable t) → (sheet : List ℕ) → reportNumber sheet ≡ 0 → length t ≡ length (textOf sheet)
+table-length : (t : List ℕ) → KeepsPrint (constantTable t) → (sheet : List ℕ) → printRefused sheet ≡ 0 → length t ≡ length (textOf sheet)
 table-length t keeps sheet e = ap length (sym (printed-table t sheet e)) ∙ ap (λ r. r .count) (keeps sheet blank)
 
 -- later calls leave the column, so that the first one's totals stay
@@ -161,12 +164,12 @@ unfolding afterTold
 idle n p [] column = refl
 idle n p (f ∷ fs) column = idle (suc n) p fs column
 
-all-at-once : (p : Plan) → planNumber p ≡ 0 → (column : List ℤ) → Readings p column → (f : ℕ) → f < p .k → (fs : List ℕ)
+all-at-once : (p : Plan) → planRefused p ≡ 0 → (column : List ℤ) → Readings p column → (f : ℕ) → f < p .k → (fs : List ℕ)
     → afterTold firstDoesAll 0 p (f ∷ fs) column ≡ totalsOf (factorsOf p) column
 unfolding afterTold readingLimit valueLimit
 all-at-once p ok column start f base fs =
     idle 0 p fs _
-    ∙ sym (written-new (passNumber p f column) (totalsOf (factorsOf p) column) column
+    ∙ sym (written-new (passRefused p f column) (totalsOf (factorsOf p) column) column
     (pass-admits (record { plan = ok; base = base; whole = start .whole; within = λ i. omega (arith, start .within i) })))
 
 -- a pass call that keeps its promise has 8 in the first place after the pass of A
@@ -174,7 +177,7 @@ eight : (program : PassCall) → KeepsPass program → first (program four 0 rea
 eight program keeps = ap (λ r. first (r .column)) (keeps four 0 readings) ∙ ap first pass-A
 
 all-at-A : doesAll four 0 readings .column ≡ fourTotals
-all-at-A = sym (written-new (passNumber four 0 readings) (totalsOf (factorsOf four) readings) readings done-A) ∙ four-totals
+all-at-A = sym (written-new (passRefused four 0 readings) (totalsOf (factorsOf four) readings) readings done-A) ∙ four-totals
 
 A-then-B : afterTold firstDoesAll 0 four (0 ∷ 1 ∷ []) readings ≡ fourTotals
 unfolding afterTold
@@ -193,7 +196,7 @@ promised-not-lost = given-with _ (estimateValue four 1 (neg 6)) A-estimated ∙ 
 pub wrong-programs : WrongPrograms
 wrong-programs =
     record {
-      refusing-plans = λ number keeps. refused-is (planNumber four) tt (keeps four) .1 four-accepted;
+      refusing-plans = λ number keeps. refused-is (planRefused four) tt (keeps four) .1 four-accepted;
       refusing-tables = λ number keeps.
           refused-is _ (tableFigures four readings allKept) (ap (λ r. r .answer) (keeps four readings allKept zeros allKept)) .1 (made .0);
       constant-text = λ t keeps. two-lengths t (ap (λ r. r .count) (keeps rulesSheet blank)) (ap (λ r. r .count) (keeps threeSheet blank));

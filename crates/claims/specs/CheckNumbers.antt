@@ -9,11 +9,13 @@ use mathlib.Core.List.{List}
 use Prim.Native.Nat.{ℕ, zero, suc, _+_, _*_}
 use lib.IntN.{ℤ, pos, _+ℤ_, _*ℤ_, _-ℤ_}
 use lib.ListN.{replicate}
-use Rattle.algebra.specs.Sum.{Σ, Σ-cong}
-use Rattle.algebra.specs.Tab.{getD-tab}
+use Rattle.algebra.specs.Sum.{Σ}
+use Rattle.algebra.specs.Laws.Sum.{Σ-cong}
+use Rattle.algebra.specs.Laws.Tab.{getD-tab}
 use Rattle.contrasts.specs.Columns.{read, totalsOf}
-use Rattle.contrasts.specs.Tables.{two, three}
-use Rattle.contrasts.specs.Totals.{Column, total, rounds}
+use Rattle.contrasts.specs.Factors.{two, three}
+use Rattle.contrasts.specs.Totals.{Column, total}
+use Rattle.contrasts.specs.Checks.{rounds}
 use Rattle.contrasts.specs.Laws.CheckSum.{check-rounds}
 use Rattle.contrasts.specs.Laws.ThreeLevels.{round-three}
 use Rattle.contrasts.specs.Laws.TwoLevels.{check-two}
@@ -22,7 +24,7 @@ use Rattle.plan.specs.Plan.{factorsOf, runsOf}
 use Rattle.plan.specs.Laws.Answers.{written-new}
 use Rattle.plan.specs.Laws.Sizes.{factors-two, factors-three}
 use Rattle.anova.specs.declared.types.Checks.{Checks}
-use Rattle.anova.specs.Table.{tableNumber, checksOf, tableFigures, tableTotals}
+use Rattle.anova.specs.Table.{tableRefused, checksOf, tableFigures, tableTotals}
 
 -- "each turning every successive set of three, in order, into 3 times first minus middle plus third"
 abbrev pub threes : Column → Column
@@ -45,7 +47,7 @@ pub record Checked (p : Plan) (readings totals : List ℤ) (c : Checks) : Type 0
 abbrev pub CheckNumbers : Type 0
 CheckNumbers =
     (p : Plan) (readings : List ℤ) (marks : List ℕ) (totals : List ℤ) (rows : List ℕ)
-    → tableNumber p readings marks totals rows ≡ 0
+    → tableRefused p readings marks totals rows ≡ 0
     → Checked p readings (tableTotals p readings marks totals rows) (tableFigures p readings marks .checks)
 
 -- ---- the proof

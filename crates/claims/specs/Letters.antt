@@ -42,25 +42,25 @@ use Rattle.words.specs.Words.{has, oddIn, beyond}
 use Rattle.words.specs.Laws.Letters.{within}
 use Rattle.words.specs.Laws.Parity.{one-odd}
 use Rattle.plan.specs.declared.types.Plan.{Plan}
-use Rattle.plan.specs.Check.{planNumber}
+use Rattle.plan.specs.Check.{planRefused}
 use Rattle.plan.specs.Plan.{addedWords, addedSigns, blockWords, factorsOf, runsOf, allLetters, confoundedIn}
 use Rattle.plan.specs.Laws.Accepted.{Accepted, accepted, signs-small, sizes}
 use Rattle.plan.specs.Laws.Answers.{passed, plan-passed}
 use Rattle.plan.specs.Laws.Confounded.{base-letters-only}
 use Rattle.plan.specs.Laws.Sizes.{two-levels, runs-two, letters-few}
 use Rattle.plan.specs.Laws.Coefficients.{plan-coef, plan-total}
-use Rattle.runs.specs.Run.{runValues, runLines, runNumber}
+use Rattle.runs.specs.Run.{runValues, runRefusals, runRefused}
 use Rattle.runs.specs.Laws.Blocks.{constant, only-combined}
 use Rattle.runs.specs.Laws.High.{high-added, high-turned}
 use Rattle.runs.specs.Laws.BaseLetters.{high-odd}
-use Rattle.aliases.specs.Alias.{aliasValues, aliasLines, aliasNumber}
+use Rattle.aliases.specs.Alias.{aliasValues, aliasRefusals, aliasRefused}
 use Rattle.aliases.specs.Laws.InRuns.{plan-reduces}
 use Rattle.aliases.specs.Laws.BaseWord.{base-small}
 
 -- ---- the words of the claims
 
 pub record TwoLevels (p : Plan) : Type 0 where
-  pub accepted : planNumber p ≡ 0
+  pub accepted : planRefused p ≡ 0
   pub two : p .levels ≡ 2
 
 abbrev pub high : Plan → ℕ → ℕ
@@ -163,8 +163,8 @@ AnyFactor =
 -- 16-bit set of letters, the same of the plan, and the letters are those of its factors.
 abbrev pub Answered : Type 0
 Answered =
-    (p : Plan) → ((r : ℕ) → runNumber p r ≡ 0 → TwoLevels p × (r < runsOf p))
-    × ((e : ℕ) → e < 2 ^ 16 → aliasNumber p e ≡ 0 → TwoLevels p × (e < 2 ^ allLetters p))
+    (p : Plan) → ((r : ℕ) → runRefused p r ≡ 0 → TwoLevels p × (r < runsOf p))
+    × ((e : ℕ) → e < 2 ^ 16 → aliasRefused p e ≡ 0 → TwoLevels p × (e < 2 ^ allLetters p))
 
 -- ---- the proofs
 
@@ -261,22 +261,22 @@ main-effects p t x i h = totals p t x (2 ^ i) (letter-in p t i h) ∙ one-contra
 pub any-factor : AnyFactor
 any-factor p t x i h = sym (one-contrast p t x i h) ∙ alias-totals p t x (2 ^ i) (pow-lt h)
 
--- a plan that passes line 9
-not-three : (p : Plan) → planNumber p ≡ 0 → eqb (p .levels) 3 ≡ false → TwoLevels p
+-- a plan that passes refusal 9
+not-three : (p : Plan) → planRefused p ≡ 0 → eqb (p .levels) 3 ≡ false → TwoLevels p
 not-three p z e = record { accepted = z; two = two-levels p z (eqb-false (p .levels) 3 e) }
 
-run-answered : (p : Plan) (r : ℕ) → runNumber p r ≡ 0 → TwoLevels p × (r < runsOf p)
-unfolding runNumber
+run-answered : (p : Plan) (r : ℕ) → runRefused p r ≡ 0 → TwoLevels p × (r < runsOf p)
+unfolding runRefused
 run-answered p r n =
-    let l = plan-passed p (runLines p r) n in
+    let l = plan-passed p (runRefusals p r) n in
     let nine = passed (eqb (p .levels) 3) 9 _ (omega arith) (l .1) in
     let ten = passed (leb (runsOf p) r) 10 _ (omega arith) (nine .1) in
     (not-three p (l .0) (nine .0), leb-false (runsOf p) r (ten .0))
 
-alias-answered : (p : Plan) (e : ℕ) → e < 2 ^ 16 → aliasNumber p e ≡ 0 → TwoLevels p × (e < 2 ^ allLetters p)
-unfolding aliasNumber
+alias-answered : (p : Plan) (e : ℕ) → e < 2 ^ 16 → aliasRefused p e ≡ 0 → TwoLevels p × (e < 2 ^ allLetters p)
+unfolding aliasRefused
 alias-answered p e h n =
-    let l = plan-passed p (aliasLines p e) n in
+    let l = plan-passed p (aliasRefusals p e) n in
     let nine = passed (eqb (p .levels) 3) 9 _ (omega arith) (l .1) in
     let ten = passed (beyond (allLetters p) e) 10 _ (omega arith) (nine .1) in
     (not-three p (l .0) (nine .0), within (allLetters p) e h (ten .0))

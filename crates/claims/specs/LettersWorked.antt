@@ -13,13 +13,13 @@ use Rattle.algebra.specs.Naturals.{Σℕ}
 use Rattle.algebra.specs.Search.{some}
 use Rattle.algebra.specs.Tab.{tab, tabFrom}
 use Rattle.contrasts.specs.Limits.{mostTwo, mostThree}
-use Rattle.contrasts.specs.Tables.{two}
+use Rattle.contrasts.specs.Factors.{two}
 use Rattle.contrasts.specs.Totals.{coef*}
 use Rattle.words.specs.Words.{letters, shared, oddIn, beyond, times, combined, any, among, repeated}
 use Rattle.plan.specs.declared.types.Plan.{Plan}
 use Rattle.plan.specs.Examples.{plan, ABC, AD, BC}
 use Rattle.plan.specs.Plan.{factorsOf, someCombination, combinesTo}
-use Rattle.plan.specs.Check.{badLevels, badFactors, badCounts, badWord, badSign, badWords, dependent, factorWord, losesFactor, planNumber}
+use Rattle.plan.specs.Check.{badLevels, badFactors, badCounts, badWord, badSign, badWords, dependent, factorWord, losesFactor, planRefused}
 use Rattle.runs.specs.Run.{highBy, highIn, highLetters}
 use Rattle.claims.specs.Letters.{TwoLevels, factorSign, sign}
 
@@ -27,7 +27,7 @@ abbrev half : ℕ → Plan
 half s = plan 2 3 (ABC ∷ []) (s ∷ []) []
 
 half-fits : TwoLevels (half 0) × TwoLevels (half 1)
-unfolding planNumber badLevels badFactors mostTwo mostThree badCounts badWords badWord badSign repeated dependent losesFactor factorWord any among beyond letters combined times someCombination combinesTo some bits Σℕ
+unfolding planRefused badLevels badFactors mostTwo mostThree badCounts badWords badWord badSign repeated dependent losesFactor factorWord any among beyond letters combined times someCombination combinesTo some bits Σℕ
 half-fits = (record { accepted = refl; two = refl }, record { accepted = refl; two = refl })
 
 -- D is letter 3

@@ -26,23 +26,25 @@ use Rattle.algebra.specs.Tab.{tab, tabFrom}
 use Rattle.contrasts.specs.Columns.{read, totalsOf}
 use Rattle.contrasts.specs.Limits.{readingLimit, mostTwo, mostThree}
 use Rattle.contrasts.specs.Rows.{rowOf, degreesOf}
-use Rattle.contrasts.specs.Tables.{two, three, neg}
-use Rattle.contrasts.specs.Totals.{size, coef*, total, divisor*, denominator, weight*, numeratorOf, squared, checkWeight, round, rounds}
+use Rattle.contrasts.specs.Factors.{two, three}
+use Rattle.contrasts.specs.Codings.{neg}
+use Rattle.contrasts.specs.Totals.{size, coef*, total, divisor*, denominator, weight*, numeratorOf, squared}
+use Rattle.contrasts.specs.Checks.{checkWeight, round, rounds}
 use Rattle.words.specs.Words.{letters, beyond, times, combined, any, among, repeated}
 use Rattle.plan.specs.declared.types.Plan.{Plan}
 use Rattle.plan.specs.Examples.{plan, A, AB, BC, ABC, AD, BCD}
 use Rattle.plan.specs.Outcome.{Outcome, given, refused}
 use Rattle.plan.specs.Plan.{factorsOf, runsOf, someCombination, combinesTo}
-use Rattle.plan.specs.Check.{badLevels, badFactors, badCounts, badWord, badSign, badWords, dependent, factorWord, losesFactor, planNumber, withPlan, runCount, confoundedAccepted}
-use Rattle.aliases.specs.Alias.{baseWord, turnsOf, turns, aliasNumber}
-use Rattle.columns.specs.Lines.{wrongLength, isBeyond, anyBeyond}
+use Rattle.plan.specs.Check.{badLevels, badFactors, badCounts, badWord, badSign, badWords, dependent, factorWord, losesFactor, planRefused, withPlan, runCount, confoundedAccepted}
+use Rattle.aliases.specs.Alias.{baseWord, turnsOf, turns, aliasRefused}
+use Rattle.columns.specs.Refusals.{wrongLength, isBeyond, anyBeyond}
 use Rattle.effects.specs.Effects.{effectDivisors}
 use Rattle.rows.specs.Kinds.{Kind, meanRow, blocksRow, keptRow, rowsIn, wrongRows, kindByMark, kindOf, badMark, badMarks}
 use Rattle.estimates.specs.Quotient.{quotient}
-use Rattle.estimates.specs.Estimate.{Value, mean, difference, lost, meanOf, differenceOf, valueBy, estimateNumber}
+use Rattle.estimates.specs.Estimate.{Value, mean, difference, lost, meanOf, differenceOf, valueBy, estimateRefused}
 use Rattle.anova.specs.declared.types.Source.{Source}
 use Rattle.anova.specs.declared.types.Checks.{Checks}
-use Rattle.anova.specs.Table.{wrongLengths, tableNumber, sourceOf, totalSource, checksOf, tableFigures, tableTotals, tableRows, rowsOf}
+use Rattle.anova.specs.Table.{wrongLengths, tableRefused, sourceOf, totalSource, checksOf, tableFigures, tableTotals, tableRows, rowsOf}
 use Rattle.promises.specs.Promised.{Tabled, promisedCheck, promisedAlias, promisedTable, promisedEstimate}
 
 -- ---- what a run is
@@ -251,7 +253,7 @@ combination = record {
   says = check (given tt) ∷ estimate (given lost) ∷ estimate (given lost) ∷ estimate (given lost) ∷ confounded true ∷ [];
 }
 
--- "The inputs of lines 7 and 8, with k = 3.": "AB, AB", and "AB, ABC"
+-- "The inputs of refusals 7 and 8, with k = 3.": "AB, AB", and "AB, ABC"
 abbrev lostFactor : Run
 lostFactor = record {
   gives = check (promisedCheck (plan 2 3 [] [] (AB ∷ AB ∷ []))) ∷ check (promisedCheck (plan 2 3 [] [] (AB ∷ ABC ∷ []))) ∷ [];
@@ -267,5 +269,5 @@ abbrev pub Starred : Type 0
 Starred = map (λ r. r .gives) starredRuns ≡ map (λ r. r .says) starredRuns
 
 pub starred : Starred
-unfolding tableNumber tableTotals tableRows tableFigures sourceOf totalSource checksOf rowsOf wrongLengths wrongRows wrongLength anyBeyond isBeyond badMarks badMark kindOf kindByMark withPlan planNumber badLevels badFactors mostTwo mostThree badCounts badWords badWord badSign repeated dependent losesFactor factorWord any among beyond letters combined times someCombination combinesTo some bits Σℕ Σ readingLimit factorsOf size two three total coef* totalsOf tabFrom divisor* denominator weight* numeratorOf squared checkWeight round rounds rowOf degreesOf sumAt baseWord turnsOf turns aliasNumber estimateNumber valueBy meanOf differenceOf quotient runCount effectDivisors confoundedAccepted
+unfolding tableRefused tableTotals tableRows tableFigures sourceOf totalSource checksOf rowsOf wrongLengths wrongRows wrongLength anyBeyond isBeyond badMarks badMark kindOf kindByMark withPlan planRefused badLevels badFactors mostTwo mostThree badCounts badWords badWord badSign repeated dependent losesFactor factorWord any among beyond letters combined times someCombination combinesTo some bits Σℕ Σ readingLimit factorsOf size two three total coef* totalsOf tabFrom divisor* denominator weight* numeratorOf squared checkWeight round rounds rowOf degreesOf sumAt baseWord turnsOf turns aliasRefused estimateRefused valueBy meanOf differenceOf quotient runCount effectDivisors confoundedAccepted
 starred = refl

@@ -15,23 +15,25 @@ use native.Mathlib.Omega.{arith}
 use lib.Dec.{T}
 use lib.IntN.{ℤ}
 use lib.ListN.{length, replicate}
-use Rattle.algebra.specs.Tab.{length-tab}
+use Rattle.algebra.specs.Laws.Tab.{length-tab}
 use Rattle.contrasts.specs.Columns.{read, AllWithin, stepsOf, totalsOf}
 use Rattle.contrasts.specs.Factor.{Factor}
 use Rattle.contrasts.specs.Limits.{readingLimit, valueLimit}
-use Rattle.contrasts.specs.Tables.{ofLevels}
-use Rattle.contrasts.specs.Totals.{size, steps}
+use Rattle.contrasts.specs.Factors.{ofLevels}
+use Rattle.contrasts.specs.Totals.{size}
+use Rattle.contrasts.specs.Steps.{steps}
 use Rattle.contrasts.specs.Laws.Limits.{withinLimits, steps-fit}
-use Rattle.contrasts.specs.Laws.Lists.{steps-list, steps-alike, steps-more, within-tab}
+use Rattle.contrasts.specs.Laws.Lists.{steps-list, steps-alike, steps-more}
+use Rattle.contrasts.specs.Laws.Within.{within-tab}
 use Rattle.plan.specs.declared.types.Plan.{Plan}
-use Rattle.plan.specs.Check.{planNumber}
+use Rattle.plan.specs.Check.{planRefused}
 use Rattle.plan.specs.Outcome.{Outcome, given, outcome}
 use Rattle.plan.specs.Plan.{factorsOf, runsOf}
 use Rattle.plan.specs.Laws.Accepted.{accepted}
 use Rattle.plan.specs.Laws.Answers.{written-new}
 use Rattle.plan.specs.Laws.Sizes.{plan-within}
 use Rattle.columns.specs.Laws.Admitted.{Columns, admits}
-use Rattle.steps.specs.Step.{stepNumber, stepColumn}
+use Rattle.steps.specs.Step.{stepRefused, stepColumn}
 use Rattle.claims.specs.AnyOrder.{Readings}
 
 -- `stepColumn` is what the step call promises to leave in the column that it is lent to write
@@ -45,7 +47,7 @@ Lent p lent = (n : ℕ) → length (lent n) ≡ runsOf p
 
 -- what call n answers
 abbrev pub answer : Plan → (ℕ → List ℤ) → List ℤ → ℕ → Outcome Unit
-answer p lent column n = outcome (stepNumber p (afterSteps p lent column n) (lent n)) tt
+answer p lent column n = outcome (stepRefused p (afterSteps p lent column n) (lent n)) tt
 
 pub record InSteps (p : Plan) (lent : ℕ → List ℤ) (column : List ℤ) : Type 0 where
   pub answers : (n : ℕ) → n < p .k → answer p lent column n ≡ given tt
@@ -54,7 +56,7 @@ pub record InSteps (p : Plan) (lent : ℕ → List ℤ) (column : List ℤ) : Ty
 -- for every accepted plan, every column of N readings within the limit, and whatever columns of N are lent
 abbrev pub Steps : Type 0
 Steps =
-    (p : Plan) → planNumber p ≡ 0
+    (p : Plan) → planRefused p ≡ 0
     → (column : List ℤ) → Readings p column
     → (lent : ℕ → List ℤ) → Lent p lent
     → InSteps p lent column
@@ -69,7 +71,7 @@ fits-each F (suc k) some ok xs whole within t h =
     rw (steps-alike (suc k) t F xs h whole)
     (within-tab _ valueLimit _ (steps-fit F k (read xs) ok (λ r _. within r) t h))
 
-module _ (p : Plan) (ok : planNumber p ≡ 0) (xs : List ℤ) (start : Readings p xs) (lent : ℕ → List ℤ) (room : Lent p lent) where
+module _ (p : Plan) (ok : planRefused p ≡ 0) (xs : List ℤ) (start : Readings p xs) (lent : ℕ → List ℤ) (room : Lent p lent) where
   stepped : ℕ → List ℤ
   stepped n = stepsOf (runsOf p) (replicate n (ofLevels (p .levels))) xs
 
@@ -94,7 +96,7 @@ module _ (p : Plan) (ok : planNumber p ≡ 0) (xs : List ℤ) (start : Readings 
   so-far zero h = refl
   so-far (suc n) h =
       ap (λ ys. stepColumn p ys (lent n)) (so-far n (omega arith))
-      ∙ sym (written-new (stepNumber p (stepped n) (lent n)) _ (lent n) (admits (admitted n (omega arith))))
+      ∙ sym (written-new (stepRefused p (stepped n) (lent n)) _ (lent n) (admits (admitted n (omega arith))))
       ∙ sym (steps-more (runsOf p) (ofLevels (p .levels)) n xs)
 
   answers-at : (n : ℕ) → n < p .k → answer p lent xs n ≡ given tt

@@ -9,15 +9,17 @@ use mathlib.Core.Path.{_≡_, refl, _∙_}
 use mathlib.Core.List.{List}
 use Prim.Native.Nat.{ℕ, _*_, _<_}
 use lib.IntN.{ℤ, pos, natAbs}
-use Rattle.algebra.specs.Fractions.{Fraction, _over_, sumOf, Is, shared}
-use Rattle.algebra.specs.Naturals.{Σℕ, Σℕ-cong}
-use Rattle.algebra.specs.Tab.{getD-tab}
+use Rattle.algebra.specs.Fractions.{Fraction, _over_, sumOf, Is}
+use Rattle.algebra.specs.Laws.Fractions.{shared}
+use Rattle.algebra.specs.Naturals.{Σℕ}
+use Rattle.algebra.specs.Laws.Naturals.{Σℕ-cong}
+use Rattle.algebra.specs.Laws.Tab.{getD-tab}
 use Rattle.contrasts.specs.Columns.{read, totalsOf}
 use Rattle.contrasts.specs.Totals.{total, divisor*, denominator, weight*, numeratorOf, squared}
 use Rattle.contrasts.specs.Laws.Divisors.{divisor*-pos, shares, denominator-pos}
 use Rattle.contrasts.specs.Laws.Squares.{numerators}
 use Rattle.plan.specs.declared.types.Plan.{Plan}
-use Rattle.plan.specs.Check.{planNumber}
+use Rattle.plan.specs.Check.{planRefused}
 use Rattle.plan.specs.Plan.{factorsOf, runsOf}
 use Rattle.claims.specs.AnyOrder.{afterCalls, Readings, EachOnce, any-order}
 
@@ -41,7 +43,7 @@ pub record ExactSquares (p : Plan) (column totals : List ℤ) : Type 0 where
 -- for every accepted plan, every column of N readings within the limit, and every list of calls that names each base factor once
 abbrev pub SumOfSquares : Type 0
 SumOfSquares =
-    (p : Plan) → planNumber p ≡ 0
+    (p : Plan) → planRefused p ≡ 0
     → (column : List ℤ) → Readings p column
     → (calls : List ℕ) → EachOnce p calls
     → ExactSquares p column (afterCalls p calls column)

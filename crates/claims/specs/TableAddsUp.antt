@@ -18,9 +18,10 @@ use native.Mathlib.Omega.{arith}
 use lib.Dec.{eqb}
 use lib.IntN.{ℤ, pos, natAbs}
 use lib.ListN.{getD}
-use Rattle.algebra.specs.Naturals.{Σℕ, Σℕ-cong, Σℕ-by}
+use Rattle.algebra.specs.Naturals.{Σℕ}
+use Rattle.algebra.specs.Laws.Naturals.{Σℕ-cong, Σℕ-by}
 use Rattle.algebra.specs.Sorted.{sumAt}
-use Rattle.algebra.specs.Tab.{getD-tab}
+use Rattle.algebra.specs.Laws.Tab.{getD-tab}
 use Rattle.contrasts.specs.Columns.{read, totalsOf}
 use Rattle.contrasts.specs.Limits.{numeratorLimit}
 use Rattle.contrasts.specs.Rows.{rowOf, degreesOf, rowNumerator}
@@ -30,10 +31,10 @@ use Rattle.plan.specs.declared.types.Plan.{Plan}
 use Rattle.plan.specs.Plan.{factorsOf, runsOf}
 use Rattle.plan.specs.Laws.Answers.{written-new}
 use Rattle.rows.specs.Kinds.{rowsIn, Kind, meanRow, blocksRow, errorRow, keptRow, kindOf, codeOf, same}
-use Rattle.rows.specs.Laws.{four-kinds}
+use Rattle.rows.specs.Laws.Kinds.{four-kinds}
 use Rattle.anova.specs.declared.types.Figures.{Figures}
-use Rattle.anova.specs.Ready.{TableReady}
-use Rattle.anova.specs.Table.{tableNumber, sourceOf, totalSource, checksOf, tableFigures, tableTotals, tableRows, rowsOf}
+use Rattle.anova.specs.Inner.Ready.{TableReady}
+use Rattle.anova.specs.Table.{tableRefused, sourceOf, totalSource, checksOf, tableFigures, tableTotals, tableRows, rowsOf}
 use Rattle.anova.specs.Laws.Admitted.{table-admitted}
 use Rattle.anova.specs.Laws.Within.{SourceWithin, all-rows, all-degrees, fit, some-within, row-within, kind-within, total-source-within, total-within-limit, checks-within}
 
@@ -89,7 +90,7 @@ pub record NoneBeyond (p : Plan) (readings : List ℤ) (f : Figures) : Type 0 wh
 abbrev pub TableAddsUp : Type 0
 TableAddsUp =
     (p : Plan) (readings : List ℤ) (marks : List ℕ) (totals : List ℤ) (rows : List ℕ)
-    → tableNumber p readings marks totals rows ≡ 0
+    → tableRefused p readings marks totals rows ≡ 0
     → Formed p marks (tableTotals p readings marks totals rows) (tableRows p readings marks totals rows) (tableFigures p readings marks)
     × AddsUp p readings (tableFigures p readings marks)
     × NoneBeyond p readings (tableFigures p readings marks)
@@ -112,12 +113,12 @@ row-formed p readings w h =
     ap (λ (z : ℤ). cond (eqb (rowOf (factorsOf p) e) w) (numeratorOf (factorsOf p) e z) 0)
     (sym (getD-tab (pos 0) (runsOf p) (total (factorsOf p) (read readings)) e l)))
 
-formed : (p : Plan) (readings : List ℤ) (marks : List ℕ) (totals : List ℤ) (rows : List ℕ) → tableNumber p readings marks totals rows ≡ 0
+formed : (p : Plan) (readings : List ℤ) (marks : List ℕ) (totals : List ℤ) (rows : List ℕ) → tableRefused p readings marks totals rows ≡ 0
     → Formed p marks (tableTotals p readings marks totals rows) (tableRows p readings marks totals rows) (tableFigures p readings marks)
 unfolding tableFigures tableTotals tableRows sourceOf
 formed p readings marks totals rows e =
-    let new = written-new (tableNumber p readings marks totals rows) (rowsOf p readings) rows e in
-    let newTotals = written-new (tableNumber p readings marks totals rows) (totalsOf (factorsOf p) readings) totals e in
+    let new = written-new (tableRefused p readings marks totals rows) (rowsOf p readings) rows e in
+    let newTotals = written-new (tableRefused p readings marks totals rows) (totalsOf (factorsOf p) readings) totals e in
     rw (← new, ← newTotals)
     (record {
       each-row = row-formed p readings;

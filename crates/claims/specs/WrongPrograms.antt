@@ -5,7 +5,7 @@
 -- named below; each is one that the call can be handed, and what is promised of it is computed.
 --
 --   PassCall, TableCall               what a pass call and a table call are, from their inputs to what they leave
---   KeepsCheck, .. , KeepsReport      to keep a call's promise: to come to the same for every input
+--   KeepsCheck, .. , KeepsPrint      to keep a call's promise: to come to the same for every input
 --   refusesPlans, refusesTables       refuse every plan, with any numbers
 --   constantText, constantTable       print one text for every sheet, or for every sheet that is accepted
 --   figuresBy, constantFigures        the table call with figures of its own; with the same figures for all
@@ -19,7 +19,7 @@
 --   inventedChecks                    and with one invented number for both checks
 --   lostAlways, lostForEvery          answer lost for every effect, or for every one that is not refused
 --   emptyPart                         gives an empty part for every sheet
---   four, readings, .. , blank        the named inputs; the sheets are those of `report/specs/Examples.antt`
+--   four, readings, .. , blank        the named inputs; the sheets are those of `printing/specs/Examples.antt`
 --   WrongPrograms                     THE CLAIM; its proof is `wrong-programs` in `Broken.antt`
 use mathlib.Core.Path.{_≡_}
 use mathlib.Core.Bool.{cond}
@@ -30,20 +30,20 @@ use lib.IntN.{ℤ, pos}
 use lib.ListN.{length, drop, replicate}
 use Rattle.algebra.specs.Naturals.{Σℕ}
 use Rattle.contrasts.specs.Columns.{totalsOf}
-use Rattle.contrasts.specs.Tables.{neg}
+use Rattle.contrasts.specs.Codings.{neg}
 use Rattle.contrasts.specs.Totals.{total, denominator}
 use Rattle.rows.specs.Kinds.{Kind, meanRow, blocksRow, errorRow, keptRow, rowsIn, kindOf, same}
 use Rattle.plan.specs.declared.types.Plan.{Plan}
-use Rattle.plan.specs.Check.{planNumber}
+use Rattle.plan.specs.Check.{planRefused}
 use Rattle.plan.specs.Examples.{plan}
 use Rattle.plan.specs.Outcome.{Outcome, given, refused, outcome, written}
 use Rattle.plan.specs.Plan.{factorsOf, runsOf}
-use Rattle.yates.specs.Calls.{passNumber, totalsNumber}
-use Rattle.estimates.specs.Estimate.{Value, mean, lost, estimateNumber}
+use Rattle.yates.specs.Calls.{passRefused, totalsRefused}
+use Rattle.estimates.specs.Estimate.{Value, mean, lost, estimateRefused}
 use Rattle.anova.specs.declared.types.Figures.{Figures}
-use Rattle.anova.specs.Table.{tableNumber, tableFigures, tableTotals, tableRows}
-use Rattle.report.specs.Report.{printed, reportNumber}
-use Rattle.promises.specs.Promised.{Left, Tabled, Printed, promisedCheck, promisedPass, promisedTotals, promisedTable, promisedEstimate, promisedMarks, promisedReport}
+use Rattle.anova.specs.Table.{tableRefused, tableFigures, tableTotals, tableRows}
+use Rattle.printing.specs.Printed.{printed, printRefused}
+use Rattle.promises.specs.Promised.{Left, Tabled, Printed, promisedCheck, promisedPass, promisedTotals, promisedTable, promisedEstimate, promisedMarks, promisedPrint}
 use Rattle.claims.specs.AnyOrder.{Readings, ownPass}
 
 -- ---- to keep a promise
@@ -76,8 +76,8 @@ KeepsEstimate program = (p : Plan) (e : ℕ) (t : ℤ) → program p e t ≡ pro
 abbrev pub KeepsMarks : (List ℕ → List ℕ) → Type 0
 KeepsMarks program = (sheet : List ℕ) → program sheet ≡ promisedMarks sheet
 
-abbrev pub KeepsReport : (List ℕ → List ℕ → Printed) → Type 0
-KeepsReport program = (sheet text : List ℕ) → program sheet text ≡ promisedReport sheet text
+abbrev pub KeepsPrint : (List ℕ → List ℕ → Printed) → Type 0
+KeepsPrint program = (sheet text : List ℕ) → program sheet text ≡ promisedPrint sheet text
 
 -- ---- "one refusing every plan": with any numbers, chosen by all that it is handed
 
@@ -95,12 +95,12 @@ constantText t sheet text = record { count = length t; buffer = t ++ drop (lengt
 
 -- one text for every sheet that is accepted, and the lines of refusals as they should be
 abbrev pub constantTable : List ℕ → List ℕ → List ℕ → Printed
-constantTable t sheet text = constantText (printed (reportNumber sheet) t) sheet text
+constantTable t sheet text = constantText (printed (printRefused sheet) t) sheet text
 
 -- the table call, its figures by a program of their own
 abbrev pub figuresBy : (Plan → List ℤ → List ℕ → Figures) → TableCall
 figuresBy figures p readings marks totals rows = record {
-  answer = outcome (tableNumber p readings marks totals rows) (figures p readings marks);
+  answer = outcome (tableRefused p readings marks totals rows) (figures p readings marks);
   totals = tableTotals p readings marks totals rows;
   rows = tableRows p readings marks totals rows;
 }
@@ -111,14 +111,14 @@ constantFigures f = figuresBy (λ p readings marks. f)
 -- ---- "or leaving the column untouched"
 
 abbrev pub untouchedPass : PassCall
-untouchedPass p f column = record { answer = outcome (passNumber p f column) tt; column = column }
+untouchedPass p f column = record { answer = outcome (passRefused p f column) tt; column = column }
 
 abbrev pub untouchedTotals : Plan → List ℤ → List ℤ → Left
-untouchedTotals p readings totals = record { answer = outcome (totalsNumber p readings totals) tt; column = totals }
+untouchedTotals p readings totals = record { answer = outcome (totalsRefused p readings totals) tt; column = totals }
 
 abbrev pub untouchedTable : TableCall
 untouchedTable p readings marks totals rows = record {
-  answer = outcome (tableNumber p readings marks totals rows) (tableFigures p readings marks);
+  answer = outcome (tableRefused p readings marks totals rows) (tableFigures p readings marks);
   totals = totals;
   rows = rows;
 }
@@ -128,8 +128,8 @@ untouchedTable p readings marks totals rows = record {
 -- the totals for the pass, where the call is not refused
 abbrev pub doesAll : PassCall
 doesAll p f column = record {
-  answer = outcome (passNumber p f column) tt;
-  column = written (passNumber p f column) (totalsOf (factorsOf p) column) column;
+  answer = outcome (passRefused p f column) tt;
+  column = written (passRefused p f column) (totalsOf (factorsOf p) column) column;
 }
 
 -- a call that is told how many were before it
@@ -200,7 +200,7 @@ lostAlways p e t = given lost
 
 -- and what is to be refused is
 abbrev pub lostForEvery : Plan → ℕ → ℤ → Outcome Value
-lostForEvery p e t = outcome (estimateNumber p e t) lost
+lostForEvery p e t = outcome (estimateRefused p e t) lost
 
 abbrev pub emptyPart : List ℕ → List ℕ
 emptyPart sheet = []
@@ -235,7 +235,7 @@ threeLevels = plan 3 1 [] [] []
 abbrev pub threeReadings : List ℤ
 threeReadings = pos 2 ∷ pos 5 ∷ pos 3 ∷ []
 
--- the buffer that the report call is lent
+-- the buffer that the print call is lent
 abbrev pub blank : List ℕ
 blank = replicate 69_632 0
 
@@ -247,8 +247,8 @@ pub record WrongPrograms : Type 0 where
   pub refusing-plans : (number : Plan → ℕ) → KeepsCheck (refusesPlans number) → ⊥
   pub refusing-tables : (number : Plan → List ℤ → List ℕ → List ℤ → List ℕ → ℕ) → KeepsTable (refusesTables number) → ⊥
   -- "one printing a constant table"
-  pub constant-text : (t : List ℕ) → KeepsReport (constantText t) → ⊥
-  pub constant-table : (t : List ℕ) → KeepsReport (constantTable t) → ⊥
+  pub constant-text : (t : List ℕ) → KeepsPrint (constantText t) → ⊥
+  pub constant-table : (t : List ℕ) → KeepsPrint (constantTable t) → ⊥
   pub constant-figures : (f : Figures) → KeepsTable (constantFigures f) → ⊥
   -- "or leaving the column untouched (demands 2 and 3)"
   pub untouched-pass : KeepsPass untouchedPass → ⊥
@@ -264,7 +264,7 @@ pub record WrongPrograms : Type 0 where
   pub not-B : firstDoesAll 1 four 1 fourTotals .column ≡ ownPass four 1 fourTotals → ⊥
   pub ends-so : afterTold firstDoesAll 0 four (0 ∷ 1 ∷ []) readings ≡ fourTotals
   -- and so does every list of calls that begins with a base factor's: its end alone does not tell
-  pub ends-right : (p : Plan) → planNumber p ≡ 0 → (column : List ℤ) → Readings p column → (f : ℕ) → f < p .k → (fs : List ℕ)
+  pub ends-right : (p : Plan) → planRefused p ≡ 0 → (column : List ℤ) → Readings p column → (f : ℕ) → f < p .k → (fs : List ℕ)
       → afterTold firstDoesAll 0 p (f ∷ fs) column ≡ totalsOf (factorsOf p) column
   -- "one with invented degrees or check numbers (demand 2)"
   pub invented-degrees : (m k b e : ℕ) → KeepsTable (inventedDegrees m k b e) → ⊥

@@ -7,7 +7,7 @@ use mathlib.Core.List.{List}
 use Prim.Native.Nat.{ℕ, _+_, _<_, _≤_}
 use lib.IntN.{ℤ, pos}
 use lib.ListN.{length, set}
-use Rattle.algebra.specs.Fill.{Filled, filled-none, filled-long, filled-more, filled-all}
+use Rattle.algebra.specs.Laws.Fill.{Filled, filled-none, filled-long, filled-more, filled-all}
 use Rattle.contrasts.specs.Columns.{read}
 use Rattle.contrasts.specs.Laws.Lists.{tab-read}
 

@@ -20,11 +20,12 @@ use mir.Facts.{toZ-ofZ}
 use mir.Syntax.{w32, w64}
 use mir.Val.{SFits, toZ, ofZ}
 use mir.ValLaws.{toZ-pos}
-use Rattle.algebra.specs.Search as search-for
-use Rattle.algebra.specs.Search.{Unfound, Seen}
-use Rattle.algebra.specs.Size.{natAbs-sub, fits, fits-half, wrap}
+use Rattle.algebra.specs.Laws.Searching as search-for
+use Rattle.algebra.specs.Laws.Searching.{Unfound, Seen}
+use Rattle.algebra.specs.Laws.Size.{natAbs-sub}
+use Rattle.algebra.specs.Laws.Machine.{fits, fits-half, wrap}
 use Rattle.contrasts.specs.Columns.{read}
-use Rattle.columns.specs.Lines.{isBeyond, anyBeyond}
+use Rattle.columns.specs.Refusals.{isBeyond, anyBeyond}
 
 -- ---- the tests
 

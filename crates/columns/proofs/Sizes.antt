@@ -13,11 +13,11 @@ use lib.Bits.{bitOr, or-add-and, and-le-l, and-le-r}
 use lib.IntN.{ℤ, natAbs}
 use lib.ListN.{length}
 use lib.Signed.{mag}
-use Rattle.algebra.specs.Signs.{size-mag}
+use Rattle.algebra.specs.Laws.Signs.{size-mag}
 use Rattle.contrasts.specs.Columns.{read, AllWithin}
 use Rattle.contrasts.specs.Limits.{valueLimit}
-use Rattle.contrasts.specs.Laws.Lists.{within-upto}
-use Rattle.columns.specs.Lines.{anyBeyond}
+use Rattle.contrasts.specs.Laws.Within.{within-upto}
+use Rattle.columns.specs.Refusals.{anyBeyond}
 use Rattle.columns.specs.Laws.Admitted.{none-beyond}
 
 -- ---- the loop

@@ -1,6 +1,6 @@
 -- Laws on columns that callers cite.
 --
---   Lengths     line 11, of an accepted plan, as the code compares
+--   Lengths     refusal 11, of an accepted plan, as the code compares
 --   Admitted    what is known of columns that are not refused, and that this is all that is asked
 --   Alike       places beyond a plan's counts are ignored
 pub mod Lengths

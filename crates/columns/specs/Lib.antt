@@ -1,10 +1,8 @@
 -- What is refused of a column, and what a call that writes one answers.
 --
---   Lines   lines 11 and 12, and the answer
---   Judged  what is judged first
---   Copies  the copy of readings
---   Laws    laws on them
-pub mod Lines
-pub mod Judged
-pub mod Copies
+--   Refusals   refusals 11 and 12, and the answer
+--   Laws       laws on them
+--   Inner      what the inner functions ask and leave; no promise of a call
+pub mod Refusals
 pub mod Laws
+pub mod Inner

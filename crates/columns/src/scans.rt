@@ -1,8 +1,8 @@
-// Line 12: values beyond a limit, either way.
+// Refusal 12: values beyond a limit, either way.
 ghost use mathlib.Core.Path.{_≡_};
 use super::bits::all_bits;
 ghost use Rattle.contrasts.specs.Limits.{readingLimit, valueLimit};
-ghost use Rattle.columns.specs.Lines.{isBeyond, anyBeyond};
+ghost use Rattle.columns.specs.Refusals.{isBeyond, anyBeyond};
 
 const READING_LIMIT: i32 = 100_000;
 

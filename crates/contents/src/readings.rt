@@ -5,8 +5,8 @@ ghost use lib.ListN.{length};
 use columns::is_reading_beyond;
 use numerals::reading;
 ghost use Rattle.contrasts.specs.Limits.{readingLimit};
-ghost use Rattle.columns.specs.Lines.{anyBeyond};
-ghost use Rattle.columns.specs.Copies.{copied};
+ghost use Rattle.columns.specs.Refusals.{anyBeyond};
+ghost use Rattle.columns.specs.Inner.Copies.{copied};
 ghost use Rattle.contents.specs.Contents.{readingAt, readingsOf};
 
 fn reading_at(body: &[u8], i: usize) -> i32

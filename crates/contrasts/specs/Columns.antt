@@ -13,7 +13,9 @@ use lib.IntN.{ℤ, pos, natAbs}
 use lib.ListN.{getD}
 use Rattle.algebra.specs.Tab.{tab}
 use Rattle.contrasts.specs.Factor.{Factor}
-use Rattle.contrasts.specs.Totals.{Column, size, total, pass, step}
+use Rattle.contrasts.specs.Totals.{Column, size, total}
+use Rattle.contrasts.specs.Passes.{pass}
+use Rattle.contrasts.specs.Steps.{step}
 
 abbrev pub read : List ℤ → Column
 read xs i = getD xs i (pos 0)

@@ -16,9 +16,12 @@ use Rattle.algebra.specs.Tab.{tab, tabFrom}
 use Rattle.contrasts.specs.Columns.{read, totalsOf, passOf, passesOf, stepOf, stepsOf}
 use Rattle.contrasts.specs.Factor.{Factor}
 use Rattle.contrasts.specs.Rows.{rowOf, degreesOf}
-use Rattle.contrasts.specs.Tables.{two, three, neg}
-use Rattle.contrasts.specs.Totals.{size, digitAt, withDigit, coef*, total, passFrom, passAt, step, divisor*, denominator, weight*, numeratorOf, numerator, squared}
-use Rattle.contrasts.specs.Totals.{checkWeight, round, rounds}
+use Rattle.contrasts.specs.Factors.{two, three}
+use Rattle.contrasts.specs.Codings.{neg}
+use Rattle.contrasts.specs.Totals.{size, coef*, total, divisor*, denominator, weight*, numeratorOf, numerator, squared}
+use Rattle.contrasts.specs.Passes.{digitAt, withDigit, passFrom, passAt}
+use Rattle.contrasts.specs.Steps.{step}
+use Rattle.contrasts.specs.Checks.{checkWeight, round, rounds}
 
 -- ---- "Readings 3, 5, 4, 8: totals 20, -6, -4, 2; numerators 400, 36, 16, 4; sum 456, which is 4 times 114; check 12."
 

@@ -2,8 +2,12 @@
 -- rules work out; then the theorems.
 --
 --   Factor      a factor and its law of orthogonal rows
---   Tables      the factors of two to five levels, from tables that pass one computed test
---   Totals      what "Totals and passes" defines
+--   Codings     the rows of coefficients of two to five levels
+--   Factors     the factors, from codings that pass one computed test
+--   Totals      totals, divisors and numerators
+--   Passes      passes, and lists of pass calls
+--   Steps       the report's own step
+--   Checks      the rounds of the check
 --   Rows        the rows of the table and their degrees
 --   Limits      the limits of readings, values and numerators
 --   Columns     the definitions over columns that are lists
@@ -11,8 +15,12 @@
 --   Examples    the worked examples, computed
 --   Laws        the theorems
 pub mod Factor
-pub mod Tables
+pub mod Codings
+pub mod Factors
 pub mod Totals
+pub mod Passes
+pub mod Steps
+pub mod Checks
 pub mod Rows
 pub mod Limits
 pub mod Columns

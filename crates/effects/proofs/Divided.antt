@@ -10,11 +10,11 @@ use Prim.Native.Nat.{ℕ, suc, _+_, _-_, _*_, _/_, _^_, _<_, _≤_}
 use native.Mathlib.Nat.{div-div-eq-div-mul, pow-suc, div-one}
 use native.Mathlib.Omega.{arith}
 use lib.ListN.{length, getD, set, replicate}
-use Rattle.algebra.specs.Fill.{Filled, filled-none, filled-long, filled-old, filled-more, filled-all}
-use Rattle.algebra.specs.Tab.{length-tab, getD-tab, tab-cong}
-use Rattle.contrasts.specs.Tables.{three}
+use Rattle.algebra.specs.Laws.Fill.{Filled, filled-none, filled-long, filled-old, filled-more, filled-all}
+use Rattle.algebra.specs.Laws.Tab.{length-tab, getD-tab, tab-cong}
+use Rattle.contrasts.specs.Factors.{three}
 use Rattle.contrasts.specs.Totals.{divisor*}
-use Rattle.effects.specs.Divisors.{sixFactors, thirds, divisorsOf}
+use Rattle.effects.specs.Inner.Divisors.{sixFactors, thirds, divisorsOf}
 
 pub record Divided (xs : List ℕ) (e : ℕ) (ys : List ℕ) : Type 0 where
   pub so : Filled (length xs) (λ j. getD xs j 0 / 3) (λ j. getD xs j 0) e ys

@@ -18,10 +18,11 @@ use native.Mathlib.Omega.{arith}
 use borrow.Author.Tests.{lt-ltb, le-ltb}
 use lib.Dec.{eqb, ltb}
 use lib.ListN.{getD, set, replicate, length-replicate, getD-replicate}
-use Rattle.algebra.specs.Fill.{Filled, filled-none, filled-old, filled-new, filled-more}
-use Rattle.algebra.specs.Tab.{tab, tab-cong}
+use Rattle.algebra.specs.Laws.Fill.{Filled, filled-none, filled-old, filled-new, filled-more}
+use Rattle.algebra.specs.Tab.{tab}
+use Rattle.algebra.specs.Laws.Tab.{tab-cong}
 use Rattle.contrasts.specs.Rows.{rowOf}
-use Rattle.contrasts.specs.Tables.{three}
+use Rattle.contrasts.specs.Factors.{three}
 use Rattle.contrasts.specs.Totals.{size}
 use Rattle.contrasts.specs.Laws.Degrees.{row-lt}
 use Rattle.contrasts.specs.Laws.Rows.{row-none, row-again, row-fewer, row-two}

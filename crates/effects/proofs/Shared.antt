@@ -16,9 +16,10 @@ use native.Mathlib.Omega.{arith}
 use borrow.Author.Tests.{le-ltb}
 use lib.Dec.{ltb}
 use lib.ListN.{getD, set, replicate, length-replicate, getD-replicate}
-use Rattle.algebra.specs.Fill.{Filled, filled-none, filled-more}
-use Rattle.algebra.specs.Tab.{tab, getD-tab, is-tab, tab-cong}
-use Rattle.contrasts.specs.Tables.{three}
+use Rattle.algebra.specs.Laws.Fill.{Filled, filled-none, filled-more}
+use Rattle.algebra.specs.Tab.{tab}
+use Rattle.algebra.specs.Laws.Tab.{getD-tab, is-tab, tab-cong}
+use Rattle.contrasts.specs.Factors.{three}
 use Rattle.contrasts.specs.Totals.{divisor*}
 use Rattle.contrasts.specs.Laws.ThreeLevels.{divisor-three}
 use Rattle.contrasts.specs.Laws.TwoLevels.{divisor-two}
@@ -26,7 +27,7 @@ use Rattle.plan.specs.declared.types.Plan.{Plan}
 use Rattle.plan.specs.Check.{runCount}
 use Rattle.plan.specs.Plan.{factorsOf}
 use Rattle.plan.specs.Laws.Sizes.{RunsTwo, RunsThree, runs-known}
-use Rattle.effects.specs.Divisors.{divisorsOf}
+use Rattle.effects.specs.Inner.Divisors.{divisorsOf}
 use Rattle.effects.specs.Effects.{effectDivisors}
 
 ones : (f : ℕ → ℕ) → Filled 1024 f (λ j. 1) 0 (replicate 1024 1)

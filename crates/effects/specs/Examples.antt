@@ -9,12 +9,12 @@ use lib.ListN.{take}
 use Rattle.algebra.specs.Tab.{tabFrom}
 use Rattle.contrasts.specs.Limits.{mostTwo, mostThree}
 use Rattle.contrasts.specs.Rows.{rowOf}
-use Rattle.contrasts.specs.Tables.{two, three}
+use Rattle.contrasts.specs.Factors.{two, three}
 use Rattle.contrasts.specs.Totals.{size, divisor*}
 use Rattle.plan.specs.Check.{badLevels, badFactors, runCount}
 use Rattle.plan.specs.Examples.{plan}
 use Rattle.plan.specs.Plan.{factorsOf}
-use Rattle.effects.specs.Divisors.{divisorsOf}
+use Rattle.effects.specs.Inner.Divisors.{divisorsOf}
 use Rattle.effects.specs.Effects.{effectRows, effectDivisors}
 
 -- "Two three-level factors: divisors 9, 6, 18, 6, 4, 12, 18, 12, 36."

@@ -1,8 +1,8 @@
 -- What the calls on effects promise.
 --
 --   Effects    the rows and the divisors of a plan's effects
---   Divisors   the table of divisors, and the divisors of fewer factors
 --   Examples   rows and divisors of two factors, computed
+--   Inner      what the inner functions ask and leave; no promise of a call
 pub mod Effects
-pub mod Divisors
 pub mod Examples
+pub mod Inner

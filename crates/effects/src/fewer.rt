@@ -1,7 +1,7 @@
 // The divisors of three-level plans with fewer than six factors.
 ghost use mathlib.Core.Path.{_≡_};
-use super::table::six_factors;
-ghost use Rattle.effects.specs.Divisors.{divisorsOf, thirds};
+use super::constants::six_factors;
+ghost use Rattle.effects.specs.Inner.Divisors.{divisorsOf, thirds};
 
 // Each divisor, divided by 3.
 fn divide_by_three(divisors: &mut [u32])

@@ -6,7 +6,7 @@ ghost use lib.Dec.{eqb, ltb};
 ghost use lib.ListN.{replicate};
 ghost use Rattle.algebra.specs.Tab.{tab};
 ghost use Rattle.contrasts.specs.Rows.{rowOf};
-ghost use Rattle.contrasts.specs.Tables.{three};
+ghost use Rattle.contrasts.specs.Factors.{three};
 use plan::Plan;
 use sizes::runs;
 ghost use Rattle.effects.specs.Effects.{effectRows};

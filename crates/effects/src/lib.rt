@@ -2,10 +2,10 @@
 //
 //   rows(p)       the row of each effect
 //   divisors(p)   the divisor of each effect
+mod constants;
 mod fewer;
 mod letters;
 mod shares;
-mod table;
 
 pub use letters::rows;
 pub use shares::divisors;

@@ -5,7 +5,7 @@ ghost use Prim.Native.Nat.{_^_, _≤_};
 ghost use lib.Dec.{ltb};
 ghost use lib.ListN.{replicate};
 ghost use Rattle.algebra.specs.Tab.{tab};
-ghost use Rattle.contrasts.specs.Tables.{three};
+ghost use Rattle.contrasts.specs.Factors.{three};
 ghost use Rattle.contrasts.specs.Totals.{divisor*};
 use super::fewer::fewer_factors;
 use plan::Plan;

@@ -10,32 +10,32 @@ use lib.IntN.{ℤ}
 use mir.Facts.{toZ-ofZ}
 use mir.Syntax.{w64}
 use mir.Val.{SFits}
-use Rattle.algebra.specs.Size.{wrap}
+use Rattle.algebra.specs.Laws.Machine.{wrap}
 use Rattle.plan.specs.declared.types.Plan.{Plan}
 use Rattle.plan.specs.Check.{confoundedAccepted}
 use Rattle.plan.specs.Outcome.{Outcome, given, refused, outcome}
 use Rattle.plan.specs.Laws.Answers.{refused-with, given-with}
 use Rattle.plan.specs.Laws.Sizes.{confounded-is}
 use Rattle.estimates.specs.Quotient.{InDouble}
-use Rattle.estimates.specs.Estimate.{Value, valueBy, estimateNumber, estimateValue}
+use Rattle.estimates.specs.Estimate.{Value, valueBy, estimateRefused, estimateValue}
 use Rattle.estimates.specs.Laws.Given.{Admitted, admitted, some-factor, held}
 
-module _ (p : Plan) (e : ℕ) {t : ℤ} (f : SFits w64 t) {n : ℕ} (d : n ≡ estimateNumber p e (wrap t)) where
-  found : n ≡ estimateNumber p e t
-  found = d ∙ ap (estimateNumber p e) (toZ-ofZ f)
+module _ (p : Plan) (e : ℕ) {t : ℤ} (f : SFits w64 t) {n : ℕ} (d : n ≡ estimateRefused p e (wrap t)) where
+  found : n ≡ estimateRefused p e t
+  found = d ∙ ap (estimateRefused p e) (toZ-ofZ f)
 
-  pub stopped : (n ≡ 0 → ⊥) → refused n ≡ outcome (estimateNumber p e t) (estimateValue p e t)
+  pub stopped : (n ≡ 0 → ⊥) → refused n ≡ outcome (estimateRefused p e t) (estimateValue p e t)
   stopped h = rw (← found) (sym (refused-with n (estimateValue p e t) h))
 
   module _ (z : n ≡ 0) where
-    none : estimateNumber p e t ≡ 0
+    none : estimateRefused p e t ≡ 0
     none = sym found ∙ z
 
     pub ready : (0 < p .k) × InDouble (wrap t) (p .k)
     ready = let a : Admitted p e t = admitted p e t none in (some-factor a, rw (toZ-ofZ f) (held a))
 
     pub answered : {b : Bool} → b ≡ confoundedAccepted p e → {x : Outcome Value} → x ≡ given (valueBy b (p .k) e (wrap t))
-        → x ≡ outcome (estimateNumber p e t) (estimateValue p e t)
+        → x ≡ outcome (estimateRefused p e t) (estimateValue p e t)
     answered l v =
         v
-        ∙ rw (toZ-ofZ f, l, confounded-is p e (admitted p e t none .plan)) (sym (given-with (estimateNumber p e t) (estimateValue p e t) none))
+        ∙ rw (toZ-ofZ f, l, confounded-is p e (admitted p e t none .plan)) (sym (given-with (estimateRefused p e t) (estimateValue p e t) none))

@@ -18,8 +18,8 @@ use lib.Ieee.Scale.{round-same}
 use mir.Facts.{toZ-ofZ}
 use mir.Syntax.{w64}
 use mir.Val.{SFits}
-use Rattle.algebra.specs.Bits.{one-shifted}
-use Rattle.algebra.specs.Size.{wrap}
+use Rattle.algebra.specs.Laws.Gathered.{one-shifted}
+use Rattle.algebra.specs.Laws.Machine.{wrap}
 use Rattle.estimates.specs.Quotient.{negative, quotient, InDouble}
 use Rattle.estimates.specs.Laws.Exact.{exact, of-value}
 

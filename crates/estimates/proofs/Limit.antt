@@ -14,8 +14,8 @@ use lib.Signed.{ltZ, mag}
 use mir.Facts.{toZ-ofZ}
 use mir.Syntax.{w64}
 use mir.Val.{SFits}
-use Rattle.algebra.specs.Signs.{turned-is, upright-is}
-use Rattle.algebra.specs.Size.{wrap}
+use Rattle.algebra.specs.Laws.Signs.{turned-is, upright-is}
+use Rattle.algebra.specs.Laws.Machine.{wrap}
 use Rattle.contrasts.specs.Limits.{readingLimit}
 
 limit : (k : ℕ) → k ≤ 10 → 100000 * 2 ^ k % 2 ^ 64 ≡ 2 ^ k * readingLimit

@@ -5,8 +5,8 @@
 --   valueBy lost k e t      the outcome of the effect e with the total t, by whether it is lost
 --   estimateValue p e t     the outcome of an effect of a plan
 --   totalLimit p            the largest size of a total that is admitted
---   estimateLines p e t     the lines of the call besides those of the plan
---   estimateNumber p e t    the lowest number that applies, 0 where an estimate is given
+--   estimateRefusals p e t     the refusals of the call besides those of the plan
+--   estimateRefused p e t    the lowest number that applies, 0 where an estimate is given
 --   estimateOutcome         the cases of the call's answer
 --   ExactlyGiven p t o      a mean or a difference that is given is exactly its quotient
 use mathlib.Core.Bool.{Bool, cond}
@@ -18,7 +18,7 @@ use lib.Ieee.{Float}
 use Rattle.contrasts.specs.Limits.{readingLimit}
 use Rattle.words.specs.Words.{beyond}
 use Rattle.plan.specs.declared.types.Plan.{Plan}
-use Rattle.plan.specs.Outcome.{Line, line, Outcome, given, refused}
+use Rattle.plan.specs.Outcome.{Refusal, refusal, Outcome, given, refused}
 use Rattle.plan.specs.Plan.{confoundedIn}
 use Rattle.plan.specs.Check.{withPlan}
 use Rattle.estimates.specs.declared.types.Estimate.{Estimate}
@@ -57,11 +57,11 @@ totalLimit p = 2 ^ p .k * readingLimit
 
 -- 9: "estimate, alias or run call asked at three levels"; 10: "[..] estimate's letter not a base factor";
 -- 12: "estimate's total beyond its limit"
-abbrev pub estimateLines : Plan → ℕ → ℤ → List Line
-estimateLines p e t = line 9 (eqb (p .levels) 3) ∷ line 10 (beyond (p .k) e) ∷ line 12 (ltb (totalLimit p) (natAbs t)) ∷ []
+abbrev pub estimateRefusals : Plan → ℕ → ℤ → List Refusal
+estimateRefusals p e t = refusal 9 (eqb (p .levels) 3) ∷ refusal 10 (beyond (p .k) e) ∷ refusal 12 (ltb (totalLimit p) (natAbs t)) ∷ []
 
-unfoldable pub estimateNumber : Plan → ℕ → ℤ → ℕ
-estimateNumber p e t = withPlan p (estimateLines p e t)
+unfoldable pub estimateRefused : Plan → ℕ → ℤ → ℕ
+estimateRefused p e t = withPlan p (estimateRefusals p e t)
 
 -- ---- the answer
 

@@ -3,7 +3,7 @@
 --   quotients              totals over powers of two, as doubles
 --   four, eight            readings 3, 5, 4, 8, and readings 1 to 8 with the block word ABC
 --   largest                "k = 1, -100,000 and 100,000"
---   small-inputs           the small inputs of lines 9, 10 and 12, and the lowest of them where several apply
+--   small-inputs           the small inputs of refusals 9, 10 and 12, and the lowest of them where several apply
 --   at-limits              the largest totals that are admitted, and those one larger
 use mathlib.Core.Path.{_≡_, refl}
 use mathlib.Core.Bool.{true, false}
@@ -15,15 +15,15 @@ use Rattle.algebra.specs.Naturals.{Σℕ}
 use Rattle.algebra.specs.Bits.{bits}
 use Rattle.algebra.specs.Search.{some}
 use Rattle.contrasts.specs.Limits.{readingLimit, mostTwo, mostThree}
-use Rattle.contrasts.specs.Tables.{neg}
+use Rattle.contrasts.specs.Codings.{neg}
 use Rattle.words.specs.Words.{letters, beyond, times, combined, any, among, repeated}
 use Rattle.plan.specs.declared.types.Plan.{Plan}
 use Rattle.plan.specs.Examples.{plan, A, C, ABC}
 use Rattle.plan.specs.Outcome.{Outcome, given, refused, outcome}
 use Rattle.plan.specs.Plan.{someCombination, combinesTo}
-use Rattle.plan.specs.Check.{badLevels, badFactors, badCounts, badWord, badSign, badWords, dependent, factorWord, losesFactor, planNumber, withPlan}
+use Rattle.plan.specs.Check.{badLevels, badFactors, badCounts, badWord, badSign, badWords, dependent, factorWord, losesFactor, planRefused, withPlan}
 use Rattle.estimates.specs.Quotient.{quotient}
-use Rattle.estimates.specs.Estimate.{Value, mean, difference, lost, meanOf, differenceOf, valueBy, estimateValue, estimateNumber}
+use Rattle.estimates.specs.Estimate.{Value, mean, difference, lost, meanOf, differenceOf, valueBy, estimateValue, estimateRefused}
 
 -- 7 / 4 is 7 * 2 ^ -2, 12 / 4 is 3, -6 / 8 is -3 * 2 ^ -2, and 0 / 8 is positive zero
 quotients : quotient (pos 7) 2 ∷ quotient (pos 12) 2 ∷ quotient (neg 6) 3 ∷ quotient (pos 0) 3 ∷ []
@@ -32,7 +32,7 @@ unfolding quotient
 quotients = refl
 
 abbrev answer : Plan → ℕ → ℤ → Outcome Value
-answer p e t = outcome (estimateNumber p e t) (estimateValue p e t)
+answer p e t = outcome (estimateRefused p e t) (estimateValue p e t)
 
 -- the answers by a column of totals, from effect e on: "place e of a column of totals holds the total of effect e"
 abbrev answers : Plan → ℕ → List ℤ → List (Outcome Value)
@@ -52,7 +52,7 @@ four : answers twoFactors 0 (pos 20 ∷ neg 6 ∷ neg 4 ∷ pos 2 ∷ [])
     ∷ given (difference (fin true 1 (pos 1)))
     ∷ given (difference (fin false 1 (pos 0)))
     ∷ []
-unfolding estimateNumber withPlan planNumber badLevels badFactors mostTwo mostThree badCounts badWords badWord badSign repeated dependent losesFactor factorWord any among beyond letters combined times someCombination combinesTo some bits Σℕ readingLimit valueBy meanOf differenceOf quotient
+unfolding estimateRefused withPlan planRefused badLevels badFactors mostTwo mostThree badCounts badWords badWord badSign repeated dependent losesFactor factorWord any among beyond letters combined times someCombination combinesTo some bits Σℕ readingLimit valueBy meanOf differenceOf quotient
 four = refl
 
 abbrev inBlocks : Plan
@@ -69,12 +69,12 @@ eight : answers inBlocks 0 (pos 36 ∷ neg 4 ∷ neg 8 ∷ pos 0 ∷ neg 16 ∷ 
     ∷ given (difference positiveZero)
     ∷ given lost
     ∷ []
-unfolding estimateNumber withPlan planNumber badLevels badFactors mostTwo mostThree badCounts badWords badWord badSign repeated dependent losesFactor factorWord any among beyond letters combined times someCombination combinesTo some bits Σℕ readingLimit valueBy meanOf differenceOf quotient
+unfolding estimateRefused withPlan planRefused badLevels badFactors mostTwo mostThree badCounts badWords badWord badSign repeated dependent losesFactor factorWord any among beyond letters combined times someCombination combinesTo some bits Σℕ readingLimit valueBy meanOf differenceOf quotient
 eight = refl
 
 -- "totals 0, -200,000; difference -200,000", which is -3,125 * 2 ^ 6
 largest : answers (plan 2 1 [] [] []) 0 (pos 0 ∷ neg 200_000 ∷ []) ≡ given (mean positiveZero) ∷ given (difference (fin true 3_125 (pos 6))) ∷ []
-unfolding estimateNumber withPlan planNumber badLevels badFactors mostTwo mostThree badCounts badWords badWord badSign repeated dependent losesFactor factorWord any among beyond letters combined times someCombination combinesTo some bits Σℕ readingLimit valueBy meanOf differenceOf quotient
+unfolding estimateRefused withPlan planRefused badLevels badFactors mostTwo mostThree badCounts badWords badWord badSign repeated dependent losesFactor factorWord any among beyond letters combined times someCombination combinesTo some bits Σℕ readingLimit valueBy meanOf differenceOf quotient
 largest = refl
 
 -- "levels 3, k = 1"; k = 2, effect C; k = 2, total 400,001; then calls to which 3, 9, 10 and 12 apply, 9, 10
@@ -87,19 +87,19 @@ small-inputs : answer (plan 3 1 [] [] []) A (pos 0)
     ∷ answer twoFactors C (neg 1_000_000_000)
     ∷ []
     ≡ refused 9 ∷ refused 10 ∷ refused 12 ∷ refused 3 ∷ refused 9 ∷ refused 10 ∷ []
-unfolding estimateNumber withPlan planNumber badLevels badFactors mostTwo mostThree badCounts badWords badWord badSign repeated dependent losesFactor factorWord any among beyond letters combined times someCombination combinesTo some bits Σℕ readingLimit valueBy meanOf differenceOf quotient
+unfolding estimateRefused withPlan planRefused badLevels badFactors mostTwo mostThree badCounts badWords badWord badSign repeated dependent losesFactor factorWord any among beyond letters combined times someCombination combinesTo some bits Σℕ readingLimit valueBy meanOf differenceOf quotient
 small-inputs = refl
 
 -- both ways, with two factors and with ten, and the smallest i64; an effect that is lost is refused by its total too
-at-limits : estimateNumber twoFactors A (pos 400_000)
-    ∷ estimateNumber twoFactors A (neg 400_000)
-    ∷ estimateNumber twoFactors A (pos 400_001)
-    ∷ estimateNumber twoFactors A (neg 400_001)
-    ∷ estimateNumber (plan 2 10 [] [] []) 0 (neg 102_400_000)
-    ∷ estimateNumber (plan 2 10 [] [] []) 0 (pos 102_400_001)
-    ∷ estimateNumber twoFactors A (neg 9_223_372_036_854_775_808)
-    ∷ estimateNumber inBlocks ABC (pos 800_001)
+at-limits : estimateRefused twoFactors A (pos 400_000)
+    ∷ estimateRefused twoFactors A (neg 400_000)
+    ∷ estimateRefused twoFactors A (pos 400_001)
+    ∷ estimateRefused twoFactors A (neg 400_001)
+    ∷ estimateRefused (plan 2 10 [] [] []) 0 (neg 102_400_000)
+    ∷ estimateRefused (plan 2 10 [] [] []) 0 (pos 102_400_001)
+    ∷ estimateRefused twoFactors A (neg 9_223_372_036_854_775_808)
+    ∷ estimateRefused inBlocks ABC (pos 800_001)
     ∷ []
     ≡ 0 ∷ 0 ∷ 12 ∷ 12 ∷ 0 ∷ 12 ∷ 12 ∷ 12 ∷ []
-unfolding estimateNumber withPlan planNumber badLevels badFactors mostTwo mostThree badCounts badWords badWord badSign repeated dependent losesFactor factorWord any among beyond letters combined times someCombination combinesTo some bits Σℕ readingLimit
+unfolding estimateRefused withPlan planRefused badLevels badFactors mostTwo mostThree badCounts badWords badWord badSign repeated dependent losesFactor factorWord any among beyond letters combined times someCombination combinesTo some bits Σℕ readingLimit
 at-limits = refl

@@ -12,11 +12,11 @@ use words::has_beyond;
 ghost use Rattle.contrasts.specs.Limits.{readingLimit};
 ghost use Rattle.plan.specs.Outcome.{outcome, given};
 ghost use Rattle.estimates.specs.Quotient.{InDouble};
-ghost use Rattle.estimates.specs.Estimate.{valueBy, estimateNumber, estimateValue, estimateOutcome, ExactlyGiven};
+ghost use Rattle.estimates.specs.Estimate.{valueBy, estimateRefused, estimateValue, estimateOutcome, ExactlyGiven};
 
 const READING_LIMIT: u64 = 100_000;
 
-// Line 12: whether a total lies beyond 2 to the power k times the limit of a reading, either way. Of a negative total the size less 1 is
+// Refusal 12: whether a total lies beyond 2 to the power k times the limit of a reading, either way. Of a negative total the size less 1 is
 // compared, -1 minus the total, which is an i64 for every total.
 fn is_beyond(total: i64, k: usize) -> bool
     requires { ⌜ k ≤ 10 ⌝ }
@@ -30,8 +30,8 @@ fn is_beyond(total: i64, k: usize) -> bool
 }
 
 // The lowest number that applies, and 0 where none does.
-fn estimate_number(p: Plan, effect: u16, total: i64) -> u8
-    ensures { λ r. ⌜ r ≡ estimateNumber p effect total ⌝ }
+fn estimate_refused(p: Plan, effect: u16, total: i64) -> u8
+    ensures { λ r. ⌜ r ≡ estimateRefused p effect total ⌝ }
 {
     let n = lowest(p);
     if n != 0 {
@@ -66,10 +66,10 @@ fn value(lost: bool, k: usize, effect: u16, total: i64) -> Estimate
 
 // The mean or the difference by the total of an effect, or that the effect is lost to blocks.
 pub fn estimate(p: Plan, effect: u16, total: i64) -> Estimate
-    ensures { λ r. ⌜ estimateOutcome r ≡ outcome (estimateNumber p effect total) (estimateValue p effect total) ⌝ }
+    ensures { λ r. ⌜ estimateOutcome r ≡ outcome (estimateRefused p effect total) (estimateValue p effect total) ⌝ }
     ensures { λ r. ⌜ ExactlyGiven p total (estimateOutcome r) ⌝ }
 {
-    let n = estimate_number(p, effect, total);
+    let n = estimate_refused(p, effect, total);
     if n != 0 {
         return Estimate::Refused(n);
     }

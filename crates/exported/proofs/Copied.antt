@@ -7,8 +7,8 @@ use mathlib.Core.Path.{_≡_, refl, sym, _∙_}
 use mathlib.Core.List.{List}
 use Prim.Native.Nat.{ℕ, _+_, _<_, _≤_}
 use lib.ListN.{length, getD, set}
-use Rattle.algebra.specs.Fill.{Filled, filled-none, filled-long, filled-more, filled-all}
-use Rattle.algebra.specs.Tab.{is-tab}
+use Rattle.algebra.specs.Laws.Fill.{Filled, filled-none, filled-long, filled-more, filled-all}
+use Rattle.algebra.specs.Laws.Tab.{is-tab}
 
 module _ {A : Type 0} where
   pub record Copying (z : A) (xs old : List A) (i : ℕ) (ys : List A) : Type 0 where

@@ -15,18 +15,18 @@ use borrow.Author.Tests.{eq-eqb, ne-eqb, eqb-true, not-false}
 use lib.Dec.{eqb}
 use lib.IntN.{ℤ}
 use lib.ListN.{length}
-use Rattle.algebra.specs.Tests.{neither}
+use Rattle.algebra.specs.Laws.Tests.{neither}
 use Rattle.contrasts.specs.Columns.{totalsOf}
 use Rattle.plan.specs.declared.types.Plan.{Plan}
-use Rattle.plan.specs.Check.{planNumber}
+use Rattle.plan.specs.Check.{planRefused}
 use Rattle.plan.specs.Laws.Answers.{plan-first, after-plan, unwritten, written-new, given-is, refused-is}
-use Rattle.plan.specs.Outcome.{line, outcome, written}
+use Rattle.plan.specs.Outcome.{refusal, outcome, written}
 use Rattle.plan.specs.Plan.{factorsOf}
 use Rattle.anova.specs.declared.types.Figures.{Figures}
 use Rattle.anova.specs.declared.types.Table.{Table}
 use Rattle.anova.specs.declared.types.Table.the-variants.{Made, Refused}
-use Rattle.anova.specs.Table.{tableNumber, tableFigures, tableTotals, tableRows, tableOutcome, rowsOf}
-use Rattle.exported.specs.Handed.{figureNumbers, checkNumbers, wrongRoom, roomNumber, callNumber, callTotals, callRows, callFigures, callChecks}
+use Rattle.anova.specs.Table.{tableRefused, tableFigures, tableTotals, tableRows, tableOutcome, rowsOf}
+use Rattle.exported.specs.Handed.{figureNumbers, checkNumbers, wrongRoom, roomRefused, callRefused, callTotals, callRows, callFigures, callChecks}
 
 -- ---- the lengths
 
@@ -48,18 +48,18 @@ module _ (m n : ℕ) where
 -- ---- no room
 
 module _ (p : Plan) where
-  pub room-by-plan : {n : ℕ} → n ≡ planNumber p → (n ≡ 0 → ⊥) → n ≡ roomNumber p
-  unfolding roomNumber
-  room-by-plan e h = plan-first p (line 11 true ∷ []) e h
+  pub room-by-plan : {n : ℕ} → n ≡ planRefused p → (n ≡ 0 → ⊥) → n ≡ roomRefused p
+  unfolding roomRefused
+  room-by-plan e h = plan-first p (refusal 11 true ∷ []) e h
 
-  pub room-eleven : planNumber p ≡ 0 → 11 ≡ roomNumber p
-  unfolding roomNumber
-  room-eleven e = sym (after-plan p (line 11 true ∷ []) e)
+  pub room-eleven : planRefused p ≡ 0 → 11 ≡ roomRefused p
+  unfolding roomRefused
+  room-eleven e = sym (after-plan p (refusal 11 true ∷ []) e)
 
-  room-stopped : roomNumber p ≡ 0 → ⊥
-  room-stopped e = by (ℕ-discrete (planNumber p) 0)
+  room-stopped : roomRefused p ≡ 0 → ⊥
+  room-stopped e = by (ℕ-discrete (planRefused p) 0)
     where
-      by : Dec (planNumber p ≡ 0) → ⊥
+      by : Dec (planRefused p ≡ 0) → ⊥
       by (yes d) = absurd (omega (arith, room-eleven d, e))
       by (no d) = d (room-by-plan refl d ∙ e)
 
@@ -89,36 +89,36 @@ module _ (p : Plan) (readings : List ℤ) (marks : List ℕ) (totals : List ℤ)
   -- what the call promises of its number and of the four slices
   abbrev Called : ℕ → List ℤ → List ℕ → List ℕ → List ℤ → Type 0
   Called n ts rs fs cs =
-      (n ≡ callNumber p readings marks totals rows figures checks)
+      (n ≡ callRefused p readings marks totals rows figures checks)
       × ((ts ≡ callTotals p readings marks totals rows figures checks)
       × ((rs ≡ callRows p readings marks totals rows figures checks)
       × ((fs ≡ callFigures p readings marks totals rows figures checks)
       × (cs ≡ callChecks p readings marks totals rows figures checks))))
 
-  pub without-room : wrongRoom (length figures) (length checks) ≡ true → {n : ℕ} → n ≡ roomNumber p → Called n totals rows figures checks
-  unfolding callNumber callTotals callRows callFigures callChecks
+  pub without-room : wrongRoom (length figures) (length checks) ≡ true → {n : ℕ} → n ≡ roomRefused p → Called n totals rows figures checks
+  unfolding callRefused callTotals callRows callFigures callChecks
   without-room w e =
       let h = room-stopped p in
       rw w (
         e,
         (
-          unwritten (roomNumber p) (totalsOf (factorsOf p) readings) totals h,
+          unwritten (roomRefused p) (totalsOf (factorsOf p) readings) totals h,
           (
-            unwritten (roomNumber p) (rowsOf p readings) rows h,
+            unwritten (roomRefused p) (rowsOf p readings) rows h,
             (
-              unwritten (roomNumber p) (figureNumbers (tableFigures p readings marks)) figures h,
-              unwritten (roomNumber p) (checkNumbers (tableFigures p readings marks)) checks h,
+              unwritten (roomRefused p) (figureNumbers (tableFigures p readings marks)) figures h,
+              unwritten (roomRefused p) (checkNumbers (tableFigures p readings marks)) checks h,
             ),
           ),
         ),
       )
 
   pub with-room : wrongRoom (length figures) (length checks) ≡ false → {n : ℕ} {ts : List ℤ} {rs fs : List ℕ} {cs : List ℤ}
-      → n ≡ tableNumber p readings marks totals rows
+      → n ≡ tableRefused p readings marks totals rows
       → ts ≡ tableTotals p readings marks totals rows
       → rs ≡ tableRows p readings marks totals rows
-      → fs ≡ written (tableNumber p readings marks totals rows) (figureNumbers (tableFigures p readings marks)) figures
-      → cs ≡ written (tableNumber p readings marks totals rows) (checkNumbers (tableFigures p readings marks)) checks
+      → fs ≡ written (tableRefused p readings marks totals rows) (figureNumbers (tableFigures p readings marks)) figures
+      → cs ≡ written (tableRefused p readings marks totals rows) (checkNumbers (tableFigures p readings marks)) checks
       → Called n ts rs fs cs
-  unfolding callNumber callTotals callRows callFigures callChecks tableTotals tableRows
+  unfolding callRefused callTotals callRows callFigures callChecks tableTotals tableRows
   with-room w n t r f c = rw w (n, (t, (r, (f, c))))

@@ -2,8 +2,8 @@
 --
 --   figureNumbers, checkNumbers   the figures as 11 numbers, and the checks as 2, in the order of the slices
 --   wrongRoom m n                 the slices for figures and checks are not 11 and 2 long
---   roomNumber p                  the number of a call that has no such room
---   callNumber                    the lowest number that applies, 0 where the table is made
+--   roomRefused p                  the number of a call that has no such room
+--   callRefused                    the lowest number that applies, 0 where the table is made
 --   callTotals, callRows, callFigures, callChecks    the lent slices at exit
 use mathlib.Core.Bool.{Bool, true, not, cond, _||_}
 use mathlib.Core.List.{List, [], _∷_}
@@ -14,10 +14,10 @@ use lib.ListN.{length}
 use Rattle.contrasts.specs.Columns.{totalsOf}
 use Rattle.plan.specs.declared.types.Plan.{Plan}
 use Rattle.plan.specs.Check.{withPlan}
-use Rattle.plan.specs.Outcome.{line, written}
+use Rattle.plan.specs.Outcome.{refusal, written}
 use Rattle.plan.specs.Plan.{factorsOf}
 use Rattle.anova.specs.declared.types.Figures.{Figures}
-use Rattle.anova.specs.Table.{tableNumber, tableFigures, rowsOf}
+use Rattle.anova.specs.Table.{tableRefused, tableFigures, rowsOf}
 
 -- ---- the numbers
 
@@ -44,25 +44,25 @@ checkNumbers f = f .checks .totals ∷ f .checks .readings ∷ []
 unfoldable pub wrongRoom : ℕ → ℕ → Bool
 wrongRoom figures checks = not (eqb figures 11) || not (eqb checks 2)
 
--- line 11, after the plan's own numbers
-unfoldable pub roomNumber : Plan → ℕ
-roomNumber p = withPlan p (line 11 true ∷ [])
+-- refusal 11, after the plan's own numbers
+unfoldable pub roomRefused : Plan → ℕ
+roomRefused p = withPlan p (refusal 11 true ∷ [])
 
 module _ (p : Plan) (readings : List ℤ) (marks : List ℕ) (totals : List ℤ) (rows figures : List ℕ) (checks : List ℤ) where
-  -- the table's number; without room for figures and checks line 11 applies too
-  unfoldable pub callNumber : ℕ
-  callNumber = cond (wrongRoom (length figures) (length checks)) (roomNumber p) (tableNumber p readings marks totals rows)
+  -- the table's number; without room for figures and checks refusal 11 applies too
+  unfoldable pub callRefused : ℕ
+  callRefused = cond (wrongRoom (length figures) (length checks)) (roomRefused p) (tableRefused p readings marks totals rows)
 
   -- ---- what is written
 
   unfoldable pub callTotals : List ℤ
-  callTotals = written callNumber (totalsOf (factorsOf p) readings) totals
+  callTotals = written callRefused (totalsOf (factorsOf p) readings) totals
 
   unfoldable pub callRows : List ℕ
-  callRows = written callNumber (rowsOf p readings) rows
+  callRows = written callRefused (rowsOf p readings) rows
 
   unfoldable pub callFigures : List ℕ
-  callFigures = written callNumber (figureNumbers (tableFigures p readings marks)) figures
+  callFigures = written callRefused (figureNumbers (tableFigures p readings marks)) figures
 
   unfoldable pub callChecks : List ℤ
-  callChecks = written callNumber (checkNumbers (tableFigures p readings marks)) checks
+  callChecks = written callRefused (checkNumbers (tableFigures p readings marks)) checks

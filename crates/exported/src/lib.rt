@@ -24,9 +24,9 @@ use handed::wrong_room;
 use plan::Plan;
 use plan::lowest;
 use yates::Answer;
-ghost use Rattle.yates.specs.Calls.{passNumber, passColumn, totalsNumber, totalsColumn};
+ghost use Rattle.yates.specs.Calls.{passRefused, passColumn, totalsRefused, totalsColumn};
 ghost use Rattle.exported.specs.Whole.{wholePlan};
-ghost use Rattle.exported.specs.Handed.{roomNumber, callNumber, callTotals, callRows, callFigures, callChecks};
+ghost use Rattle.exported.specs.Handed.{roomRefused, callRefused, callTotals, callRows, callFigures, callChecks};
 
 fn whole(levels: u8, k: u8) -> Plan
     ensures { λ r. ⌜ r ≡ wholePlan levels k ⌝ }
@@ -45,7 +45,7 @@ fn whole(levels: u8, k: u8) -> Plan
 // The pass of one factor over a column, in place.
 #[no_mangle]
 pub extern "C" fn yates_pass(levels: u8, k: u8, factor: usize, column: &mut [i64]) -> u8
-    ensures { λ r. ⌜ r ≡ passNumber (wholePlan levels k) factor (now (column .entry)) ⌝ }
+    ensures { λ r. ⌜ r ≡ passRefused (wholePlan levels k) factor (now (column .entry)) ⌝ }
     ensures { λ _. ⌜ now (column .exit) ≡ passColumn (wholePlan levels k) factor (now (column .entry)) ⌝ }
 {
     match yates::pass(whole(levels, k), factor, column) {
@@ -57,7 +57,7 @@ pub extern "C" fn yates_pass(levels: u8, k: u8, factor: usize, column: &mut [i64
 // The totals of all effects.
 #[no_mangle]
 pub extern "C" fn yates_totals(levels: u8, k: u8, readings: &[i32], totals: &mut [i64]) -> u8
-    ensures { λ r. ⌜ r ≡ totalsNumber (wholePlan levels k) (now (readings .entry)) (now (totals .entry)) ⌝ }
+    ensures { λ r. ⌜ r ≡ totalsRefused (wholePlan levels k) (now (readings .entry)) (now (totals .entry)) ⌝ }
     ensures { λ _. ⌜ now (totals .exit) ≡ totalsColumn (wholePlan levels k) (now (readings .entry)) (now (totals .entry)) ⌝ }
 {
     match yates::totals(whole(levels, k), readings, totals) {
@@ -67,8 +67,8 @@ pub extern "C" fn yates_totals(levels: u8, k: u8, readings: &[i32], totals: &mut
 }
 
 // The number of a call that has no room for its figures.
-fn room_number(p: Plan) -> u8
-    ensures { λ r. ⌜ r ≡ roomNumber p ⌝ }
+fn room_refused(p: Plan) -> u8
+    ensures { λ r. ⌜ r ≡ roomRefused p ⌝ }
 {
     let n = lowest(p);
     if n == 0 { 11 } else { n }
@@ -87,7 +87,7 @@ pub extern "C" fn anova_table(
     figures: &mut [u64],
     checks: &mut [i64],
 ) -> u8
-    ensures { λ r. ⌜ r ≡ callNumber (wholePlan levels k) (now (readings .entry)) (now (marks .entry)) (now (totals .entry)) (now (rows .entry)) (now (figures .entry)) (now (checks .entry)) ⌝ }
+    ensures { λ r. ⌜ r ≡ callRefused (wholePlan levels k) (now (readings .entry)) (now (marks .entry)) (now (totals .entry)) (now (rows .entry)) (now (figures .entry)) (now (checks .entry)) ⌝ }
     ensures { λ _. ⌜ now (totals .exit) ≡ callTotals (wholePlan levels k) (now (readings .entry)) (now (marks .entry)) (now (totals .entry)) (now (rows .entry)) (now (figures .entry)) (now (checks .entry)) ⌝ }
     ensures { λ _. ⌜ now (rows .exit) ≡ callRows (wholePlan levels k) (now (readings .entry)) (now (marks .entry)) (now (totals .entry)) (now (rows .entry)) (now (figures .entry)) (now (checks .entry)) ⌝ }
     ensures { λ _. ⌜ now (figures .exit) ≡ callFigures (wholePlan levels k) (now (readings .entry)) (now (marks .entry)) (now (totals .entry)) (now (rows .entry)) (now (figures .entry)) (now (checks .entry)) ⌝ }
@@ -95,7 +95,7 @@ pub extern "C" fn anova_table(
 {
     let p = whole(levels, k);
     if wrong_room(figures.len(), checks.len()) {
-        return room_number(p);
+        return room_refused(p);
     }
     tabulate(p, readings, marks, totals, rows, figures, checks)
 }

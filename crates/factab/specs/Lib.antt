@@ -1,4 +1,4 @@
 -- What the program reads.
 --
---   Input    how many bytes there may be
-pub mod Input
+--   Inner    what the inner functions ask and leave; no promise of a call
+pub mod Inner

@@ -3,11 +3,11 @@
 use libc::STDERR_FILENO;
 use libc::STDIN_FILENO;
 use libc::STDOUT_FILENO;
-use report::INPUT;
-use report::TEXT;
-use report::report_input;
+use printing::INPUT;
+use printing::TEXT;
+use printing::print_input;
 ghost use lib.ListN.{length};
-ghost use Rattle.factab.specs.Input.{FullOrEnded};
+ghost use Rattle.factab.specs.Inner.Input.{FullOrEnded};
 
 // What came: so many bytes at the start of the buffer, or a read failed.
 enum Input {
@@ -36,9 +36,9 @@ fn read_input(buffer: &mut [u8; INPUT]) -> Input
     Input::Full(n)
 }
 
-fn print_report(input: &[u8; INPUT], count: usize) {
+fn print_text(input: &[u8; INPUT], count: usize) {
     let mut text = [0u8; TEXT];
-    let n = report_input(input, count, &mut text);
+    let n = print_input(input, count, &mut text);
     if !io::write_all(STDOUT_FILENO, &text[..n]) {
         io::write_all(STDERR_FILENO, b"factab: the text cannot be written\n");
     }
@@ -47,8 +47,8 @@ fn print_report(input: &[u8; INPUT], count: usize) {
 fn main() {
     let mut buffer = [0u8; INPUT];
     match read_input(&mut buffer) {
-        Input::Full(n) => print_report(&buffer, n),
-        Input::Ended(n) => print_report(&buffer, n),
+        Input::Full(n) => print_text(&buffer, n),
+        Input::Ended(n) => print_text(&buffer, n),
         Input::Failed => {
             io::write_all(STDERR_FILENO, b"factab: the input cannot be read\n");
         }

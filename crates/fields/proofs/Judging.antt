@@ -1,4 +1,4 @@
--- Line 1 as the code judges it.
+-- Refusal 1 as the code judges it.
 --
 --   itself              a test of a test
 --   Passed s at last    the fields before the place `at` are not bad, and the last of them has tag `last`
@@ -13,7 +13,7 @@ use borrow.Author.Tests.{lt-ltb, le-ltb, eq-eqb, ne-eqb}
 use lib.Dec.{eqb}
 use lib.ListN.{length, getD}
 use Rattle.fields.specs.Fields.{Fields, fieldsOf, bodies}
-use Rattle.fields.specs.Places.{endAt}
+use Rattle.fields.specs.Inner.Places.{endAt}
 use Rattle.fields.specs.Rules.{rules, admits, badFrom, badFields}
 use Rattle.fields.proofs.Walking.{Rest, begin, ended, cut-here, Next, next}
 

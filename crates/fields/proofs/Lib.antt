@@ -2,7 +2,7 @@
 --
 --   Walking    a walk from field to field
 --   Searching  the walks that count and look for fields
---   Judging    line 1 as the code judges it
+--   Judging    refusal 1 as the code judges it
 pub mod Walking
 pub mod Searching
 pub mod Judging

@@ -12,7 +12,7 @@ use native.Mathlib.Omega.{arith}
 use borrow.Author.Tests.{eq-eqb, ne-eqb}
 use lib.ListN.{length, take, drop, getD}
 use Rattle.fields.specs.Fields.{Fields, fieldsOf, bodies, bodyAt}
-use Rattle.fields.specs.Places.{endAt}
+use Rattle.fields.specs.Inner.Places.{endAt}
 use Rattle.fields.proofs.Walking.{Rest, begin, ended, cut-here, Next, next}
 
 pub record Counted (s : List ℕ) (t at n : ℕ) : Type 0 where

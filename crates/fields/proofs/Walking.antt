@@ -16,7 +16,7 @@ use lib.Dec.{leb}
 use lib.ListN.{length, take, drop, getD, length-drop}
 use lib.Seq.{drop-cons, drop-drop, drop-length, length-take-le}
 use Rattle.fields.specs.Fields.{Fields, end, cut, field, first, parse, fieldsOf}
-use Rattle.fields.specs.Places.{lengthAt, endAt}
+use Rattle.fields.specs.Inner.Places.{lengthAt, endAt}
 
 -- ---- where a field ends
 

@@ -1,8 +1,8 @@
 -- Small sheets, computed over the definitions.
 --
 --   one, added, block, readings, marks    fields: levels 2 and k = 1; AB with sign 1; the block word A; readings 3 and -5; marks 0 and 1
---   isBad sheet            line 1 applies to a sheet
---   good; bad, all-bad     sheets that line 1 lets pass; sheets that it refuses
+--   isBad sheet            refusal 1 applies to a sheet
+--   good; bad, all-bad     sheets that refusal 1 lets pass; sheets that it refuses
 --   in-order, not-there    the bodies of a tag; none, where there is no such field
 use mathlib.Core.Path.{_≡_, refl}
 use mathlib.Core.Bool.{Bool, true, false}

@@ -1,10 +1,10 @@
--- Line 1 of the table of refusals.
+-- Refusal 1 of the table of refusals.
 --
 --   Rule, rules       what is asked of the fields of a tag
 --   admits            the rules have fields of such a tag and length
 --   badFrom last fs   a field is cut short or not admitted, or its tag is below the one before it
 --   anyNotOnce        a tag that stands once is absent or repeated
---   badFields         line 1
+--   badFields         refusal 1
 use mathlib.Core.Bool.{Bool, true, false, not, cond, _&&_, _||_}
 use mathlib.Core.List.{List, [], _∷_}
 use Prim.Native.Nat.{ℕ, _%_}
@@ -17,7 +17,7 @@ pub data Rule : Type 0 where
   rule : ℕ → Bool → (ℕ → Bool) → Rule
 
 -- "Tag 1, once: levels and k, a byte each. Tag 2, per added factor: word, sign byte. Tag 3, per block word: the word. Tag 4, once:
--- readings, 4 bytes each [..]. Tag 5, once: R mark bytes."; whether there are R is line 11
+-- readings, 4 bytes each [..]. Tag 5, once: R mark bytes."; whether there are R is refusal 11
 abbrev pub rules : List Rule
 rules =
     rule 1 true (λ n. eqb n 2)

@@ -1,6 +1,6 @@
 // The fields of a sheet. A sheet's bytes come from outside: each call takes any bytes.
 //
-//   bad_fields(sheet)         whether line 1 of the table of refusals applies
+//   bad_fields(sheet)         whether refusal 1 of the table of refusals applies
 //   count(sheet, tag)         how many fields there are of a tag
 //   body(sheet, tag, place)   the body of one of them
 mod rules;

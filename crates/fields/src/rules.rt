@@ -1,4 +1,4 @@
-// Line 1 of the table of refusals, judged over the whole sheet.
+// Refusal 1 of the table of refusals, judged over the whole sheet.
 ghost use mathlib.Core.Bool.{not};
 ghost use mathlib.Core.Path.{_≡_};
 use super::walks::count;

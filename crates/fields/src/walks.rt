@@ -4,7 +4,7 @@ ghost use Prim.Native.Nat.{_<_};
 ghost use lib.ListN.{length};
 use numerals::pair;
 ghost use Rattle.fields.specs.Fields.{fieldsOf, bodies, bodyAt};
-ghost use Rattle.fields.specs.Places.{endAt};
+ghost use Rattle.fields.specs.Inner.Places.{endAt};
 
 // Where the field that begins at a place ends, and 0 where it is cut short.
 pub fn field_end(sheet: &[u8], at: usize) -> usize

@@ -9,7 +9,7 @@ ghost use Rattle.text.specs.Text.{Wrote};
 ghost use Rattle.text.specs.Fields.{decimal, signed};
 ghost use Rattle.rows.specs.Kinds.{kindIn};
 ghost use Rattle.lines.specs.Lines.{space, newline, labelOf};
-ghost use Rattle.lines.specs.Written.{kindText};
+ghost use Rattle.lines.specs.Inner.Written.{kindText};
 
 const ERROR: u8 = 1;
 

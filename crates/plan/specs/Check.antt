@@ -1,11 +1,11 @@
--- "What is turned away": the lines of the table that concern a plan, 2 to 8.
+-- "What is turned away": the refusals that concern a plan, 2 to 8.
 --
---   badLevels, badFactors, badCounts    lines 2, 3 and 4
---   badWord, badSign, badWords          line 5; line 6 is `repeated` of words
---   dependent                           line 7
---   factorWord, losesFactor             line 8
---   wordLines, planLines, planNumber    these lines; the lowest number that applies to a plan, 0 where it is accepted
---   withPlan p lines                    the lowest number of a call that takes a plan and has further lines of its own
+--   badLevels, badFactors, badCounts    refusals 2, 3 and 4
+--   badWord, badSign, badWords          refusal 5; refusal 6 is `repeated` of words
+--   dependent                           refusal 7
+--   factorWord, losesFactor             refusal 8
+--   wordRefusals, planRefusals, planRefused    these refusals; the lowest number that applies to a plan, 0 where it is accepted
+--   withPlan p refusals                    the lowest number of a call that takes a plan and has further refusals of its own
 --   runCount p, spacingAt p f           the number of runs, and the spacing of the factor at position f, for any plan
 --   confoundedAccepted p w              whether the effect of w is confounded, for any plan
 --   checkOutcome                        the cases of the check's answer
@@ -14,11 +14,11 @@ use mathlib.Core.List.{List, [], _∷_}
 use Prim.Native.Nat.{ℕ}
 use lib.Dec.{eqb, leb, ltb}
 use Rattle.contrasts.specs.Limits.{mostTwo, mostThree, mostAdded, mostBlocks}
-use Rattle.contrasts.specs.Totals.{spacing}
+use Rattle.contrasts.specs.Passes.{spacing}
 use Rattle.plan.specs.declared.types.Plan.{Plan}
 use Rattle.plan.specs.declared.types.Check.{Check}
 use Rattle.plan.specs.declared.types.Check.the-variants as check
-use Rattle.plan.specs.Outcome.{Line, line, lowest, Outcome, given, refused}
+use Rattle.plan.specs.Outcome.{Refusal, refusal, lowest, Outcome, given, refused}
 use Rattle.words.specs.Words.{letters, beyond, any, among, repeated}
 use Rattle.plan.specs.Plan.{addedWords, addedSigns, blockWords, factorsOf, someCombination, combinesTo, confoundedIn, runsOf}
 
@@ -59,35 +59,35 @@ factorWord w words = eqb (letters w) 1 || among w words
 unfoldable pub losesFactor : List ℕ → List ℕ → Bool
 losesFactor words blocks = someCombination blocks (λ w. factorWord w words)
 
--- the lines on the words, for themselves
-abbrev pub wordLines : ℕ → List ℕ → List ℕ → List ℕ → List Line
-wordLines k words signs blocks =
-    line 5 (badWords k words signs blocks)
-    ∷ line 6 (repeated words)
-    ∷ line 7 (dependent blocks)
-    ∷ line 8 (losesFactor words blocks)
+-- the refusals on the words, for themselves
+abbrev pub wordRefusals : ℕ → List ℕ → List ℕ → List ℕ → List Refusal
+wordRefusals k words signs blocks =
+    refusal 5 (badWords k words signs blocks)
+    ∷ refusal 6 (repeated words)
+    ∷ refusal 7 (dependent blocks)
+    ∷ refusal 8 (losesFactor words blocks)
     ∷ []
 
 -- "The plan check gives 2 to 8"
-abbrev pub planLines : Plan → List Line
-planLines p =
-    line 2 (badLevels (p .levels))
-    ∷ line 3 (badFactors (p .levels) (p .k))
-    ∷ line 4 (badCounts (p .levels) (p .added) (p .blocks))
-    ∷ wordLines (p .k) (addedWords p) (addedSigns p) (blockWords p)
+abbrev pub planRefusals : Plan → List Refusal
+planRefusals p =
+    refusal 2 (badLevels (p .levels))
+    ∷ refusal 3 (badFactors (p .levels) (p .k))
+    ∷ refusal 4 (badCounts (p .levels) (p .added) (p .blocks))
+    ∷ wordRefusals (p .k) (addedWords p) (addedSigns p) (blockWords p)
 
-unfoldable pub planNumber : Plan → ℕ
-planNumber p = lowest (planLines p)
+unfoldable pub planRefused : Plan → ℕ
+planRefused p = lowest (planRefusals p)
 
--- the number of a call on a plan: the plan's own, and only where that is 0 the lowest of further lines
-unfoldable pub withPlan : Plan → List Line → ℕ
-withPlan p further = cond (eqb (planNumber p) 0) (lowest further) (planNumber p)
+-- the number of a call on a plan: the plan's own, and only where that is 0 the lowest of further refusals
+unfoldable pub withPlan : Plan → List Refusal → ℕ
+withPlan p further = cond (eqb (planRefused p) 0) (lowest further) (planRefused p)
 
 -- ---- for the crates above, of any plan
 
 -- whether the effect of a word is confounded; no effect of a plan that is refused
 unfoldable pub confoundedAccepted : Plan → ℕ → Bool
-confoundedAccepted p w = cond (eqb (planNumber p) 0) (confoundedIn p w) false
+confoundedAccepted p w = cond (eqb (planRefused p) 0) (confoundedIn p w) false
 
 -- the number of runs, and 0 where levels or k are out of range
 unfoldable pub runCount : Plan → ℕ

@@ -2,7 +2,7 @@
 --
 --   A, AB, C, BC, ABC, AD, CD, BCD      words by their letters
 --   plan levels k words signs blocks    a plan with these words, whose other places hold 0 (`filled`)
---   small-inputs, other-numbers         the numbers of plans that are refused
+--   small-inputs, other-refused         the numbers of plans that are refused
 --   all-accepted, BCD-lost              plans that are accepted, and the confounded effects of one
 --   by-choice                           what the choices of some words combine to
 --   of-any-plan                         how many runs there are, and how far apart a factor's values lie, for any plan
@@ -17,12 +17,12 @@ use Rattle.algebra.specs.Bits.{bits}
 use Rattle.algebra.specs.Search.{some}
 use Rattle.algebra.specs.Tab.{tab, tabFrom}
 use Rattle.contrasts.specs.Limits.{mostTwo, mostThree}
-use Rattle.contrasts.specs.Tables.{two, three}
+use Rattle.contrasts.specs.Factors.{two, three}
 use Rattle.contrasts.specs.Totals.{size}
 use Rattle.words.specs.Words.{letters, beyond, times, combined, any, among, repeated}
 use Rattle.plan.specs.declared.types.Plan.{Plan}
 use Rattle.plan.specs.Plan.{factorsOf, someCombination, combinesTo, confoundedIn}
-use Rattle.plan.specs.Check.{badLevels, badFactors, badCounts, badWord, badSign, badWords, dependent, factorWord, losesFactor, planNumber, runCount, spacingAt}
+use Rattle.plan.specs.Check.{badLevels, badFactors, badCounts, badWord, badSign, badWords, dependent, factorWord, losesFactor, planRefused, runCount, spacingAt}
 
 -- ---- words by their letters
 
@@ -66,7 +66,7 @@ plan levels k words signs blocks = record {
 
 -- ---- refusals
 
--- the small inputs of lines 2 to 8, in the order of the table; lines 7 and 8 "with k = 3"
+-- the small inputs of refusals 2 to 8, in the order of the table; refusals 7 and 8 "with k = 3"
 abbrev smallInputs : List Plan
 smallInputs =
     plan 4 1 [] [] []
@@ -78,11 +78,11 @@ smallInputs =
     ∷ plan 2 3 [] [] (AB ∷ ABC ∷ [])
     ∷ []
 
-small-inputs : map planNumber smallInputs ≡ 2 ∷ 3 ∷ 4 ∷ 5 ∷ 6 ∷ 7 ∷ 8 ∷ []
-unfolding planNumber badLevels badFactors mostTwo mostThree badCounts badWords badWord badSign repeated dependent losesFactor factorWord any among beyond letters combined times someCombination combinesTo some bits Σℕ
+small-inputs : map planRefused smallInputs ≡ 2 ∷ 3 ∷ 4 ∷ 5 ∷ 6 ∷ 7 ∷ 8 ∷ []
+unfolding planRefused badLevels badFactors mostTwo mostThree badCounts badWords badWord badSign repeated dependent losesFactor factorWord any among beyond letters combined times someCombination combinesTo some bits Σℕ
 small-inputs = refl
 
--- other ways into a line, and plans to which two lines apply, of which the lower counts
+-- other ways into a refusal, and plans to which two refusals apply, of which the lower counts
 abbrev others : List Plan
 others =
     -- no factor; eleven at two levels
@@ -104,9 +104,9 @@ others =
     ∷ plan 2 3 (AB ∷ AB ∷ []) (0 ∷ 0 ∷ []) (A ∷ [])
     ∷ []
 
-other-numbers : map planNumber others ≡ 3 ∷ 3 ∷ 4 ∷ 4 ∷ 5 ∷ 5 ∷ 5 ∷ 5 ∷ 8 ∷ 4 ∷ 5 ∷ 6 ∷ []
-unfolding planNumber badLevels badFactors mostTwo mostThree badCounts badWords badWord badSign repeated dependent losesFactor factorWord any among beyond letters combined times someCombination combinesTo some bits Σℕ
-other-numbers = refl
+other-refused : map planRefused others ≡ 3 ∷ 3 ∷ 4 ∷ 4 ∷ 5 ∷ 5 ∷ 5 ∷ 5 ∷ 8 ∷ 4 ∷ 5 ∷ 6 ∷ []
+unfolding planRefused badLevels badFactors mostTwo mostThree badCounts badWords badWord badSign repeated dependent losesFactor factorWord any among beyond letters combined times someCombination combinesTo some bits Σℕ
+other-refused = refl
 
 -- ---- accepted plans
 
@@ -120,8 +120,8 @@ acceptedPlans =
     ∷ plan 2 3 (ABC ∷ []) (1 ∷ []) []
     ∷ []
 
-all-accepted : map planNumber acceptedPlans ≡ 0 ∷ 0 ∷ 0 ∷ 0 ∷ 0 ∷ []
-unfolding planNumber badLevels badFactors mostTwo mostThree badCounts badWords badWord badSign repeated dependent losesFactor factorWord any among beyond letters combined times someCombination combinesTo some bits Σℕ
+all-accepted : map planRefused acceptedPlans ≡ 0 ∷ 0 ∷ 0 ∷ 0 ∷ 0 ∷ []
+unfolding planRefused badLevels badFactors mostTwo mostThree badCounts badWords badWord badSign repeated dependent losesFactor factorWord any among beyond letters combined times someCombination combinesTo some bits Σℕ
 all-accepted = refl
 
 -- of the sixteen effects of that plan just AD, ABC and BCD are confounded

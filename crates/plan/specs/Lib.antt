@@ -3,7 +3,7 @@
 --   Plan       what a plan says: its words, factors, runs and confounded effects
 --   Outcome    what every call answers, and the lowest number that applies
 --   Check      the refusals 2 to 8, and the check's answer
---   Examples   the small inputs of lines 2 to 8
+--   Examples   the small inputs of refusals 2 to 8
 --   Laws       laws about plans
 pub mod Plan
 pub mod Outcome

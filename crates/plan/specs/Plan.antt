@@ -14,7 +14,7 @@ use lib.Dec.{eqb, ltb}
 use lib.ListN.{length, take, replicate}
 use Rattle.algebra.specs.Search.{some}
 use Rattle.contrasts.specs.Factor.{Factor}
-use Rattle.contrasts.specs.Tables.{ofLevels}
+use Rattle.contrasts.specs.Factors.{ofLevels}
 use Rattle.contrasts.specs.Totals.{size}
 use Rattle.plan.specs.declared.types.Plan.{Plan}
 use Rattle.words.specs.Words.{combined}

@@ -13,9 +13,9 @@ use super::types::Check;
 use super::types::Plan;
 use words::is_repeated;
 ghost use Rattle.plan.specs.Outcome.{outcome, lowest};
-ghost use Rattle.plan.specs.Check.{badWords, wordLines, planNumber, checkOutcome};
+ghost use Rattle.plan.specs.Check.{badWords, wordRefusals, planRefused, checkOutcome};
 
-// Line 5, of the added words, the signs and the block words.
+// Refusal 5, of the added words, the signs and the block words.
 fn bad_words(k: usize, words: &[u16], signs: &[u8], blocks: &[u16]) -> bool
     ensures { λ r. ⌜ r ≡ badWords k (now (words .entry)) (now (signs .entry)) (now (blocks .entry)) ⌝ }
 {
@@ -31,7 +31,7 @@ fn bad_words(k: usize, words: &[u16], signs: &[u8], blocks: &[u16]) -> bool
 // The lowest of the numbers 5 to 8 that applies, and 0 where none does.
 fn lowest_of_words(k: usize, words: &[u16], signs: &[u8], blocks: &[u16]) -> u8
     requires { ⌜ length (now blocks) ≤ 4 ⌝ }
-    ensures { λ r. ⌜ r ≡ lowest (wordLines k (now (words .entry)) (now (signs .entry)) (now (blocks .entry))) ⌝ }
+    ensures { λ r. ⌜ r ≡ lowest (wordRefusals k (now (words .entry)) (now (signs .entry)) (now (blocks .entry))) ⌝ }
 {
     if bad_words(k, words, signs, blocks) {
         return 5;
@@ -58,14 +58,14 @@ fn lowest_of_arrays(
     blockwords: [u16; 4],
 ) -> u8
     requires { ⌜ (added ≤ 6) × (blocks ≤ 4) ⌝ }
-    ensures { λ r. ⌜ r ≡ lowest (wordLines k (take added words) (take added signs) (take blocks blockwords)) ⌝ }
+    ensures { λ r. ⌜ r ≡ lowest (wordRefusals k (take added words) (take added signs) (take blocks blockwords)) ⌝ }
 {
     lowest_of_words(k, &words[..added], &signs[..added], &blockwords[..blocks])
 }
 
 // The lowest of the numbers 2 to 8 that applies, and 0 where none does.
 pub fn lowest(p: Plan) -> u8
-    ensures { λ r. ⌜ r ≡ planNumber p ⌝ }
+    ensures { λ r. ⌜ r ≡ planRefused p ⌝ }
 {
     if bad_levels(p.levels) {
         return 2;
@@ -91,7 +91,7 @@ pub fn lowest(p: Plan) -> u8
 
 // Whether the plan is accepted, and the number of the refusal where it is not.
 pub fn check(p: Plan) -> Check
-    ensures { λ r. ⌜ checkOutcome r ≡ outcome (planNumber p) tt ⌝ }
+    ensures { λ r. ⌜ checkOutcome r ≡ outcome (planRefused p) tt ⌝ }
 {
     let n = lowest(p);
     if n == 0 {

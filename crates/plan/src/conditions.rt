@@ -1,4 +1,4 @@
-// The conditions of lines 2 to 8 of the table of refusals, a function each.
+// The conditions of refusals 2 to 8 of the table of refusals, a function each.
 ghost use mathlib.Core.Path.{_≡_};
 ghost use Prim.Native.Nat.{_^_, _≤_};
 ghost use lib.ListN.{length};
@@ -10,7 +10,7 @@ ghost use Rattle.words.specs.Words.{any};
 ghost use Rattle.plan.specs.Plan.{combinesTo};
 ghost use Rattle.plan.specs.Check.{badLevels, badFactors, badCounts, badWord, badSign, factorWord, losesFactor};
 
-// Line 2.
+// Refusal 2.
 pub fn bad_levels(levels: u8) -> bool
     ensures { λ r. ⌜ r ≡ badLevels levels ⌝ }
 {
@@ -20,7 +20,7 @@ pub fn bad_levels(levels: u8) -> bool
     levels != 3
 }
 
-// Line 3.
+// Refusal 3.
 pub fn bad_factors(levels: u8, k: u8) -> bool
     ensures { λ r. ⌜ r ≡ badFactors levels k ⌝ }
 {
@@ -30,7 +30,7 @@ pub fn bad_factors(levels: u8, k: u8) -> bool
     if levels == 2 { 10 < k } else { 6 < k }
 }
 
-// Line 4.
+// Refusal 4.
 pub fn bad_counts(levels: u8, added: u8, blocks: u8) -> bool
     ensures { λ r. ⌜ r ≡ badCounts levels added blocks ⌝ }
 {

@@ -3,8 +3,8 @@
 //   check(p)                 accepted, or the number of the refusal
 // and for the crates above, for any plan:
 //   lowest(p)                the number of the refusal, and 0 where the plan is accepted
-//   bad_levels(levels)       line 2 by itself
-//   bad_factors(levels, k)   line 3 by itself
+//   bad_levels(levels)       refusal 2 by itself
+//   bad_factors(levels, k)   refusal 3 by itself
 //   confounded(p, word)      whether the effect of a word is lost to blocks
 mod blocks;
 mod checks;

@@ -6,17 +6,17 @@ use anova::Estimate;
 use anova::Table;
 use plan::Check;
 use plan::Plan;
-use report::TEXT;
+use printing::TEXT;
 use runs::Run;
 use sheet::Sheet;
 use yates::Answer;
 ghost use Rattle.plan.specs.Check.{checkOutcome};
 ghost use Rattle.runs.specs.Run.{runOutcome};
 ghost use Rattle.aliases.specs.Alias.{aliasOutcome};
-ghost use Rattle.columns.specs.Lines.{answerOutcome};
+ghost use Rattle.columns.specs.Refusals.{answerOutcome};
 ghost use Rattle.anova.specs.Table.{tableOutcome};
 ghost use Rattle.estimates.specs.Estimate.{estimateOutcome};
-ghost use Rattle.promises.specs.Promised.{promisedCheck, promisedRun, promisedAlias, promisedPass, promisedStep, promisedTotals, promisedTable, promisedEstimate, promisedRead, promisedMarks, promisedReport};
+ghost use Rattle.promises.specs.Promised.{promisedCheck, promisedRun, promisedAlias, promisedPass, promisedStep, promisedTotals, promisedTable, promisedEstimate, promisedRead, promisedMarks, promisedPrint};
 
 fn check(p: Plan) -> Check
     ensures { λ r. ⌜ checkOutcome r ≡ promisedCheck p ⌝ }
@@ -86,8 +86,8 @@ fn marks(sheet: &[u8]) -> &[u8]
 }
 
 fn text(sheet: &[u8], text: &mut [u8; TEXT]) -> usize
-    ensures { λ r. ⌜ r ≡ promisedReport (now (sheet .entry)) (now (text .entry)) .count ⌝ }
-    ensures { λ _. ⌜ now (text .exit) ≡ promisedReport (now (sheet .entry)) (now (text .entry)) .buffer ⌝ }
+    ensures { λ r. ⌜ r ≡ promisedPrint (now (sheet .entry)) (now (text .entry)) .count ⌝ }
+    ensures { λ _. ⌜ now (text .exit) ≡ promisedPrint (now (sheet .entry)) (now (text .entry)) .buffer ⌝ }
 {
-    report::report(sheet, text)
+    printing::print_sheet(sheet, text)
 }

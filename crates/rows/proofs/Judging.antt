@@ -1,4 +1,4 @@
--- Line 13 as the code judges it: marks over 1, then the mean, then the combinations of block words.
+-- Refusal 13 as the code judges it: marks over 1, then the mean, then the combinations of block words.
 --
 --   over-bad, mean-bad    each makes the marks bad
 --   blocks-or-none        where neither applies, the combinations decide
@@ -11,14 +11,14 @@ use native.Mathlib.Omega.{arith}
 use borrow.Author.Tests.{eq-eqb, ne-eqb, eqb-true}
 use lib.Dec.{eqb, ltb}
 use lib.ListN.{length, getD}
-use Rattle.algebra.specs.Search.{some-true, some-false, some-at, none-at}
-use Rattle.algebra.specs.Tab.{getD-past}
+use Rattle.algebra.specs.Laws.Search.{some-true, some-false, some-at, none-at}
+use Rattle.algebra.specs.Laws.Tab.{getD-past}
 use Rattle.words.specs.Words.{combined}
 use Rattle.plan.specs.declared.types.Plan.{Plan}
 use Rattle.plan.specs.Plan.{blockWords, someCombination, combinesTo, confoundedIn}
 use Rattle.plan.specs.Laws.Combinations.{combination, the-combination, each-fails}
 use Rattle.rows.specs.Kinds.{badMark, badMarks}
-use Rattle.rows.specs.Written.{marked, anyOver}
+use Rattle.rows.specs.Inner.Written.{marked, anyOver}
 
 -- a row that has a mark is one of the rows that the marks are of
 there : (marks : List ℕ) (w : ℕ) → marked marks w ≡ true → w < length marks

@@ -15,15 +15,16 @@ use native.Mathlib.Omega.{arith}
 use borrow.Author.Tests.{eq-eqb, ne-eqb, lt-ltb, le-ltb}
 use lib.Dec.{eqb, ltb}
 use lib.ListN.{length, getD, set, replicate, length-replicate, getD-replicate}
-use Rattle.algebra.specs.Fill.{Filled, filled-none, filled-long, filled-more}
+use Rattle.algebra.specs.Laws.Fill.{Filled, filled-none, filled-long, filled-more}
 use Rattle.algebra.specs.Search.{some}
-use Rattle.algebra.specs.Tab.{tab, length-tab, getD-tab, is-tab, tab-cong, tab-set, getD-past}
+use Rattle.algebra.specs.Tab.{tab}
+use Rattle.algebra.specs.Laws.Tab.{length-tab, getD-tab, is-tab, tab-cong, tab-set, getD-past}
 use Rattle.words.specs.Words.{combined}
 use Rattle.plan.specs.declared.types.Plan.{Plan}
 use Rattle.plan.specs.Plan.{blockWords, someCombination, combinesTo, confoundedIn}
 use Rattle.rows.specs.Kinds.{meanRow, blocksRow, keptRow, kindByMark, kindOf, codeOf, kindsOf}
-use Rattle.rows.specs.Laws.{code-by}
-use Rattle.rows.specs.Written.{withMarks, withBlocks}
+use Rattle.rows.specs.Laws.Kinds.{code-by}
+use Rattle.rows.specs.Inner.Written.{withMarks, withBlocks}
 
 -- ---- marks
 

@@ -1,13 +1,13 @@
 -- Rows of the table: their kinds, and the marks that are refused.
 --
 --   rowsIn p, rowCount p         how many rows there are; for any plan, 0 where k is beyond every plan's
---   wrongRows p n                line 11: rows or marks are not R
+--   wrongRows p n                refusal 11: rows or marks are not R
 --   Kind                         the four kinds of rows
 --   kindByMark, kindOf           what a row is, by its mark alone and in a plan
 --   codeOf, kindIn               the number by which code holds a kind, and the kind that a number stands for
 --   same c d                     two kinds are one
 --   kindsOf p marks              the kinds of as many rows as the largest plan has, as code holds them
---   badMark, badMarks            line 13, of one row and of all
+--   badMark, badMarks            refusal 13, of one row and of all
 use mathlib.Core.Bool.{Bool, not, cond, _&&_, _||_}
 use mathlib.Core.List.{List}
 use Prim.Native.Nat.{ℕ, _^_}
@@ -65,7 +65,7 @@ same c d = eqb (codeOf c) (codeOf d)
 unfoldable pub kindsOf : Plan → List ℕ → List ℕ
 kindsOf p marks = tab 1024 (λ w. codeOf (kindOf p marks w))
 
--- ---- line 13
+-- ---- refusal 13
 
 -- 13: "mark over 1, or mark 1 on the mean or a blocks row"
 unfoldable pub badMark : Plan → ℕ → ℕ → Bool

@@ -6,7 +6,7 @@ use super::choices::choices;
 use plan::Plan;
 use words::combine;
 ghost use Rattle.rows.specs.Kinds.{kindByMark, codeOf, kindsOf};
-ghost use Rattle.rows.specs.Written.{withMarks, withBlocks};
+ghost use Rattle.rows.specs.Inner.Written.{withMarks, withBlocks};
 
 const KEPT: u8 = 0;
 

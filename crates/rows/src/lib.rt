@@ -1,7 +1,7 @@
 // The rows of the table: how many there are, what marks they may have, and whether a row is mean, kept, blocks or error.
 //
 //   row_count(p)          how many rows there are
-//   bad_marks(p, marks)   whether line 13 applies
+//   bad_marks(p, marks)   whether refusal 13 applies
 //   kinds(p, marks)       the kind of each row
 mod choices;
 mod counts;

@@ -1,4 +1,4 @@
-// Line 13: marks over 1, and marks on rows that have none.
+// Refusal 13: marks over 1, and marks on rows that have none.
 ghost use mathlib.Core.Path.{_≡_};
 ghost use Prim.Native.Nat.{_^_, _≤_};
 ghost use lib.ListN.{length, take};
@@ -7,7 +7,7 @@ use plan::Plan;
 use words::combine;
 ghost use Rattle.plan.specs.Plan.{someCombination};
 ghost use Rattle.rows.specs.Kinds.{badMarks};
-ghost use Rattle.rows.specs.Written.{marked, anyOver};
+ghost use Rattle.rows.specs.Inner.Written.{marked, anyOver};
 
 // Whether a mark is neither 0 nor 1. The loop does not stop early, so it is compiled to work several marks at a time.
 fn any_over(marks: &[u8]) -> bool

@@ -2,7 +2,7 @@
 --
 --   high-D, high-turned       D = ABC with sign 0 and with sign 1, in all eight runs
 --   two-blocks, four-blocks   the blocks of ABC, and of AD and ABC
---   line-9, line-10           "levels 3, k = 1"; a run number that the plan does not have
+--   refusal-9, refusal-10           "levels 3, k = 1"; a run number that the plan does not have
 use mathlib.Core.Path.{_≡_, refl}
 use mathlib.Core.List.{[], _∷_}
 use Prim.Native.Nat.{_+_}
@@ -11,13 +11,13 @@ use Rattle.algebra.specs.Bits.{bits}
 use Rattle.algebra.specs.Search.{some}
 use Rattle.algebra.specs.Tab.{tab, tabFrom}
 use Rattle.contrasts.specs.Limits.{mostTwo, mostThree}
-use Rattle.contrasts.specs.Tables.{two}
+use Rattle.contrasts.specs.Factors.{two}
 use Rattle.contrasts.specs.Totals.{size}
 use Rattle.words.specs.Words.{letters, beyond, shared, oddIn, times, combined, any, among, repeated}
 use Rattle.plan.specs.Examples.{plan, ABC, AD}
 use Rattle.plan.specs.Plan.{factorsOf, someCombination, combinesTo}
-use Rattle.plan.specs.Check.{badLevels, badFactors, badCounts, badWord, badSign, badWords, dependent, factorWord, losesFactor, planNumber, withPlan}
-use Rattle.runs.specs.Run.{highBy, highIn, highLetters, blockNumber, runNumber}
+use Rattle.plan.specs.Check.{badLevels, badFactors, badCounts, badWord, badSign, badWords, dependent, factorWord, losesFactor, planRefused, withPlan}
+use Rattle.runs.specs.Run.{highBy, highIn, highLetters, blockNumber, runRefused}
 
 -- the eight runs (1), a, b, ab, c, ac, bc, abc; D is 8
 high-D : tab 8 (highLetters 3 (ABC ∷ []) (0 ∷ [])) ≡ 0 ∷ 9 ∷ 10 ∷ 3 ∷ 12 ∷ 5 ∷ 6 ∷ 15 ∷ []
@@ -37,11 +37,11 @@ four-blocks : tab 16 (blockNumber (AD ∷ ABC ∷ [])) ≡ 0 ∷ 3 ∷ 2 ∷ 1 �
 unfolding blockNumber oddIn shared bits Σℕ tabFrom
 four-blocks = refl
 
-line-9 : runNumber (plan 3 1 [] [] []) 0 ≡ 9
-unfolding runNumber withPlan planNumber badLevels badFactors mostTwo mostThree badCounts badWords badWord badSign repeated dependent losesFactor factorWord any among beyond letters combined times someCombination combinesTo some bits Σℕ
-line-9 = refl
+refusal-9 : runRefused (plan 3 1 [] [] []) 0 ≡ 9
+unfolding runRefused withPlan planRefused badLevels badFactors mostTwo mostThree badCounts badWords badWord badSign repeated dependent losesFactor factorWord any among beyond letters combined times someCombination combinesTo some bits Σℕ
+refusal-9 = refl
 
 -- k = 2: runs 3 and 4
-line-10 : tab 2 (λ i. runNumber (plan 2 2 [] [] []) (3 + i)) ≡ 0 ∷ 10 ∷ []
-unfolding runNumber withPlan planNumber badLevels badFactors mostTwo mostThree badCounts badWords badWord badSign repeated dependent losesFactor factorWord any among beyond letters combined times someCombination combinesTo some bits Σℕ tabFrom factorsOf size two
-line-10 = refl
+refusal-10 : tab 2 (λ i. runRefused (plan 2 2 [] [] []) (3 + i)) ≡ 0 ∷ 10 ∷ []
+unfolding runRefused withPlan planRefused badLevels badFactors mostTwo mostThree badCounts badWords badWord badSign repeated dependent losesFactor factorWord any among beyond letters combined times someCombination combinesTo some bits Σℕ tabFrom factorsOf size two
+refusal-10 = refl

@@ -5,8 +5,8 @@
 --   highLetters k words signs r   the set of letters that are high
 --   blockNumber words r           the run's block
 --   runValues p r                 both, of a plan
---   runLines p r                  the lines of the call besides those of the plan
---   runNumber p r                 the lowest number that applies, 0 where the run is given
+--   runRefusals p r                  the refusals of the call besides those of the plan
+--   runRefused p r                 the lowest number that applies, 0 where the run is given
 --   runOutcome                    the cases of the call's answer
 use mathlib.Core.Bool.{Bool, not, cond}
 use mathlib.Core.List.{List, [], _∷_}
@@ -17,7 +17,7 @@ use Rattle.words.specs.Words.{has, wordOf, oddIn}
 use Rattle.plan.specs.declared.types.Plan.{Plan}
 use Rattle.runs.specs.declared.types.Run.{Run}
 use Rattle.runs.specs.declared.types.Run.the-variants.{Treatment, Refused}
-use Rattle.plan.specs.Outcome.{Line, line, Outcome, given, refused}
+use Rattle.plan.specs.Outcome.{Refusal, refusal, Outcome, given, refused}
 use Rattle.plan.specs.Plan.{addedWords, addedSigns, blockWords, runsOf}
 use Rattle.plan.specs.Check.{withPlan}
 
@@ -43,11 +43,11 @@ abbrev pub runValues : Plan → ℕ → ℕ × ℕ
 runValues p r = (highLetters (p .k) (addedWords p) (addedSigns p) r, blockNumber (blockWords p) r)
 
 -- 9: "estimate, alias or run call asked at three levels"; 10: "run number not in the plan"
-abbrev pub runLines : Plan → ℕ → List Line
-runLines p r = line 9 (eqb (p .levels) 3) ∷ line 10 (leb (runsOf p) r) ∷ []
+abbrev pub runRefusals : Plan → ℕ → List Refusal
+runRefusals p r = refusal 9 (eqb (p .levels) 3) ∷ refusal 10 (leb (runsOf p) r) ∷ []
 
-unfoldable pub runNumber : Plan → ℕ → ℕ
-runNumber p r = withPlan p (runLines p r)
+unfoldable pub runRefused : Plan → ℕ → ℕ
+runRefused p r = withPlan p (runRefusals p r)
 
 abbrev pub runOutcome : Run → Outcome (ℕ × ℕ)
 runOutcome (Treatment high block) = given (high, block)

@@ -11,7 +11,7 @@ use plan::Plan;
 use plan::lowest;
 use words::is_odd;
 ghost use Rattle.plan.specs.Outcome.{outcome};
-ghost use Rattle.runs.specs.Run.{highBy, highLetters, blockNumber, runNumber, runValues, runOutcome};
+ghost use Rattle.runs.specs.Run.{highBy, highLetters, blockNumber, runRefused, runValues, runOutcome};
 
 // Whether an added factor is high in the run.
 fn is_high(run: u16, word: u16, sign: u8) -> bool
@@ -74,7 +74,7 @@ fn treatment(
 
 // The letters that are high in the run of this number, and its block.
 pub fn run(p: Plan, number: usize) -> Run
-    ensures { λ r. ⌜ runOutcome r ≡ outcome (runNumber p number) (runValues p number) ⌝ }
+    ensures { λ r. ⌜ runOutcome r ≡ outcome (runRefused p number) (runValues p number) ⌝ }
 {
     let n = lowest(p);
     if n != 0 {

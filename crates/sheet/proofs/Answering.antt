@@ -1,6 +1,6 @@
 -- The answers of the two calls.
 --
---   read-number, marks-number    their numbers, as the code forms them
+--   read-refused, marks-refused    their numbers, as the code forms them
 --   read-stopped                 a reader's call that is refused
 --   room-for, same-size          the column of one that is not
 --   read-completed               such a call
@@ -22,24 +22,24 @@ use Rattle.plan.specs.Laws.Answers.{stopped, completed, unwritten, written-new}
 use Rattle.columns.specs.Laws.Admitted.{as-long}
 use Rattle.fields.specs.Fields.{fieldsOf, bodyAt}
 use Rattle.contents.specs.Contents.{planIn, readingsOf, readingsIn, marksIn}
-use Rattle.sheet.specs.Sheet.{numberWith, readNumber, noPlan, readPlan, readColumn, marksNumber, marksOf}
-use Rattle.contents.specs.Held.{held}
+use Rattle.sheet.specs.Sheet.{refusedWith, readRefused, noPlan, readPlan, readColumn, marksRefused, marksOf}
+use Rattle.contents.specs.Inner.Held.{held}
 use Rattle.contents.specs.Laws.Readings.{readings-long}
 use Rattle.sheet.specs.Laws.Admitted.{read-admitted}
 use Rattle.contents.specs.Laws.Holding.{held-all}
 use Rattle.sheet.proofs.Holding.{held-with, narrow-by}
 
 module _ (sheet : List ℕ) {p : Plan} (is : p ≡ held (planIn (fieldsOf sheet))) where
-  pub marks-number : {n : ℕ} → n ≡ numberWith (fieldsOf sheet) p false → n ≡ marksNumber sheet
-  unfolding marksNumber
-  marks-number e = e ∙ ap (λ q. numberWith (fieldsOf sheet) q false) is ∙ held-with (fieldsOf sheet) (planIn (fieldsOf sheet)) false
+  pub marks-refused : {n : ℕ} → n ≡ refusedWith (fieldsOf sheet) p false → n ≡ marksRefused sheet
+  unfolding marksRefused
+  marks-refused e = e ∙ ap (λ q. refusedWith (fieldsOf sheet) q false) is ∙ held-with (fieldsOf sheet) (planIn (fieldsOf sheet)) false
 
-  pub read-number : (room : ℕ) {m n : ℕ} → m ≡ runCount p → n ≡ numberWith (fieldsOf sheet) p (ltb room m) → n ≡ readNumber sheet room
-  unfolding readNumber held factorsOf
-  read-number room r e =
+  pub read-refused : (room : ℕ) {m n : ℕ} → m ≡ runCount p → n ≡ refusedWith (fieldsOf sheet) p (ltb room m) → n ≡ readRefused sheet room
+  unfolding readRefused held factorsOf
+  read-refused room r e =
       e
-      ∙ ap (λ i. numberWith (fieldsOf sheet) p (ltb room i)) r
-      ∙ ap (λ q. numberWith (fieldsOf sheet) q (ltb room (runCount q))) is
+      ∙ ap (λ i. refusedWith (fieldsOf sheet) p (ltb room i)) r
+      ∙ ap (λ q. refusedWith (fieldsOf sheet) q (ltb room (runCount q))) is
       ∙ narrow-by (fieldsOf sheet) (held (planIn (fieldsOf sheet))) room
       ∙ held-with (fieldsOf sheet) (planIn (fieldsOf sheet)) (ltb room (runsOf (planIn (fieldsOf sheet))))
 
@@ -49,16 +49,16 @@ module _ (sheet : List ℕ) (column : List ℤ) where
   -- what the call promises of its answer, of the plan and of the column
   abbrev Told : Outcome Unit → Plan → List ℤ → Type 0
   Told answer plan after =
-      (answer ≡ outcome (readNumber sheet (length column)) tt)
+      (answer ≡ outcome (readRefused sheet (length column)) tt)
       × ((plan ≡ readPlan sheet (length column)) × (after ≡ readColumn sheet column))
 
-  pub read-stopped : {n : ℕ} → n ≡ readNumber sheet (length column) → (n ≡ 0 → ⊥) → {plan : Plan} → plan ≡ noPlan → Told (refused n) plan column
+  pub read-stopped : {n : ℕ} → n ≡ readRefused sheet (length column) → (n ≡ 0 → ⊥) → {plan : Plan} → plan ≡ noPlan → Told (refused n) plan column
   unfolding readPlan readColumn
   read-stopped {n} e h q =
       let s = stopped tt (readingsIn (fieldsOf sheet) ++ drop (length (readingsIn (fieldsOf sheet))) column) column e h in
-      (s .0, (q ∙ unwritten (readNumber sheet (length column)) (planIn (fieldsOf sheet)) noPlan (λ d. h (e ∙ d)), s .1))
+      (s .0, (q ∙ unwritten (readRefused sheet (length column)) (planIn (fieldsOf sheet)) noPlan (λ d. h (e ∙ d)), s .1))
 
-  module _ (z : readNumber sheet (length column) ≡ 0) where
+  module _ (z : readRefused sheet (length column) ≡ 0) where
     module _ {body : List ℕ} (is : body ≡ bodyAt 4 0 (fieldsOf sheet)) where
       pub room-for : length body / 4 ≤ length column
       room-for =
@@ -74,15 +74,15 @@ module _ (sheet : List ℕ) (column : List ℤ) where
       read-completed q {after} d =
           let made : after ≡ readingsIn (fieldsOf sheet) ++ drop (length (readingsIn (fieldsOf sheet))) column = d ∙ rw (← (readings-long body), is) refl in
           let s = completed tt (readingsIn (fieldsOf sheet) ++ drop (length (readingsIn (fieldsOf sheet))) column) column z made in
-          (s .0, (q ∙ held-all (planIn (fieldsOf sheet)) (read-admitted sheet (length column) z .plan) ∙ written-new (readNumber sheet (length column)) (planIn (fieldsOf sheet)) noPlan z, s .1))
+          (s .0, (q ∙ held-all (planIn (fieldsOf sheet)) (read-admitted sheet (length column) z .plan) ∙ written-new (readRefused sheet (length column)) (planIn (fieldsOf sheet)) noPlan z, s .1))
 
 -- ---- the marks call
 
-module _ (sheet : List ℕ) {n : ℕ} (e : n ≡ marksNumber sheet) where
+module _ (sheet : List ℕ) {n : ℕ} (e : n ≡ marksRefused sheet) where
   pub marks-stopped : (n ≡ 0 → ⊥) → [] ≡ marksOf sheet
   unfolding marksOf
-  marks-stopped h = unwritten (marksNumber sheet) (marksIn (fieldsOf sheet)) [] (λ d. h (e ∙ d))
+  marks-stopped h = unwritten (marksRefused sheet) (marksIn (fieldsOf sheet)) [] (λ d. h (e ∙ d))
 
   pub marks-given : n ≡ 0 → {part : List ℕ} → part ≡ bodyAt 5 0 (fieldsOf sheet) → part ≡ marksOf sheet
   unfolding marksOf
-  marks-given z q = q ∙ written-new (marksNumber sheet) (marksIn (fieldsOf sheet)) [] (sym e ∙ z)
+  marks-given z q = q ∙ written-new (marksRefused sheet) (marksIn (fieldsOf sheet)) [] (sym e ∙ z)

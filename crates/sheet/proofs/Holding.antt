@@ -8,27 +8,27 @@ use Prim.Native.Nat.{ℕ}
 use native.Mathlib.Decide.{ℕ-discrete}
 use lib.Dec.{ltb}
 use Rattle.plan.specs.declared.types.Plan.{Plan}
-use Rattle.plan.specs.Check.{planNumber, runCount}
+use Rattle.plan.specs.Check.{planRefused, runCount}
 use Rattle.plan.specs.Plan.{runsOf}
 use Rattle.plan.specs.Laws.Sizes.{run-count}
 use Rattle.fields.specs.Fields.{Fields}
 use Rattle.fields.specs.Rules.{badFields}
-use Rattle.contents.specs.Held.{held}
-use Rattle.contents.specs.Laws.Holding.{held-number, held-all}
-use Rattle.sheet.specs.Sheet.{numberWith}
-use Rattle.sheet.specs.Laws.Admitted.{own-number}
+use Rattle.contents.specs.Inner.Held.{held}
+use Rattle.contents.specs.Laws.Holding.{held-refused, held-all}
+use Rattle.sheet.specs.Sheet.{refusedWith}
+use Rattle.sheet.specs.Laws.Admitted.{own-refused}
 
 module _ (fs : Fields) (p : Plan) where
-  pub held-with : (narrow : Bool) → numberWith fs (held p) narrow ≡ numberWith fs p narrow
-  held-with narrow = by (ℕ-discrete (planNumber p) 0)
+  pub held-with : (narrow : Bool) → refusedWith fs (held p) narrow ≡ refusedWith fs p narrow
+  held-with narrow = by (ℕ-discrete (planRefused p) 0)
     where
-      by : Dec (planNumber p ≡ 0) → numberWith fs (held p) narrow ≡ numberWith fs p narrow
-      by (yes z) = ap (λ q. numberWith fs q narrow) (held-all p z)
-      by (no z) = own-number fs (held p) narrow (λ d. z (sym (held-number p) ∙ d)) ∙ ap (cond (badFields fs) 1) (held-number p) ∙ sym (own-number fs p narrow z)
+      by : Dec (planRefused p ≡ 0) → refusedWith fs (held p) narrow ≡ refusedWith fs p narrow
+      by (yes z) = ap (λ q. refusedWith fs q narrow) (held-all p z)
+      by (no z) = own-refused fs (held p) narrow (λ d. z (sym (held-refused p) ∙ d)) ∙ ap (cond (badFields fs) 1) (held-refused p) ∙ sym (own-refused fs p narrow z)
 
-  pub narrow-by : (room : ℕ) → numberWith fs p (ltb room (runCount p)) ≡ numberWith fs p (ltb room (runsOf p))
-  narrow-by room = by (ℕ-discrete (planNumber p) 0)
+  pub narrow-by : (room : ℕ) → refusedWith fs p (ltb room (runCount p)) ≡ refusedWith fs p (ltb room (runsOf p))
+  narrow-by room = by (ℕ-discrete (planRefused p) 0)
     where
-      by : Dec (planNumber p ≡ 0) → numberWith fs p (ltb room (runCount p)) ≡ numberWith fs p (ltb room (runsOf p))
-      by (yes z) = ap (λ n. numberWith fs p (ltb room n)) (run-count p z)
-      by (no z) = own-number fs p (ltb room (runCount p)) z ∙ sym (own-number fs p (ltb room (runsOf p)) z)
+      by : Dec (planRefused p ≡ 0) → refusedWith fs p (ltb room (runCount p)) ≡ refusedWith fs p (ltb room (runsOf p))
+      by (yes z) = ap (λ n. refusedWith fs p (ltb room n)) (run-count p z)
+      by (no z) = own-refused fs p (ltb room (runCount p)) z ∙ sym (own-refused fs p (ltb room (runsOf p)) z)

@@ -1,11 +1,11 @@
 -- The number of a sheet, and what the two calls give.
 --
---   sheetLines fs p narrow                  the lines besides line 1 and those of the plan
---   numberWith fs p narrow                  the lowest number of a sheet whose plan is p, 0 where it is accepted
---   sheetNumber fs narrow                   of a sheet
+--   sheetRefusals fs p narrow                  the refusals besides refusal 1 and those of the plan
+--   refusedWith fs p narrow                  the lowest number of a sheet whose plan is p, 0 where it is accepted
+--   sheetRefused fs narrow                   of a sheet
 --   noPlan                                  the plan of all zeros
---   readNumber, readPlan, readColumn        the reader
---   marksNumber, marksOf                    the marks call
+--   readRefused, readPlan, readColumn        the reader
+--   marksRefused, marksOf                    the marks call
 use mathlib.Core.Bool.{Bool, false, cond, _||_}
 use mathlib.Core.List.{List, [], _∷_, _++_}
 use Prim.Native.Nat.{ℕ, _+_}
@@ -15,9 +15,9 @@ use lib.ListN.{length, drop, replicate}
 use Rattle.contrasts.specs.Limits.{readingLimit, mostAdded, mostBlocks}
 use Rattle.plan.specs.declared.types.Plan.{Plan}
 use Rattle.plan.specs.Check.{withPlan}
-use Rattle.plan.specs.Outcome.{Line, line, written}
+use Rattle.plan.specs.Outcome.{Refusal, refusal, written}
 use Rattle.plan.specs.Plan.{runsOf}
-use Rattle.columns.specs.Lines.{wrongLength, anyBeyond}
+use Rattle.columns.specs.Refusals.{wrongLength, anyBeyond}
 use Rattle.rows.specs.Kinds.{wrongRows, badMarks}
 use Rattle.fields.specs.Fields.{Fields, fieldsOf}
 use Rattle.fields.specs.Rules.{badFields}
@@ -26,48 +26,48 @@ use Rattle.contents.specs.Contents.{planIn, readingsIn, marksIn}
 -- ---- what is refused
 
 -- 11: "readings [..] or marks not N, [..] R long; [..] reader's column under N", where `narrow` says the last
-abbrev pub sheetLines : Fields → Plan → Bool → List Line
-sheetLines fs p narrow =
-    line 11 (narrow || (wrongLength p (length (readingsIn fs)) || wrongRows p (length (marksIn fs))))
-    ∷ line 12 (anyBeyond readingLimit (readingsIn fs))
-    ∷ line 13 (badMarks p (marksIn fs))
+abbrev pub sheetRefusals : Fields → Plan → Bool → List Refusal
+sheetRefusals fs p narrow =
+    refusal 11 (narrow || (wrongLength p (length (readingsIn fs)) || wrongRows p (length (marksIn fs))))
+    ∷ refusal 12 (anyBeyond readingLimit (readingsIn fs))
+    ∷ refusal 13 (badMarks p (marksIn fs))
     ∷ []
 
--- line 1 before all others, then the plan's own numbers, then these
-unfoldable pub numberWith : Fields → Plan → Bool → ℕ
-numberWith fs p narrow = cond (badFields fs) 1 (withPlan p (sheetLines fs p narrow))
+-- refusal 1 before all others, then the plan's own numbers, then these
+unfoldable pub refusedWith : Fields → Plan → Bool → ℕ
+refusedWith fs p narrow = cond (badFields fs) 1 (withPlan p (sheetRefusals fs p narrow))
 
-abbrev pub sheetNumber : Fields → Bool → ℕ
-sheetNumber fs narrow = numberWith fs (planIn fs) narrow
+abbrev pub sheetRefused : Fields → Bool → ℕ
+sheetRefused fs narrow = refusedWith fs (planIn fs) narrow
 
 -- ---- the reader, of a sheet and a column
 
 -- "reader's column under N"
-unfoldable pub readNumber : List ℕ → ℕ → ℕ
-readNumber sheet room = sheetNumber (fieldsOf sheet) (ltb room (runsOf (planIn (fieldsOf sheet))))
+unfoldable pub readRefused : List ℕ → ℕ → ℕ
+readRefused sheet room = sheetRefused (fieldsOf sheet) (ltb room (runsOf (planIn (fieldsOf sheet))))
 
 abbrev pub noPlan : Plan
 noPlan = record { levels = 0; k = 0; added = 0; words = replicate mostAdded 0; signs = replicate mostAdded 0; blocks = 0; blockwords = replicate mostBlocks 0 }
 
 -- "The reader returns the plan"
 unfoldable pub readPlan : List ℕ → ℕ → Plan
-readPlan sheet room = written (readNumber sheet room) (planIn (fieldsOf sheet)) noPlan
+readPlan sheet room = written (readRefused sheet room) (planIn (fieldsOf sheet)) noPlan
 
 -- "and fills the first N places of a lent i32 column of N or more; later places keep their numbers"
 unfoldable pub readColumn : List ℕ → List ℤ → List ℤ
 readColumn sheet column =
     written
-    (readNumber sheet (length column))
+    (readRefused sheet (length column))
     (readingsIn (fieldsOf sheet) ++ drop (length (readingsIn (fieldsOf sheet))) column)
     column
 
 -- ---- the marks call
 
 -- "11 (without the column)"
-unfoldable pub marksNumber : List ℕ → ℕ
-marksNumber sheet = sheetNumber (fieldsOf sheet) false
+unfoldable pub marksRefused : List ℕ → ℕ
+marksRefused sheet = sheetRefused (fieldsOf sheet) false
 
 -- "hands back the marks as the part of the sheet that holds them; [..] if the sheet is refused, an empty part"; its bytes, and not
 -- where they lie (docs/DECISIONS.md 76)
 unfoldable pub marksOf : List ℕ → List ℕ
-marksOf sheet = written (marksNumber sheet) (marksIn (fieldsOf sheet)) []
+marksOf sheet = written (marksRefused sheet) (marksIn (fieldsOf sheet)) []

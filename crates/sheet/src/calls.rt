@@ -1,6 +1,6 @@
 // The reader and the marks call.
 ghost use mathlib.Core.Path.{_≡_};
-use super::numbers::number;
+use super::refusals::sheet_refused;
 use super::types::Sheet;
 use columns::Answer;
 use contents::plan_in;
@@ -10,8 +10,8 @@ use plan::Plan;
 use sizes::runs;
 ghost use lib.ListN.{length};
 ghost use Rattle.plan.specs.Outcome.{outcome};
-ghost use Rattle.columns.specs.Lines.{answerOutcome};
-ghost use Rattle.sheet.specs.Sheet.{readNumber, readPlan, readColumn, marksOf, noPlan};
+ghost use Rattle.columns.specs.Refusals.{answerOutcome};
+ghost use Rattle.sheet.specs.Sheet.{readRefused, readPlan, readColumn, marksOf, noPlan};
 
 fn no_plan() -> Plan
     ensures { λ r. ⌜ r ≡ noPlan ⌝ }
@@ -29,12 +29,12 @@ fn no_plan() -> Plan
 
 // The plan of a sheet, and its readings in the first places of the column.
 pub fn read(sheet: &[u8], column: &mut [i32]) -> Sheet
-    ensures { λ r. ⌜ answerOutcome (r .answer) ≡ outcome (readNumber (now (sheet .entry)) (length (now (column .entry)))) tt ⌝ }
+    ensures { λ r. ⌜ answerOutcome (r .answer) ≡ outcome (readRefused (now (sheet .entry)) (length (now (column .entry)))) tt ⌝ }
     ensures { λ r. ⌜ r .plan ≡ readPlan (now (sheet .entry)) (length (now (column .entry))) ⌝ }
     ensures { λ _. ⌜ now (column .exit) ≡ readColumn (now (sheet .entry)) (now (column .entry)) ⌝ }
 {
     let p = plan_in(sheet);
-    let n = number(sheet, p, column.len() < runs(p));
+    let n = sheet_refused(sheet, p, column.len() < runs(p));
     let none = no_plan();
     if n != 0 {
         return Sheet {
@@ -55,7 +55,7 @@ pub fn read(sheet: &[u8], column: &mut [i32]) -> Sheet
 pub fn marks(sheet: &[u8]) -> &[u8]
     ensures { λ r. ⌜ now r ≡ marksOf (now (sheet .entry)) ⌝ }
 {
-    if number(sheet, plan_in(sheet), false) != 0 {
+    if sheet_refused(sheet, plan_in(sheet), false) != 0 {
         return &sheet[..0];
     }
     body(sheet, 5, 0)

@@ -5,7 +5,7 @@
 //   marks(sheet)          the part of the sheet that holds the marks
 //   Answer                done, or the number of the refusal: of the crate `columns`
 mod calls;
-mod numbers;
+mod refusals;
 mod types;
 
 pub use calls::marks;

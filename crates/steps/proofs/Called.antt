@@ -12,14 +12,14 @@ use lib.ListN.{length}
 use Rattle.contrasts.specs.Columns.{stepOf}
 use Rattle.contrasts.specs.Factor.{Factor}
 use Rattle.contrasts.specs.Limits.{valueLimit}
-use Rattle.contrasts.specs.Tables.{ofLevels}
+use Rattle.contrasts.specs.Factors.{ofLevels}
 use Rattle.contrasts.specs.Laws.Kinds.{some-levels}
 use Rattle.plan.specs.declared.types.Plan.{Plan}
 use Rattle.plan.specs.Plan.{runsOf}
 use Rattle.plan.specs.Laws.Accepted.{accepted}
 use Rattle.plan.specs.Laws.Sizes.{as-power, plan-kind}
 use Rattle.columns.specs.Laws.Admitted.{Columns}
-use Rattle.steps.specs.Ready.{Sets}
+use Rattle.steps.specs.Inner.Ready.{Sets}
 
 module _ {p : Plan} {from to : List ℤ} (a : Columns valueLimit p from to) {l : ℕ} (e : p .levels ≡ l) where
   kind : ofLevels l .levels ≡ l

@@ -11,14 +11,15 @@ use native.Mathlib.Nat.{add-comm}
 use native.Mathlib.Omega.{arith}
 use lib.IntN.{ℤ, pos, _+ℤ_, _-ℤ_, _*ℤ_}
 use lib.ListN.{set}
-use Rattle.algebra.specs.Size.{wrap}
-use Rattle.algebra.specs.Spread.{Turned, begun, ended}
+use Rattle.algebra.specs.Laws.Machine.{wrap}
+use Rattle.algebra.specs.Laws.Spread.{Turned, begun, ended}
 use Rattle.contrasts.specs.Columns.{read, stepOf}
-use Rattle.contrasts.specs.Tables.{two, three, ofLevels}
-use Rattle.contrasts.specs.Totals.{step}
+use Rattle.contrasts.specs.Factors.{two, three, ofLevels}
+use Rattle.contrasts.specs.Steps.{step}
 use Rattle.contrasts.specs.Laws.Steps.{step-value}
-use Rattle.contrasts.specs.Laws.Turns.{Small, turn-two, turn-three}
-use Rattle.steps.specs.Ready.{Sets}
+use Rattle.contrasts.specs.Laws.Small.{Small}
+use Rattle.contrasts.specs.Laws.Sets.{turn-two, turn-three}
+use Rattle.steps.specs.Inner.Ready.{Sets}
 
 abbrev pub Stepped : ℕ → ℕ → List ℤ → List ℤ → ℕ → List ℤ → Type 0
 Stepped levels n from to i ys = Turned levels n (step (levels * n) (ofLevels levels) (read from)) (read to) i ys

@@ -2,7 +2,7 @@
 --
 --   four-steps    readings 3, 5, 4, 8: two steps
 --   three-step    readings 2, 5, 3 at three levels
---   small-inputs  lines 11 and 12, of the column that is read and of the one that is written
+--   small-inputs  refusals 11 and 12, of the column that is read and of the one that is written
 use mathlib.Core.Path.{_≡_, refl}
 use mathlib.Core.List.{List, [], _∷_}
 use lib.IntN.{ℤ, pos}
@@ -13,15 +13,17 @@ use Rattle.algebra.specs.Sum.{Σ}
 use Rattle.algebra.specs.Tab.{tabFrom}
 use Rattle.contrasts.specs.Columns.{stepOf}
 use Rattle.contrasts.specs.Limits.{valueLimit, mostTwo, mostThree}
-use Rattle.contrasts.specs.Tables.{two, three, neg}
-use Rattle.contrasts.specs.Totals.{size, step}
+use Rattle.contrasts.specs.Factors.{two, three}
+use Rattle.contrasts.specs.Codings.{neg}
+use Rattle.contrasts.specs.Totals.{size}
+use Rattle.contrasts.specs.Steps.{step}
 use Rattle.words.specs.Words.{letters, beyond, times, combined, any, among, repeated}
 use Rattle.plan.specs.declared.types.Plan.{Plan}
 use Rattle.plan.specs.Examples.{plan}
 use Rattle.plan.specs.Plan.{factorsOf, someCombination, combinesTo}
-use Rattle.plan.specs.Check.{badLevels, badFactors, badCounts, badWord, badSign, badWords, dependent, factorWord, losesFactor, planNumber, withPlan}
-use Rattle.columns.specs.Lines.{wrongLength, isBeyond, anyBeyond, columnsNumber}
-use Rattle.steps.specs.Step.{stepNumber, stepColumn}
+use Rattle.plan.specs.Check.{badLevels, badFactors, badCounts, badWord, badSign, badWords, dependent, factorWord, losesFactor, planRefused, withPlan}
+use Rattle.columns.specs.Refusals.{wrongLength, isBeyond, anyBeyond, columnsRefused}
+use Rattle.steps.specs.Step.{stepRefused, stepColumn}
 
 abbrev four : Plan
 four = plan 2 2 [] [] []
@@ -34,18 +36,18 @@ abbrev other : List ℤ
 other = pos 409_600_001 ∷ pos 7 ∷ pos 7 ∷ pos 7 ∷ []
 
 four-steps : stepColumn four (stepColumn four readings other) other ≡ pos 20 ∷ neg 6 ∷ neg 4 ∷ pos 2 ∷ []
-unfolding stepColumn columnsNumber withPlan planNumber badLevels badFactors mostTwo mostThree badCounts badWords badWord badSign repeated dependent losesFactor factorWord any among beyond letters combined times someCombination combinesTo some bits Σℕ wrongLength anyBeyond isBeyond valueLimit factorsOf size two stepOf step Σ tabFrom
+unfolding stepColumn columnsRefused withPlan planRefused badLevels badFactors mostTwo mostThree badCounts badWords badWord badSign repeated dependent losesFactor factorWord any among beyond letters combined times someCombination combinesTo some bits Σℕ wrongLength anyBeyond isBeyond valueLimit factorsOf size two stepOf step Σ tabFrom
 four-steps = refl
 
 three-step : stepColumn (plan 3 1 [] [] []) (pos 2 ∷ pos 5 ∷ pos 3 ∷ []) (pos 0 ∷ pos 0 ∷ pos 0 ∷ []) ≡ pos 10 ∷ neg 1 ∷ neg 5 ∷ []
-unfolding stepColumn columnsNumber withPlan planNumber badLevels badFactors mostTwo mostThree badCounts badWords badWord badSign repeated dependent losesFactor factorWord any among beyond letters combined times someCombination combinesTo some bits Σℕ wrongLength anyBeyond isBeyond valueLimit factorsOf size three stepOf step Σ tabFrom
+unfolding stepColumn columnsRefused withPlan planRefused badLevels badFactors mostTwo mostThree badCounts badWords badWord badSign repeated dependent losesFactor factorWord any among beyond letters combined times someCombination combinesTo some bits Σℕ wrongLength anyBeyond isBeyond valueLimit factorsOf size three stepOf step Σ tabFrom
 three-step = refl
 
-small-inputs : stepNumber four (pos 3 ∷ []) other
-    ∷ stepNumber four readings (pos 3 ∷ [])
-    ∷ stepNumber four other readings
-    ∷ stepNumber four other (pos 3 ∷ [])
+small-inputs : stepRefused four (pos 3 ∷ []) other
+    ∷ stepRefused four readings (pos 3 ∷ [])
+    ∷ stepRefused four other readings
+    ∷ stepRefused four other (pos 3 ∷ [])
     ∷ []
     ≡ 11 ∷ 11 ∷ 12 ∷ 11 ∷ []
-unfolding columnsNumber withPlan planNumber badLevels badFactors mostTwo mostThree badCounts badWords badWord badSign repeated dependent losesFactor factorWord any among beyond letters combined times someCombination combinesTo some bits Σℕ wrongLength anyBeyond isBeyond valueLimit factorsOf size two
+unfolding columnsRefused withPlan planRefused badLevels badFactors mostTwo mostThree badCounts badWords badWord badSign repeated dependent losesFactor factorWord any among beyond letters combined times someCombination combinesTo some bits Σℕ wrongLength anyBeyond isBeyond valueLimit factorsOf size two
 small-inputs = refl

@@ -2,14 +2,14 @@
 ghost use mathlib.Core.Path.{_≡_};
 ghost use lib.ListN.{length};
 use columns::Answer;
-use columns::values_number;
+use columns::values_refused;
 use plan::Plan;
 ghost use Rattle.contrasts.specs.Columns.{stepOf};
-ghost use Rattle.contrasts.specs.Tables.{two, three};
+ghost use Rattle.contrasts.specs.Factors.{two, three};
 ghost use Rattle.plan.specs.Outcome.{outcome};
-ghost use Rattle.columns.specs.Lines.{answerOutcome};
-ghost use Rattle.steps.specs.Step.{stepNumber, stepColumn};
-ghost use Rattle.steps.specs.Ready.{Sets};
+ghost use Rattle.columns.specs.Refusals.{answerOutcome};
+ghost use Rattle.steps.specs.Step.{stepRefused, stepColumn};
+ghost use Rattle.steps.specs.Inner.Ready.{Sets};
 
 // The step at two levels, of so many pairs of successive values.
 fn step_two(from: &[i64], to: &mut [i64], pairs: usize)
@@ -50,10 +50,10 @@ fn step_three(from: &[i64], to: &mut [i64], sets: usize)
 
 // The step from one column to another.
 pub fn step(p: Plan, from: &[i64], to: &mut [i64]) -> Answer
-    ensures { λ r. ⌜ answerOutcome r ≡ outcome (stepNumber p (now (from .entry)) (now (to .entry))) tt ⌝ }
+    ensures { λ r. ⌜ answerOutcome r ≡ outcome (stepRefused p (now (from .entry)) (now (to .entry))) tt ⌝ }
     ensures { λ _. ⌜ now (to .exit) ≡ stepColumn p (now (from .entry)) (now (to .entry)) ⌝ }
 {
-    let n = values_number(p, from, to);
+    let n = values_refused(p, from, to);
     if n != 0 {
         return Answer::Refused(n);
     }

@@ -3,7 +3,7 @@
 --   sample          the sheet of the rules' run: readings 3, 5, 4, 8 and marks 0, 0, 0, 1, byte by byte
 --   sample-written, sample-plan, sample-column, sample-marks    it is written so, and what both calls give of it
 --   narrow          a column that is too short for it
---   refusedSheets, small-inputs    the small input of each line that a sheet can show
+--   refusedSheets, small-inputs    the small input of each refusal that a sheet can show
 --   no-marks        the marks call gives an empty part of each of these
 use mathlib.Core.Path.{_≡_, refl}
 use mathlib.Core.List.{List, [], _∷_, map}
@@ -15,19 +15,19 @@ use Rattle.algebra.specs.Naturals.{Σℕ}
 use Rattle.algebra.specs.Search.{some}
 use Rattle.algebra.specs.Tab.{tabFrom}
 use Rattle.contrasts.specs.Limits.{readingLimit, mostTwo, mostThree}
-use Rattle.contrasts.specs.Tables.{two, three}
+use Rattle.contrasts.specs.Factors.{two, three}
 use Rattle.contrasts.specs.Totals.{size}
 use Rattle.words.specs.Words.{letters, beyond, times, combined, any, among, repeated}
-use Rattle.plan.specs.Check.{badLevels, badFactors, badCounts, badWord, badSign, badWords, dependent, factorWord, losesFactor, planNumber, withPlan}
+use Rattle.plan.specs.Check.{badLevels, badFactors, badCounts, badWord, badSign, badWords, dependent, factorWord, losesFactor, planRefused, withPlan}
 use Rattle.plan.specs.Examples.{AB, ABC, C, plan}
 use Rattle.plan.specs.Plan.{factorsOf, someCombination, combinesTo}
-use Rattle.columns.specs.Lines.{wrongLength, isBeyond, anyBeyond}
+use Rattle.columns.specs.Refusals.{wrongLength, isBeyond, anyBeyond}
 use Rattle.rows.specs.Kinds.{wrongRows, badMark, badMarks}
 use Rattle.numerals.specs.Numbers.{big, twos}
 use Rattle.fields.specs.Fields.{parse, fieldsOf, bodies, bodyAt}
 use Rattle.fields.specs.Rules.{badFrom, badFields}
 use Rattle.contents.specs.Contents.{planIn, readingAt, readingsOf}
-use Rattle.sheet.specs.Sheet.{numberWith, readNumber, noPlan, readPlan, readColumn, marksNumber, marksOf}
+use Rattle.sheet.specs.Sheet.{refusedWith, readRefused, noPlan, readPlan, readColumn, marksRefused, marksOf}
 use Rattle.writing.specs.Writer.{bytes, bytesOf, each, readingBytes, sheetFields, sheetOf}
 
 abbrev four : List ℤ
@@ -45,23 +45,23 @@ sample-written = refl
 
 -- the plan; the first four of six places; the marks
 sample-plan : readPlan sample 6 ≡ plan 2 2 [] [] []
-unfolding readPlan readNumber numberWith planIn readingsOf readingAt twos big fieldsOf parse bodies bodyAt badFields badFrom wrongLength wrongRows anyBeyond isBeyond badMarks badMark withPlan planNumber badLevels badFactors mostTwo mostThree badCounts badWords badWord badSign repeated dependent losesFactor factorWord any among beyond letters combined times someCombination combinesTo some bits Σℕ readingLimit factorsOf size two three tabFrom
+unfolding readPlan readRefused refusedWith planIn readingsOf readingAt twos big fieldsOf parse bodies bodyAt badFields badFrom wrongLength wrongRows anyBeyond isBeyond badMarks badMark withPlan planRefused badLevels badFactors mostTwo mostThree badCounts badWords badWord badSign repeated dependent losesFactor factorWord any among beyond letters combined times someCombination combinesTo some bits Σℕ readingLimit factorsOf size two three tabFrom
 sample-plan = refl
 
 sample-column : readColumn sample (replicate 6 (pos 9)) ≡ pos 3 ∷ pos 5 ∷ pos 4 ∷ pos 8 ∷ pos 9 ∷ pos 9 ∷ []
-unfolding readColumn readNumber numberWith planIn readingsOf readingAt twos big fieldsOf parse bodies bodyAt badFields badFrom wrongLength wrongRows anyBeyond isBeyond badMarks badMark withPlan planNumber badLevels badFactors mostTwo mostThree badCounts badWords badWord badSign repeated dependent losesFactor factorWord any among beyond letters combined times someCombination combinesTo some bits Σℕ readingLimit factorsOf size two three tabFrom
+unfolding readColumn readRefused refusedWith planIn readingsOf readingAt twos big fieldsOf parse bodies bodyAt badFields badFrom wrongLength wrongRows anyBeyond isBeyond badMarks badMark withPlan planRefused badLevels badFactors mostTwo mostThree badCounts badWords badWord badSign repeated dependent losesFactor factorWord any among beyond letters combined times someCombination combinesTo some bits Σℕ readingLimit factorsOf size two three tabFrom
 sample-column = refl
 
 sample-marks : marksOf sample ≡ 0 ∷ 0 ∷ 0 ∷ 1 ∷ []
-unfolding marksOf marksNumber numberWith planIn readingsOf readingAt twos big fieldsOf parse bodies bodyAt badFields badFrom wrongLength wrongRows anyBeyond isBeyond badMarks badMark withPlan planNumber badLevels badFactors mostTwo mostThree badCounts badWords badWord badSign repeated dependent losesFactor factorWord any among beyond letters combined times someCombination combinesTo some bits Σℕ readingLimit factorsOf size two three tabFrom
+unfolding marksOf marksRefused refusedWith planIn readingsOf readingAt twos big fieldsOf parse bodies bodyAt badFields badFrom wrongLength wrongRows anyBeyond isBeyond badMarks badMark withPlan planRefused badLevels badFactors mostTwo mostThree badCounts badWords badWord badSign repeated dependent losesFactor factorWord any among beyond letters combined times someCombination combinesTo some bits Σℕ readingLimit factorsOf size two three tabFrom
 sample-marks = refl
 
 -- a column of three places: nothing is written, and the plan is all zeros
-narrow : (readNumber sample 3 ≡ 11) × (readPlan sample 3 ≡ noPlan) × (readColumn sample (replicate 3 (pos 9)) ≡ replicate 3 (pos 9))
-unfolding readPlan readColumn readNumber numberWith planIn readingsOf readingAt twos big fieldsOf parse bodies bodyAt badFields badFrom wrongLength wrongRows anyBeyond isBeyond badMarks badMark withPlan planNumber badLevels badFactors mostTwo mostThree badCounts badWords badWord badSign repeated dependent losesFactor factorWord any among beyond letters combined times someCombination combinesTo some bits Σℕ readingLimit factorsOf size two three tabFrom
+narrow : (readRefused sample 3 ≡ 11) × (readPlan sample 3 ≡ noPlan) × (readColumn sample (replicate 3 (pos 9)) ≡ replicate 3 (pos 9))
+unfolding readPlan readColumn readRefused refusedWith planIn readingsOf readingAt twos big fieldsOf parse bodies bodyAt badFields badFrom wrongLength wrongRows anyBeyond isBeyond badMarks badMark withPlan planRefused badLevels badFactors mostTwo mostThree badCounts badWords badWord badSign repeated dependent losesFactor factorWord any among beyond letters combined times someCombination combinesTo some bits Σℕ readingLimit factorsOf size two three tabFrom
 narrow = (refl, refl, refl)
 
--- the small inputs of lines 1 to 8, 11, 12 and 13; and seven added factors
+-- the small inputs of refusals 1 to 8, 11, 12 and 13; and seven added factors
 abbrev refusedSheets : List (List ℕ)
 refusedSheets =
     []
@@ -78,11 +78,11 @@ refusedSheets =
     ∷ sheetOf (plan 2 4 (replicate 7 AB) (replicate 7 0) []) four (0 ∷ 0 ∷ [])
     ∷ []
 
-small-inputs : map (λ sheet. readNumber sheet 8) refusedSheets ≡ 1 ∷ 2 ∷ 3 ∷ 4 ∷ 5 ∷ 6 ∷ 7 ∷ 8 ∷ 11 ∷ 12 ∷ 13 ∷ 4 ∷ []
-unfolding sheetOf sheetFields bytesOf each readingBytes bytes readNumber numberWith planIn readingsOf readingAt twos big fieldsOf parse bodies bodyAt badFields badFrom wrongLength wrongRows anyBeyond isBeyond badMarks badMark withPlan planNumber badLevels badFactors mostTwo mostThree badCounts badWords badWord badSign repeated dependent losesFactor factorWord any among beyond letters combined times someCombination combinesTo some bits Σℕ readingLimit factorsOf size two three tabFrom
+small-inputs : map (λ sheet. readRefused sheet 8) refusedSheets ≡ 1 ∷ 2 ∷ 3 ∷ 4 ∷ 5 ∷ 6 ∷ 7 ∷ 8 ∷ 11 ∷ 12 ∷ 13 ∷ 4 ∷ []
+unfolding sheetOf sheetFields bytesOf each readingBytes bytes readRefused refusedWith planIn readingsOf readingAt twos big fieldsOf parse bodies bodyAt badFields badFrom wrongLength wrongRows anyBeyond isBeyond badMarks badMark withPlan planRefused badLevels badFactors mostTwo mostThree badCounts badWords badWord badSign repeated dependent losesFactor factorWord any among beyond letters combined times someCombination combinesTo some bits Σℕ readingLimit factorsOf size two three tabFrom
 small-inputs = refl
 
 -- "if the sheet is refused, an empty part"; of `sample`, which only a narrow column has refused, it gives the marks all the same
 no-marks : map marksOf refusedSheets ≡ replicate 12 []
-unfolding sheetOf sheetFields bytesOf each readingBytes bytes marksOf marksNumber numberWith planIn readingsOf readingAt twos big fieldsOf parse bodies bodyAt badFields badFrom wrongLength wrongRows anyBeyond isBeyond badMarks badMark withPlan planNumber badLevels badFactors mostTwo mostThree badCounts badWords badWord badSign repeated dependent losesFactor factorWord any among beyond letters combined times someCombination combinesTo some bits Σℕ readingLimit factorsOf size two three tabFrom
+unfolding sheetOf sheetFields bytesOf each readingBytes bytes marksOf marksRefused refusedWith planIn readingsOf readingAt twos big fieldsOf parse bodies bodyAt badFields badFrom wrongLength wrongRows anyBeyond isBeyond badMarks badMark withPlan planRefused badLevels badFactors mostTwo mostThree badCounts badWords badWord badSign repeated dependent losesFactor factorWord any among beyond letters combined times someCombination combinesTo some bits Σℕ readingLimit factorsOf size two three tabFrom
 no-marks = refl

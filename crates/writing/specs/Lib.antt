@@ -1,20 +1,8 @@
 -- Sheets as they are written, and that they are read back.
 --
 --   Writer       the bytes of a sheet
---   Bytes        the bytes of numbers give the numbers
---   Back         the bytes of fields give the fields
---   Each         fields of one tag, one after the other
---   Plans        the plan that is read back
---   Readings     the readings that are read back
---   Plain        what is written are bytes
---   RoundTrip    the law on the whole sheet
+--   Laws         that they are read back
 --   Examples     small sheets
 pub mod Writer
-pub mod Bytes
-pub mod Back
-pub mod Each
-pub mod Plans
-pub mod Readings
-pub mod Plain
-pub mod RoundTrip
+pub mod Laws
 pub mod Examples

@@ -15,15 +15,18 @@ use lib.IntN.{ℤ}
 use lib.Pow.{pow-add}
 use lib.ListN.{length, replicate, length-replicate, getD-replicate, take}
 use lib.Seq.{take-length}
-use Rattle.algebra.specs.Tab.{tab, length-tab, getD-tab}
+use Rattle.algebra.specs.Tab.{tab}
+use Rattle.algebra.specs.Laws.Tab.{length-tab, getD-tab}
 use Rattle.contrasts.specs.Columns.{read, AllWithin, passOf, passesOf, totalsOf}
 use Rattle.contrasts.specs.Limits.{readingLimit, valueLimit}
-use Rattle.contrasts.specs.Tables.{ofLevels}
-use Rattle.contrasts.specs.Totals.{size, passes, count}
+use Rattle.contrasts.specs.Factors.{ofLevels}
+use Rattle.contrasts.specs.Totals.{size}
+use Rattle.contrasts.specs.Passes.{passes, count}
 use Rattle.contrasts.specs.Laws.Alike.{size-alike, spacing-alike}
 use Rattle.contrasts.specs.Laws.Kinds.{some-levels}
 use Rattle.contrasts.specs.Laws.Limits.{values-fit}
-use Rattle.contrasts.specs.Laws.Lists.{tab-read, pass-over, passes-list, passes-more, order-list, within-tab}
+use Rattle.contrasts.specs.Laws.Lists.{tab-read, pass-over, passes-list, passes-more, order-list}
+use Rattle.contrasts.specs.Laws.Within.{within-tab}
 use Rattle.contrasts.specs.Laws.Order.{inOrder, in-order}
 use Rattle.contrasts.specs.Laws.Stretches.{passOver}
 use Rattle.plan.specs.declared.types.Plan.{Plan}
@@ -33,7 +36,7 @@ use Rattle.plan.specs.Laws.Accepted.{accepted}
 use Rattle.plan.specs.Laws.Sizes.{as-power, spacing-power, spacing-is, plan-kind, plan-within}
 use Rattle.columns.specs.Laws.Admitted.{Columns}
 use Rattle.yates.specs.Laws.Admitted.{PassAdmitted}
-use Rattle.yates.specs.Ready.{Stretches, Readings}
+use Rattle.yates.specs.Inner.Ready.{Stretches, Readings}
 
 -- ---- columns of levels to the power k
 

@@ -14,12 +14,12 @@ use native.Mathlib.Nat.{mul-le-mul-right, mul-pos}
 use native.Mathlib.Omega.{arith}
 use lib.IntN.{ℤ}
 use lib.ListN.{length, take, drop}
-use Rattle.algebra.specs.Parts as parts
-use Rattle.algebra.specs.Parts.{part, length-part, Cut, Upto}
-use Rattle.contrasts.specs.Tables.{ofLevels}
-use Rattle.contrasts.specs.Laws.Lists.{within-part}
+use Rattle.algebra.specs.Laws.Parts as parts
+use Rattle.algebra.specs.Laws.Parts.{part, length-part, Cut, Upto}
+use Rattle.contrasts.specs.Factors.{ofLevels}
+use Rattle.contrasts.specs.Laws.Within.{within-part}
 use Rattle.contrasts.specs.Laws.Stretches.{passOver, length-over, stretch-alone}
-use Rattle.yates.specs.Ready.{Stretch, Stretches}
+use Rattle.yates.specs.Inner.Ready.{Stretch, Stretches}
 
 pub record Passing (levels h : ℕ) (xs : List ℤ) (start : ℕ) (ys : List ℤ) : Type 0 where
   pub count : ℕ

@@ -11,14 +11,15 @@ use native.Mathlib.Omega.{arith}
 use lib.Dec.{lit<}
 use lib.IntN.{ℤ, pos, _+ℤ_, _-ℤ_, _*ℤ_}
 use lib.ListN.{set}
-use Rattle.algebra.specs.Size.{wrap}
-use Rattle.algebra.specs.Spread.{Turned, begun, ended, unread}
+use Rattle.algebra.specs.Laws.Machine.{wrap}
+use Rattle.algebra.specs.Laws.Spread.{Turned, begun, ended, unread}
 use Rattle.contrasts.specs.Columns.{read}
-use Rattle.contrasts.specs.Tables.{two, three, ofLevels}
-use Rattle.contrasts.specs.Totals.{passAt}
+use Rattle.contrasts.specs.Factors.{two, three, ofLevels}
+use Rattle.contrasts.specs.Passes.{passAt}
 use Rattle.contrasts.specs.Laws.Stretches.{passOver, stretch-value}
-use Rattle.yates.specs.Ready.{Stretch}
-use Rattle.contrasts.specs.Laws.Turns.{Small, turn-two, turn-three}
+use Rattle.yates.specs.Inner.Ready.{Stretch}
+use Rattle.contrasts.specs.Laws.Small.{Small}
+use Rattle.contrasts.specs.Laws.Sets.{turn-two, turn-three}
 
 abbrev pub Stretched : ℕ → ℕ → List ℤ → ℕ → List ℤ → Type 0
 Stretched levels h xs i ys = Turned levels h (passAt h (ofLevels levels) (read xs)) (read xs) i ys

@@ -1,10 +1,10 @@
 -- What the pass and the totals call promise, and laws that callers cite.
 --
 --   Calls      the calls' numbers and columns
---   Ready      what the inner functions ask of their columns
 --   Examples   small columns, computed
 --   Laws       laws on the calls
+--   Inner      what the inner functions ask and leave; no promise of a call
 pub mod Calls
-pub mod Ready
 pub mod Examples
 pub mod Laws
+pub mod Inner

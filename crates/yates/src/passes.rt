@@ -8,12 +8,12 @@ use plan::lowest;
 use sizes::runs;
 use sizes::spacing;
 ghost use Rattle.plan.specs.Outcome.{outcome};
-ghost use Rattle.columns.specs.Lines.{answerOutcome};
-ghost use Rattle.yates.specs.Calls.{passNumber, passColumn};
+ghost use Rattle.columns.specs.Refusals.{answerOutcome};
+ghost use Rattle.yates.specs.Calls.{passRefused, passColumn};
 
 // The lowest number that applies, and 0 where none does.
-fn pass_number(p: Plan, factor: usize, column: &[i64]) -> u8
-    ensures { λ r. ⌜ r ≡ passNumber p factor (now (column .entry)) ⌝ }
+fn pass_refused(p: Plan, factor: usize, column: &[i64]) -> u8
+    ensures { λ r. ⌜ r ≡ passRefused p factor (now (column .entry)) ⌝ }
 {
     let n = lowest(p);
     if n != 0 {
@@ -33,10 +33,10 @@ fn pass_number(p: Plan, factor: usize, column: &[i64]) -> u8
 
 // The pass of one factor over a column, in place.
 pub fn pass(p: Plan, factor: usize, column: &mut [i64]) -> Answer
-    ensures { λ r. ⌜ answerOutcome r ≡ outcome (passNumber p factor (now (column .entry))) tt ⌝ }
+    ensures { λ r. ⌜ answerOutcome r ≡ outcome (passRefused p factor (now (column .entry))) tt ⌝ }
     ensures { λ _. ⌜ now (column .exit) ≡ passColumn p factor (now (column .entry)) ⌝ }
 {
-    let n = pass_number(p, factor, column);
+    let n = pass_refused(p, factor, column);
     if n != 0 {
         return Answer::Refused(n);
     }

@@ -4,14 +4,14 @@ ghost use lib.ListN.{replicate};
 use super::stretches::pass_over;
 use columns::Answer;
 use columns::copy;
-use columns::readings_number;
+use columns::readings_refused;
 use plan::Plan;
 ghost use Rattle.contrasts.specs.Columns.{totalsOf};
-ghost use Rattle.contrasts.specs.Tables.{ofLevels};
+ghost use Rattle.contrasts.specs.Factors.{ofLevels};
 ghost use Rattle.plan.specs.Outcome.{outcome};
-ghost use Rattle.columns.specs.Lines.{answerOutcome};
-ghost use Rattle.yates.specs.Calls.{totalsNumber, totalsColumn};
-ghost use Rattle.yates.specs.Ready.{Readings};
+ghost use Rattle.columns.specs.Refusals.{answerOutcome};
+ghost use Rattle.yates.specs.Calls.{totalsRefused, totalsColumn};
+ghost use Rattle.yates.specs.Inner.Ready.{Readings};
 
 // The passes of all factors, A first.
 fn all_passes(levels: usize, k: usize, column: &mut [i64])
@@ -29,10 +29,10 @@ fn all_passes(levels: usize, k: usize, column: &mut [i64])
 
 // The totals of all effects.
 pub fn totals(p: Plan, readings: &[i32], totals: &mut [i64]) -> Answer
-    ensures { λ r. ⌜ answerOutcome r ≡ outcome (totalsNumber p (now (readings .entry)) (now (totals .entry))) tt ⌝ }
+    ensures { λ r. ⌜ answerOutcome r ≡ outcome (totalsRefused p (now (readings .entry)) (now (totals .entry))) tt ⌝ }
     ensures { λ _. ⌜ now (totals .exit) ≡ totalsColumn p (now (readings .entry)) (now (totals .entry)) ⌝ }
 {
-    let n = readings_number(p, readings, totals);
+    let n = readings_refused(p, readings, totals);
     if n != 0 {
         return Answer::Refused(n);
     }

@@ -1,8 +1,8 @@
 // The pass of a factor over a column: the column falls into consecutive stretches, and each stretch is worked by itself.
 ghost use mathlib.Core.Path.{_≡_};
-ghost use Rattle.contrasts.specs.Tables.{two, three, ofLevels};
+ghost use Rattle.contrasts.specs.Factors.{two, three, ofLevels};
 ghost use Rattle.contrasts.specs.Laws.Stretches.{passOver};
-ghost use Rattle.yates.specs.Ready.{Stretch, Stretches};
+ghost use Rattle.yates.specs.Inner.Ready.{Stretch, Stretches};
 
 // The pairs of a stretch at two levels: first and second become their sum, and first minus second.
 fn work_pairs(part: &mut [i64], spacing: usize)

@@ -12,9 +12,10 @@ use native.Mathlib.Nat.{mul-zero, zero-mul, mod-lt, one-le-pow, zero-lt-suc}
 use native.Mathlib.Omega.{arith}
 use lib.Dec.{eqb}
 use lib.ListN.{length, getD}
-use Rattle.algebra.specs.Naturals.{Σℕ, Σℕ-plus, Σℕ-upto, Σℕ-add, Σℕ-cong, Σℕ-parity}
-use Rattle.algebra.specs.Tab.{getD-past}
-use Rattle.algebra.specs.Bits.{bit-lt, bit-none, bit-mod, digit}
+use Rattle.algebra.specs.Naturals.{Σℕ}
+use Rattle.algebra.specs.Laws.Naturals.{Σℕ-plus, Σℕ-upto, Σℕ-add, Σℕ-cong, Σℕ-parity}
+use Rattle.algebra.specs.Laws.Tab.{getD-past}
+use Rattle.algebra.specs.Laws.Bits.{bit-lt, bit-none, bit-mod, digit}
 use Rattle.words.specs.Words.{letter, has, shared, odd, oddIn}
 use Rattle.words.specs.Laws.Letters.{shifted, shared-first}
 use Rattle.words.specs.Laws.Combined.{shared-combined}

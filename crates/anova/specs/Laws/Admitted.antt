@@ -14,27 +14,27 @@ use borrow.Author.Tests.{eq-eqb}
 use lib.Dec.{lit<}
 use lib.IntN.{ℤ}
 use lib.ListN.{length, length-replicate}
-use Rattle.algebra.specs.Tests.{neither}
+use Rattle.algebra.specs.Laws.Tests.{neither}
 use Rattle.contrasts.specs.Columns.{read}
 use Rattle.contrasts.specs.Limits.{readingLimit, numeratorLimit}
-use Rattle.contrasts.specs.Tables.{ofLevels}
+use Rattle.contrasts.specs.Factors.{ofLevels}
 use Rattle.contrasts.specs.Totals.{denominator, squared}
 use Rattle.contrasts.specs.Laws.Limits.{total-fits}
 use Rattle.plan.specs.declared.types.Plan.{Plan}
-use Rattle.plan.specs.Check.{planNumber}
+use Rattle.plan.specs.Check.{planRefused}
 use Rattle.plan.specs.Plan.{factorsOf, runsOf}
 use Rattle.plan.specs.Laws.Answers.{passed, plan-passed, after-plan}
 use Rattle.plan.specs.Laws.Sizes.{plan-within}
-use Rattle.columns.specs.Lines.{wrongLength, anyBeyond}
+use Rattle.columns.specs.Refusals.{wrongLength, anyBeyond}
 use Rattle.columns.specs.Laws.Admitted.{all-within, as-long}
 use Rattle.rows.specs.Kinds.{rowsIn, wrongRows, badMarks}
-use Rattle.rows.specs.Laws.{rows-as-long}
-use Rattle.anova.specs.Ready.{TableReady}
-use Rattle.anova.specs.Table.{wrongLengths, tableNumber}
+use Rattle.rows.specs.Laws.Rows.{rows-as-long}
+use Rattle.anova.specs.Inner.Ready.{TableReady}
+use Rattle.anova.specs.Table.{wrongLengths, tableRefused}
 
 pub table-admitted : (p : Plan) (readings : List ℤ) (marks : List ℕ) (totals : List ℤ) (rows : List ℕ)
-    → tableNumber p readings marks totals rows ≡ 0 → TableReady p readings marks totals rows
-unfolding tableNumber wrongLengths
+    → tableRefused p readings marks totals rows ≡ 0 → TableReady p readings marks totals rows
+unfolding tableRefused wrongLengths
 table-admitted p readings marks totals rows e =
     let q = plan-passed p _ e in
     let l11 = passed (wrongLengths p (length readings) (length marks) (length totals) (length rows)) 11 _ (omega arith) (q .1) in
@@ -51,9 +51,9 @@ table-admitted p readings marks totals rows e =
     }
 
 module _ (p : Plan) (readings : List ℤ) (marks : List ℕ) (totals : List ℤ) (rows : List ℕ) where
-  pub table-admits : planNumber p ≡ 0 → length readings ≡ runsOf p → length totals ≡ runsOf p → length rows ≡ rowsIn p → length marks ≡ rowsIn p
-      → anyBeyond readingLimit readings ≡ false → badMarks p marks ≡ false → tableNumber p readings marks totals rows ≡ 0
-  unfolding tableNumber wrongLengths wrongLength wrongRows
+  pub table-admits : planRefused p ≡ 0 → length readings ≡ runsOf p → length totals ≡ runsOf p → length rows ≡ rowsIn p → length marks ≡ rowsIn p
+      → anyBeyond readingLimit readings ≡ false → badMarks p marks ≡ false → tableRefused p readings marks totals rows ≡ 0
+  unfolding tableRefused wrongLengths wrongLength wrongRows
   table-admits ok n m r q within lawful =
       after-plan p _ ok
       ∙ rw

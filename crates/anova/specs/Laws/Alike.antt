@@ -1,6 +1,6 @@
 -- Places beyond a plan's counts are ignored by the table call too.
 --
---   same-number, same-figures    plans that agree as far as their counts reach get the same answer
+--   same-refused, same-figures    plans that agree as far as their counts reach get the same answer
 --   same-rows                    and the same rows; their totals are those of the same factors
 use mathlib.Core.Path.{_≡_, refl}
 use mathlib.Core.List.{List}
@@ -9,15 +9,15 @@ use lib.IntN.{ℤ}
 use Rattle.plan.specs.declared.types.Plan.{Plan}
 use Rattle.plan.specs.Check.{withPlan}
 use Rattle.plan.specs.Plan.{factorsOf}
-use Rattle.plan.specs.Laws.Alike.{Alike, same-number as same-plan-number}
-use Rattle.columns.specs.Lines.{wrongLength}
+use Rattle.plan.specs.Laws.Alike.{Alike, same-refused as same-plan-refused}
+use Rattle.columns.specs.Refusals.{wrongLength}
 use Rattle.rows.specs.Kinds.{wrongRows, kindOf, badMark, badMarks}
-use Rattle.anova.specs.Table.{wrongLengths, tableNumber, sourceOf, totalSource, checksOf, tableFigures, rowsOf}
+use Rattle.anova.specs.Table.{wrongLengths, tableRefused, sourceOf, totalSource, checksOf, tableFigures, rowsOf}
 
 module _ {p q : Plan} (a : Alike p q) (readings : List ℤ) where
-  pub same-number : (marks : List ℕ) (totals : List ℤ) (rows : List ℕ) → tableNumber p readings marks totals rows ≡ tableNumber q readings marks totals rows
-  unfolding tableNumber withPlan wrongLengths wrongRows wrongLength badMarks badMark factorsOf
-  same-number marks totals rows = rw (same-plan-number a, a .blockwords, a .levels, a .k) refl
+  pub same-refused : (marks : List ℕ) (totals : List ℤ) (rows : List ℕ) → tableRefused p readings marks totals rows ≡ tableRefused q readings marks totals rows
+  unfolding tableRefused withPlan wrongLengths wrongRows wrongLength badMarks badMark factorsOf
+  same-refused marks totals rows = rw (same-plan-refused a, a .blockwords, a .levels, a .k) refl
 
   pub same-figures : (marks : List ℕ) → tableFigures p readings marks ≡ tableFigures q readings marks
   unfolding tableFigures sourceOf totalSource checksOf kindOf factorsOf

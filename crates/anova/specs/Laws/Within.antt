@@ -17,13 +17,16 @@ use native.Mathlib.Nat.{le-trans}
 use native.Mathlib.Omega.{arith}
 use lib.IntN.{ℤ, natAbs}
 use lib.ListN.{length}
-use Rattle.algebra.specs.Naturals.{Σℕ, Σℕ-by, Σℕ-some, Σℕ-term}
-use Rattle.algebra.specs.Sorted.{sumAt, sum-least}
+use Rattle.algebra.specs.Naturals.{Σℕ}
+use Rattle.algebra.specs.Laws.Naturals.{Σℕ-by, Σℕ-some, Σℕ-term}
+use Rattle.algebra.specs.Sorted.{sumAt}
+use Rattle.algebra.specs.Laws.Sorted.{sum-least}
 use Rattle.contrasts.specs.Columns.{read}
 use Rattle.contrasts.specs.Limits.{numeratorLimit}
 use Rattle.contrasts.specs.Rows.{rowOf, degreesOf, rowNumerator}
-use Rattle.contrasts.specs.Tables.{ofLevels}
-use Rattle.contrasts.specs.Totals.{total, denominator, numerator, squared, rounds}
+use Rattle.contrasts.specs.Factors.{ofLevels}
+use Rattle.contrasts.specs.Totals.{total, denominator, numerator, squared}
+use Rattle.contrasts.specs.Checks.{rounds}
 use Rattle.contrasts.specs.Laws.CheckSum.{check-rounds}
 use Rattle.contrasts.specs.Laws.Degrees.{row-lt, degrees-sum}
 use Rattle.contrasts.specs.Laws.Limits.{sizes-fit, numerators-fit}
@@ -33,7 +36,7 @@ use Rattle.plan.specs.Plan.{factorsOf, runsOf}
 use Rattle.plan.specs.Laws.Sizes.{plan-within}
 use Rattle.rows.specs.Kinds.{rowsIn, Kind, kindOf, same}
 use Rattle.anova.specs.declared.types.Source.{Source}
-use Rattle.anova.specs.Ready.{TableReady}
+use Rattle.anova.specs.Inner.Ready.{TableReady}
 use Rattle.anova.specs.Table.{sourceOf, totalSource, checksOf}
 use Rattle.anova.specs.Laws.Admitted.{rows-power, within-limit}
 

@@ -13,16 +13,16 @@ use borrow.Author.Tests.{eq-eqb, eqb-true, le-ltb, ltb-false, not-false}
 use lib.Dec.{eqb}
 use lib.IntN.{ℤ, natAbs}
 use lib.ListN.{length}
-use Rattle.algebra.specs.Search.{some-false, none-at}
-use Rattle.algebra.specs.Tests.{neither}
+use Rattle.algebra.specs.Laws.Search.{some-false, none-at}
+use Rattle.algebra.specs.Laws.Tests.{neither}
 use Rattle.contrasts.specs.Columns.{read, AllWithin}
-use Rattle.contrasts.specs.Laws.Lists.{within-upto}
+use Rattle.contrasts.specs.Laws.Within.{within-upto}
 use Rattle.plan.specs.declared.types.Plan.{Plan}
-use Rattle.plan.specs.Check.{planNumber}
+use Rattle.plan.specs.Check.{planRefused}
 use Rattle.plan.specs.Plan.{runsOf}
 use Rattle.plan.specs.Laws.Answers.{passed, plan-passed, after-plan}
-use Rattle.columns.specs.Copies.{copied}
-use Rattle.columns.specs.Lines.{wrongLength, isBeyond, anyBeyond, columnsNumber}
+use Rattle.columns.specs.Inner.Copies.{copied}
+use Rattle.columns.specs.Refusals.{wrongLength, isBeyond, anyBeyond, columnsRefused}
 
 pub all-within : (limit : ℕ) (xs : List ℤ) → anyBeyond limit xs ≡ false → AllWithin limit xs
 unfolding anyBeyond isBeyond
@@ -41,13 +41,13 @@ unfolding wrongLength
 not-wrong p n e = rw (eq-eqb n (runsOf p) e) refl
 
 pub record Columns (limit : ℕ) (p : Plan) (xs ys : List ℤ) : Type 0 where
-  pub plan : planNumber p ≡ 0
+  pub plan : planRefused p ≡ 0
   pub whole : length xs ≡ runsOf p
   pub same : length ys ≡ runsOf p
   pub within : AllWithin limit xs
 
-pub admitted : (limit : ℕ) (p : Plan) (xs ys : List ℤ) → columnsNumber limit p xs ys ≡ 0 → Columns limit p xs ys
-unfolding columnsNumber
+pub admitted : (limit : ℕ) (p : Plan) (xs ys : List ℤ) → columnsRefused limit p xs ys ≡ 0 → Columns limit p xs ys
+unfolding columnsRefused
 admitted limit p xs ys e =
     let q = plan-passed p _ e in
     let l11 = passed (wrongLength p (length xs) || wrongLength p (length ys)) 11 _ (omega arith) (q .1) in
@@ -55,8 +55,8 @@ admitted limit p xs ys e =
     let n = neither (wrongLength p (length xs)) (wrongLength p (length ys)) (l11 .0) in
     record { plan = q .0; whole = as-long p (length xs) (n .0); same = as-long p (length ys) (n .1); within = all-within limit xs (l12 .0) }
 
-pub admits : {limit : ℕ} {p : Plan} {xs ys : List ℤ} → Columns limit p xs ys → columnsNumber limit p xs ys ≡ 0
-unfolding columnsNumber
+pub admits : {limit : ℕ} {p : Plan} {xs ys : List ℤ} → Columns limit p xs ys → columnsRefused limit p xs ys ≡ 0
+unfolding columnsRefused
 admits {limit} {p} {xs} {ys} a =
     after-plan p _ (a .plan) ∙ rw (not-wrong p (length xs) (a .whole), not-wrong p (length ys) (a .same), none-beyond limit xs (a .within)) refl
 

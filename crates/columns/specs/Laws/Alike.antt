@@ -7,9 +7,9 @@ use Prim.Native.Nat.{ℕ}
 use lib.IntN.{ℤ}
 use Rattle.plan.specs.declared.types.Plan.{Plan}
 use Rattle.plan.specs.Check.{withPlan}
-use Rattle.plan.specs.Laws.Alike.{Alike, same-number, same-factors}
-use Rattle.columns.specs.Lines.{wrongLength, columnsNumber}
+use Rattle.plan.specs.Laws.Alike.{Alike, same-refused, same-factors}
+use Rattle.columns.specs.Refusals.{wrongLength, columnsRefused}
 
-pub same-columns : {p q : Plan} → Alike p q → (limit : ℕ) (xs ys : List ℤ) → columnsNumber limit p xs ys ≡ columnsNumber limit q xs ys
-unfolding columnsNumber withPlan wrongLength
-same-columns a limit xs ys = rw (same-number a, same-factors a) refl
+pub same-columns : {p q : Plan} → Alike p q → (limit : ℕ) (xs ys : List ℤ) → columnsRefused limit p xs ys ≡ columnsRefused limit q xs ys
+unfolding columnsRefused withPlan wrongLength
+same-columns a limit xs ys = rw (same-refused a, same-factors a) refl

@@ -1,7 +1,7 @@
 -- The plan as the code holds it: it has the number of the sheet's plan, and is that plan where it is accepted.
 --
 --   held-same      a plan whose counts are not over is held as it is
---   held-number    the number of a plan that is held
+--   held-refused    the number of a plan that is held
 --   held-all       a plan that is accepted is held as it is
 use mathlib.Core.Path.{_≡_, refl, ap}
 use mathlib.Core.Bool.{true, or-true}
@@ -11,9 +11,9 @@ use native.Mathlib.Omega.{arith}
 use borrow.Author.Tests.{lt-ltb}
 use lib.Dec.{ltb}
 use Rattle.plan.specs.declared.types.Plan.{Plan}
-use Rattle.plan.specs.Check.{badCounts, planNumber}
+use Rattle.plan.specs.Check.{badCounts, planRefused}
 use Rattle.plan.specs.Laws.Accepted.{sizes}
-use Rattle.contents.specs.Held.{held}
+use Rattle.contents.specs.Inner.Held.{held}
 
 min-small : (n m : ℕ) → n ≤ m → min n m ≡ n
 min-small n m h = omega arith
@@ -41,15 +41,15 @@ over-blocks : (levels a b : ℕ) → 5 ≤ b → badCounts levels a b ≡ true
 unfolding badCounts
 over-blocks levels a b h = rw (lt-ltb 4 b h) (or-true (ltb 6 a))
 
--- both plans are refused by line 4 at the latest
-pub held-number : (p : Plan) → planNumber (held p) ≡ planNumber p
-unfolding planNumber held
-held-number p = by (decLe (p .added) 6) (decLe (p .blocks) 4)
+-- both plans are refused by refusal 4 at the latest
+pub held-refused : (p : Plan) → planRefused (held p) ≡ planRefused p
+unfolding planRefused held
+held-refused p = by (decLe (p .added) 6) (decLe (p .blocks) 4)
   where
-    by : Dec (p .added ≤ 6) → Dec (p .blocks ≤ 4) → planNumber (held p) ≡ planNumber p
-    by (yes h) (yes k) = ap planNumber (held-same p h k)
+    by : Dec (p .added ≤ 6) → Dec (p .blocks ≤ 4) → planRefused (held p) ≡ planRefused p
+    by (yes h) (yes k) = ap planRefused (held-same p h k)
     by (no h) k = rw (over-added (p .levels) (min (p .added) 7) (min (p .blocks) 5) (omega (arith, min-large (p .added) 7 (omega arith))), over-added (p .levels) (p .added) (p .blocks) (omega arith)) refl
     by (yes h) (no k) = rw (over-blocks (p .levels) (min (p .added) 7) (min (p .blocks) 5) (omega (arith, min-large (p .blocks) 5 (omega arith))), over-blocks (p .levels) (p .added) (p .blocks) (omega arith)) refl
 
-pub held-all : (p : Plan) → planNumber p ≡ 0 → held p ≡ p
+pub held-all : (p : Plan) → planRefused p ≡ 0 → held p ≡ p
 held-all p z = let s = sizes p z in held-same p (s .1) (s .2)

@@ -13,7 +13,8 @@ use native.Mathlib.Nat.{pow-zero, pow-succ', zero-mod, zero-div}
 use native.Mathlib.Omega.{arith}
 use lib.ListN.{take, replicate, length-replicate, getD-replicate, replicate-append-replicate}
 use Rattle.contrasts.specs.Factor.{Factor}
-use Rattle.contrasts.specs.Totals.{Column, size, passAt, pass, divisor*, denominator, spacing}
+use Rattle.contrasts.specs.Totals.{Column, size, divisor*, denominator}
+use Rattle.contrasts.specs.Passes.{passAt, pass, spacing}
 use Rattle.contrasts.specs.Laws.Bounds.{reach, growth, widest}
 use Rattle.contrasts.specs.Laws.Divisors.{divisor-more}
 use Rattle.contrasts.specs.Laws.Stretches.{pass-is}

@@ -19,11 +19,14 @@ use native.Mathlib.Nat.{mod-lt, mul-assoc, mul-le-mul-left, mul-le-mul-right, le
 use native.Mathlib.Omega.{arith}
 use lib.IntN.{ℤ, natAbs, _*ℤ_}
 use lib.ListN.{length, take, replicate}
-use Rattle.algebra.specs.Size.{natAbs-*ℤ, natAbs-Σ}
+use Rattle.algebra.specs.Laws.Size.{natAbs-*ℤ, natAbs-Σ}
 use Rattle.algebra.specs.Sum.{Σ}
-use Rattle.algebra.specs.Naturals.{Σℕ, most, most-ge}
+use Rattle.algebra.specs.Naturals.{Σℕ, most}
+use Rattle.algebra.specs.Laws.Naturals.{most-ge}
 use Rattle.contrasts.specs.Factor.{Factor}
-use Rattle.contrasts.specs.Totals.{Column, size, total, passFrom, pass, passes, count, step, steps}
+use Rattle.contrasts.specs.Totals.{Column, size, total}
+use Rattle.contrasts.specs.Passes.{passFrom, pass, passes, count}
+use Rattle.contrasts.specs.Steps.{step, steps}
 use Rattle.contrasts.specs.Laws.Digits.{level, rest-lt, digit-lt, pass-zero, pass-suc}
 use Rattle.contrasts.specs.Laws.Order.{rest, share, mixed, mixed-all, count-take, after}
 use Rattle.contrasts.specs.Laws.Steps.{step-value}

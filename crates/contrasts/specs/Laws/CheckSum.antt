@@ -11,10 +11,12 @@ use native.Mathlib.Nat.{mul-comm}
 use lib.Arith.{digits-div, digits-mod, digits-lt}
 use lib.Dec.{lit<}
 use lib.IntN.{ℤ, pos, _*ℤ_}
-use Rattle.algebra.specs.Ring.{ℤ-*one, *ℤ-middle}
-use Rattle.algebra.specs.Sum.{Σ, Σ-unit, Σ-cong, Σ-ext, Σ-mul-r, Σ-swap, Σ-digits, Σ-split}
+use Rattle.algebra.specs.Laws.Ring.{ℤ-*one, *ℤ-middle}
+use Rattle.algebra.specs.Sum.{Σ}
+use Rattle.algebra.specs.Laws.Sum.{Σ-unit, Σ-cong, Σ-ext, Σ-mul-r, Σ-swap, Σ-digits, Σ-split}
 use Rattle.contrasts.specs.Factor.{Factor}
-use Rattle.contrasts.specs.Totals.{Column, size, total, checkWeight, round, rounds}
+use Rattle.contrasts.specs.Totals.{Column, size, total}
+use Rattle.contrasts.specs.Checks.{checkWeight, round, rounds}
 use Rattle.contrasts.specs.Laws.Digits.{level, total-nil, total-cons, total-Σ}
 
 unfoldable pub checkWeight* : List Factor → ℕ → ℤ

@@ -17,8 +17,9 @@ use lib.Count.{ones, ones-step, ones-le}
 use lib.Dec.{eqb, eqb·suc-zero, lit<}
 use lib.ListN.{length, replicate}
 use lib.Pow.{pow-add}
-use Rattle.algebra.specs.Naturals.{Σℕ, Σℕ-cong, Σℕ-mul, Σℕ-split, Σℕ-by, Σℕ-ones}
-use Rattle.algebra.specs.Tests.{eqb-digits, cond-*}
+use Rattle.algebra.specs.Naturals.{Σℕ}
+use Rattle.algebra.specs.Laws.Naturals.{Σℕ-cong, Σℕ-mul, Σℕ-split, Σℕ-by, Σℕ-ones}
+use Rattle.algebra.specs.Laws.Tests.{eqb-digits, cond-*}
 use Rattle.contrasts.specs.Factor.{Factor}
 use Rattle.contrasts.specs.Totals.{size}
 use Rattle.contrasts.specs.Rows.{rowOf, degreesOf}

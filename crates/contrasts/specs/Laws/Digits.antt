@@ -18,10 +18,12 @@ use lib.Arith.{digits-div, digits-mod, digits-lt}
 use lib.Dec.{lit<}
 use lib.IntN.{ℤ, pos, _*ℤ_}
 use lib.ListN.{length}
-use Rattle.algebra.specs.Ring.{ac*, ℤ-*one, *ℤ-assoc}
-use Rattle.algebra.specs.Sum.{Σ, Σ-unit, Σ-cong, Σ-ext, Σ-mul, Σ-mul-r, Σ-swap, Σ-digits}
+use Rattle.algebra.specs.Laws.Ring.{ac*, ℤ-*one, *ℤ-assoc}
+use Rattle.algebra.specs.Sum.{Σ}
+use Rattle.algebra.specs.Laws.Sum.{Σ-unit, Σ-cong, Σ-ext, Σ-mul, Σ-mul-r, Σ-swap, Σ-digits}
 use Rattle.contrasts.specs.Factor.{Factor}
-use Rattle.contrasts.specs.Totals.{Column, size, coef*, total, withDigit, passAt, passFrom, pass}
+use Rattle.contrasts.specs.Totals.{Column, size, coef*, total}
+use Rattle.contrasts.specs.Passes.{withDigit, passAt, passFrom, pass}
 
 abbrev pub level : Factor → ℕ → Column → Column
 level F j x q = x (q * F .levels + j)

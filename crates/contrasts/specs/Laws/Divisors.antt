@@ -11,7 +11,7 @@ use Prim.Native.Nat.{ℕ, _*_, _/_, _%_, _<_}
 use native.Mathlib.Nat.{mul-comm, mod-lt, mul-mul-mul-comm, mul-pos, mul-assoc, one-mul, div-eq-of-eq-mul-right}
 use lib.Arith.{lt-one}
 use lib.Dec.{lit<}
-use Rattle.algebra.specs.Naturals.{factor-pos}
+use Rattle.algebra.specs.Laws.Products.{factor-pos}
 use Rattle.contrasts.specs.Factor.{Factor, weight}
 use Rattle.contrasts.specs.Totals.{size, divisor*, denominator, weight*}
 use Rattle.contrasts.specs.Laws.Digits.{rest-lt}

@@ -8,7 +8,7 @@ use mathlib.Core.Path.{_≡_, refl, sym}
 use mathlib.Core.Logic.{_⊎_, inl, inr}
 use Prim.Native.Nat.{ℕ, _<_}
 use borrow.Author.Tests.{ne-eqb}
-use Rattle.contrasts.specs.Tables.{two, three, ofLevels}
+use Rattle.contrasts.specs.Factors.{two, three, ofLevels}
 
 pub some-levels : (n : ℕ) → ofLevels n .levels ≡ n → 0 < n
 some-levels n e = rw (← e) (ofLevels n .some-level)

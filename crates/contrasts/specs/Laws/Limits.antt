@@ -17,12 +17,16 @@ use native.Mathlib.Omega.{arith}
 use lib.Dec.{T, leb, leb→le, lit<}
 use lib.IntN.{natAbs}
 use lib.ListN.{length, replicate, take}
-use Rattle.algebra.specs.Naturals.{Σℕ, most, Σℕ-each}
-use Rattle.algebra.specs.Tests.{and-left, and-right, every, every-at}
+use Rattle.algebra.specs.Naturals.{Σℕ, most}
+use Rattle.algebra.specs.Laws.Naturals.{Σℕ-each}
+use Rattle.algebra.specs.Laws.Tests.{and-left, and-right, every-at}
+use Rattle.algebra.specs.Tests.{every}
 use Rattle.contrasts.specs.Factor.{Factor}
 use Rattle.contrasts.specs.Limits.{readingLimit, valueLimit, numeratorLimit, mostTwo, mostThree}
-use Rattle.contrasts.specs.Tables.{two, three}
-use Rattle.contrasts.specs.Totals.{Column, size, total, passes, count, steps, denominator, numerator, squared}
+use Rattle.contrasts.specs.Factors.{two, three}
+use Rattle.contrasts.specs.Totals.{Column, size, total, denominator, numerator, squared}
+use Rattle.contrasts.specs.Passes.{passes, count}
+use Rattle.contrasts.specs.Steps.{steps}
 use Rattle.contrasts.specs.Laws.Alike.{growth-alike}
 use Rattle.contrasts.specs.Laws.Bounds.{Within, reach, growth, bound-each, bound-total, bound-steps}
 use Rattle.contrasts.specs.Laws.Digits.{size-pos}

@@ -9,24 +9,23 @@
 --   steps-list       a step for each factor ends as the totals
 --   steps-alike      steps of k factors that are alike, over lists and over columns
 --   steps-more       one step more
---   within-upto, within-tab, within-part    for `AllWithin` it is enough to look at the places of a list; so of a table, and of a part
 use mathlib.Core.Path.{_≡_, refl, sym, _∙_, ap}
 use mathlib.Core.List.{List, [], _∷_}
-use Prim.Native.Nat.{ℕ, zero, suc, _+_, _-_, _*_, _^_, _<_, _≤_}
+use Prim.Native.Nat.{ℕ, zero, suc, _-_, _*_, _^_, _<_, _≤_}
 use native.Mathlib.Nat.{mul-one, mul-pos, mul-assoc}
-use native.Mathlib.Decide.{decLt}
 use native.Mathlib.Omega.{arith}
 use lib.Dec.{lit<}
-use lib.IntN.{ℤ, pos, natAbs}
+use lib.IntN.{ℤ, pos}
 use lib.ListN.{length, getD, take, replicate}
 use lib.Pow.{pow-add}
-use Rattle.algebra.specs.Parts.{part, length-part, getD-part}
-use Rattle.algebra.specs.Tab.{tab, length-tab, getD-tab, is-tab, tab-cong, getD-past}
-use Rattle.contrasts.specs.Columns.{read, AllWithin, totalsOf, passOf, passesOf, stepOf, stepsOf}
+use Rattle.algebra.specs.Tab.{tab}
+use Rattle.algebra.specs.Laws.Tab.{getD-tab, is-tab, tab-cong}
+use Rattle.contrasts.specs.Columns.{read, totalsOf, passOf, passesOf, stepOf, stepsOf}
 use Rattle.contrasts.specs.Factor.{Factor}
-use Rattle.contrasts.specs.Totals.{Column, size, total, pass, passes, count, step, steps, spacing}
+use Rattle.contrasts.specs.Totals.{Column, size, total}
+use Rattle.contrasts.specs.Passes.{pass, passes, count, spacing}
+use Rattle.contrasts.specs.Steps.{step, steps}
 use Rattle.contrasts.specs.Laws.Alike.{size-alike}
-use Rattle.contrasts.specs.Laws.Bounds.{Within}
 use Rattle.contrasts.specs.Laws.Digits.{size-pos, pass-cong, pass-beyond}
 use Rattle.contrasts.specs.Laws.Order.{order}
 use Rattle.contrasts.specs.Laws.Steps.{step-cong, rotated, all-steps}
@@ -111,20 +110,3 @@ pub steps-more : (N : ℕ) (F : Factor) (n : ℕ) (xs : List ℤ) → stepsOf N 
 unfolding stepsOf
 steps-more N F zero xs = refl
 steps-more N F (suc n) xs = steps-more N F n (stepOf N F xs)
-
--- ---- sizes
-
-pub within-upto : (M : ℕ) (xs : List ℤ) → ((i : ℕ) → i < length xs → natAbs (read xs i) ≤ M) → AllWithin M xs
-within-upto M xs h i = by (decLt i (length xs))
-  where
-    by : Dec (i < length xs) → natAbs (read xs i) ≤ M
-    by (yes k) = h i k
-    by (no k) = rw (getD-past (pos 0) xs i (omega arith)) (omega arith)
-
-pub within-tab : (n M : ℕ) (x : Column) → Within n M x → AllWithin M (tab n x)
-within-tab n M x h = within-upto M (tab n x) (λ i k. let k′ : i < n = rw (length-tab n x) at k in rw (getD-tab (pos 0) n x i k′) (h i k′))
-
-pub within-part : (w start M : ℕ) (xs : List ℤ) → start + w ≤ length xs → AllWithin M xs → AllWithin M (part w start xs)
-within-part w start M xs room h =
-    within-upto M (part w start xs)
-    (λ i k. let k′ : i < w = rw (length-part w start xs room) at k in rw (getD-part w start xs (pos 0) i k′) (h (start + i)))

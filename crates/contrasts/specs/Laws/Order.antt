@@ -18,11 +18,13 @@ use borrow.Author.Tests.{eq-eqb, ne-eqb}
 use lib.Arith.{digits-div, digits-mod, lt-one}
 use lib.ListN.{length, take}
 use lib.IntN.{ℤ, _*ℤ_}
-use Rattle.algebra.specs.Ring.{ac*}
-use Rattle.algebra.specs.Sum.{Σ, Σ-cong, Σ-ext, Σ-mul, Σ-swap}
+use Rattle.algebra.specs.Laws.Ring.{ac*}
+use Rattle.algebra.specs.Sum.{Σ}
+use Rattle.algebra.specs.Laws.Sum.{Σ-cong, Σ-ext, Σ-mul, Σ-swap}
 use Rattle.algebra.specs.Tab.{tab, tabFrom}
 use Rattle.contrasts.specs.Factor.{Factor}
-use Rattle.contrasts.specs.Totals.{Column, size, total, digitAt, withDigit, passAt, passFrom, pass, passes, hit, count}
+use Rattle.contrasts.specs.Totals.{Column, size, total}
+use Rattle.contrasts.specs.Passes.{digitAt, withDigit, passAt, passFrom, pass, passes, hit, count}
 use Rattle.contrasts.specs.Laws.Digits.{level, rest-lt, total-nil, total-cons, pass-zero, pass-suc, pass-beyond}
 
 -- ---- the column after some calls

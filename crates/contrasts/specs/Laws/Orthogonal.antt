@@ -10,9 +10,10 @@ use native.Mathlib.Nat.{mod-lt}
 use lib.Arith.{lt-one}
 use lib.Dec.{eqb}
 use lib.IntN.{ℤ, pos, _*ℤ_}
-use Rattle.algebra.specs.Ring.{*ℤ-interchange}
-use Rattle.algebra.specs.Sum.{Σ, Σ-unit, Σ-ext, Σ-mul, Σ-mul-r, Σ-split}
-use Rattle.algebra.specs.Tests.{eqb-digits, cond-*ℤ-cond}
+use Rattle.algebra.specs.Laws.Ring.{*ℤ-interchange}
+use Rattle.algebra.specs.Sum.{Σ}
+use Rattle.algebra.specs.Laws.Sum.{Σ-unit, Σ-ext, Σ-mul, Σ-mul-r, Σ-split}
+use Rattle.algebra.specs.Laws.Tests.{eqb-digits, cond-*ℤ-cond}
 use Rattle.contrasts.specs.Factor.{Factor}
 use Rattle.contrasts.specs.Totals.{size, coef*, divisor*}
 use Rattle.contrasts.specs.Laws.Digits.{rest-lt}

@@ -15,12 +15,15 @@ use native.Mathlib.Numerals.{add-one}
 use lib.Arith.{lt-one}
 use lib.Dec.{eqb, eqb→eq, lit<}
 use lib.ListN.{length, replicate, replicate-append-replicate}
-use Rattle.algebra.specs.Naturals.{Σℕ, Σℕ-cong}
-use Rattle.algebra.specs.Sorted.{sumAt, by-kind}
-use Rattle.algebra.specs.Tests.{every, every-at}
+use Rattle.algebra.specs.Naturals.{Σℕ}
+use Rattle.algebra.specs.Laws.Naturals.{Σℕ-cong}
+use Rattle.algebra.specs.Sorted.{sumAt}
+use Rattle.algebra.specs.Laws.Sorted.{by-kind}
+use Rattle.algebra.specs.Tests.{every}
+use Rattle.algebra.specs.Laws.Tests.{every-at}
 use Rattle.contrasts.specs.Factor.{Factor}
 use Rattle.contrasts.specs.Rows.{rowOf, degreesOf, rowNumerator}
-use Rattle.contrasts.specs.Tables.{two}
+use Rattle.contrasts.specs.Factors.{two}
 use Rattle.contrasts.specs.Totals.{Column, size, numerator}
 use Rattle.contrasts.specs.Laws.Degrees.{row-lt, degrees-count}
 use Rattle.contrasts.specs.Laws.Digits.{rest-lt}

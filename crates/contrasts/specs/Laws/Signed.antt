@@ -9,9 +9,10 @@ use mathlib.Core.List.{[], _∷_}
 use Prim.Native.Nat.{ℕ, zero, suc, _<_}
 use lib.Dec.{eqb}
 use lib.IntN.{ℤ, pos, natAbs, negℤ, _+ℤ_, _-ℤ_, _*ℤ_, negℤ-+ℤ, negℤ-negℤ, +ℤ-comm}
-use Rattle.algebra.specs.Solve.{solve, var, lit, _⊕_, _⊖_, _⊗_}
-use Rattle.algebra.specs.Sum.{Σ, Σ-cong}
-use Rattle.contrasts.specs.Tables.{neg}
+use Rattle.algebra.specs.Laws.Solve.{solve, var, lit, _⊕_, _⊖_, _⊗_}
+use Rattle.algebra.specs.Sum.{Σ}
+use Rattle.algebra.specs.Laws.Sum.{Σ-cong}
+use Rattle.contrasts.specs.Codings.{neg}
 use Rattle.contrasts.specs.Totals.{Column}
 use Rattle.contrasts.specs.Contrast.{signOf, sumWhere, contrast}
 

@@ -5,7 +5,6 @@
 --   within, within-one   so no sum of some of them, broken off anywhere, exceeds that, and no one of them
 --   total-within         nor does a total in size
 --   check-within         nor does the sum of the totals
---   recover              readings back from totals: each reading, times the denominator, is the weighted sum of the totals by its coefficients
 use mathlib.Core.Path.{_≡_, sym, _∙_, ap}
 use mathlib.Core.Bool.{Bool, cond}
 use mathlib.Core.List.{List, [], _∷_}
@@ -13,13 +12,15 @@ use Prim.Native.Nat.{ℕ, _+_, _*_, _<_, _≤_}
 use native.Mathlib.Nat.{mul-comm, mul-one, mul-le-mul-left, le-trans}
 use native.Mathlib.Omega.{arith}
 use lib.Dec.{eqb}
-use lib.IntN.{ℤ, pos, natAbs, _*ℤ_, *ℤ-comm}
-use Rattle.algebra.specs.Ring.{ac*, *ℤ-assoc, *ℤ-left-comm, *ℤ-middle}
-use Rattle.algebra.specs.Size.{square, natAbs-Σ, size-below}
-use Rattle.algebra.specs.Sum.{Σ, Σ-unit, Σ-cong, Σ-ext, Σ-mul, Σ-mul-r, Σ-prod, Σ-swap, Σ-digits, Σ-split, Σ-one, Σ-at, cond-*ℤ, δ}
-use Rattle.algebra.specs.Naturals.{Σℕ, Σℕ-pos, Σℕ-le, Σℕ-some, Σℕ-term}
+use lib.IntN.{ℤ, pos, natAbs, _*ℤ_}
+use Rattle.algebra.specs.Laws.Ring.{ac*, *ℤ-assoc, *ℤ-left-comm, *ℤ-middle}
+use Rattle.algebra.specs.Laws.Size.{square, natAbs-Σ, size-below}
+use Rattle.algebra.specs.Sum.{Σ}
+use Rattle.algebra.specs.Laws.Sum.{Σ-unit, Σ-cong, Σ-ext, Σ-mul, Σ-mul-r, Σ-prod, Σ-swap, Σ-digits, Σ-split, Σ-one, cond-*ℤ}
+use Rattle.algebra.specs.Naturals.{Σℕ}
+use Rattle.algebra.specs.Laws.Naturals.{Σℕ-pos, Σℕ-le, Σℕ-some, Σℕ-term}
 use Rattle.contrasts.specs.Factor.{Factor, weight}
-use Rattle.contrasts.specs.Totals.{Column, size, coef*, total, denominator, weight*, numeratorOf, numerator, squared}
+use Rattle.contrasts.specs.Totals.{Column, size, total, denominator, weight*, numeratorOf, numerator, squared}
 use Rattle.contrasts.specs.Laws.Digits.{level, total-nil, total-cons}
 use Rattle.contrasts.specs.Laws.Divisors.{weight-pos, weight-nil, weight-cons}
 
@@ -138,17 +139,3 @@ pub check-within : (Fs : List Factor) (x : Column) → natAbs (Σ (size Fs) (tot
 check-within Fs x =
     rw (← (numerators Fs x))
     (le-trans (natAbs-Σ (size Fs) (total Fs x)) (Σℕ-le (size Fs) (λ e. natAbs (total Fs x e)) (numerator Fs x) (λ e _. below Fs x e)))
-
--- ---- readings back from totals
-
--- the totals of a column that is 1 at run r and else 0
-total-δ : (Fs : List Factor) (r e : ℕ) → r < size Fs → total Fs (δ r) e ≡ coef* Fs e r
-unfolding total
-total-δ Fs r e h = Σ-at (size Fs) r (λ j. coef* Fs e j) h
-
-pub recover : (Fs : List Factor) (x : Column) (r : ℕ) → r < size Fs
-    → Σ (size Fs) (λ e. pos (weight* Fs e) *ℤ (total Fs x e *ℤ coef* Fs e r)) ≡ pos (denominator Fs) *ℤ x r
-recover Fs x r h =
-    Σ-ext (size Fs) (λ e. rw (← total-δ Fs r e h))
-    ∙ squares Fs x (δ r)
-    ∙ ap (λ z. pos (denominator Fs) *ℤ z) (Σ-ext (size Fs) (λ j. *ℤ-comm (x j) (δ r j)) ∙ Σ-at (size Fs) r x h)

@@ -13,9 +13,11 @@ use native.Mathlib.Omega.{arith}
 use lib.Arith.{digits-div, digits-mod, digits-lt, mod-mul}
 use lib.Dec.{lit<}
 use lib.IntN.{ℤ, _*ℤ_}
-use Rattle.algebra.specs.Sum.{Σ, Σ-cong, Σ-ext}
+use Rattle.algebra.specs.Sum.{Σ}
+use Rattle.algebra.specs.Laws.Sum.{Σ-cong, Σ-ext}
 use Rattle.contrasts.specs.Factor.{Factor}
-use Rattle.contrasts.specs.Totals.{Column, size, total, sets, step, steps}
+use Rattle.contrasts.specs.Totals.{Column, size, total}
+use Rattle.contrasts.specs.Steps.{sets, step, steps}
 use Rattle.contrasts.specs.Laws.Digits.{level, digit-lt, total-nil, total-cons, total-cong, total-Σ}
 
 sets-are : (F : Factor) (n : ℕ) → sets (F .levels * n) F ≡ n

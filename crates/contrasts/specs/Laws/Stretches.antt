@@ -13,12 +13,15 @@ use native.Mathlib.Omega.{arith}
 use lib.Arith.{digits-div, digits-mod, digits-lt}
 use lib.IntN.{ℤ, pos, _*ℤ_}
 use lib.ListN.{length, getD, take}
-use Rattle.algebra.specs.Parts.{part, length-part, getD-part}
-use Rattle.algebra.specs.Sum.{Σ, Σ-cong, Σ-ext}
-use Rattle.algebra.specs.Tab.{tab, length-tab, getD-tab, is-tab}
+use Rattle.algebra.specs.Laws.Parts.{part, length-part, getD-part}
+use Rattle.algebra.specs.Sum.{Σ}
+use Rattle.algebra.specs.Laws.Sum.{Σ-cong, Σ-ext}
+use Rattle.algebra.specs.Tab.{tab}
+use Rattle.algebra.specs.Laws.Tab.{length-tab, getD-tab, is-tab}
 use Rattle.contrasts.specs.Columns.{read}
 use Rattle.contrasts.specs.Factor.{Factor}
-use Rattle.contrasts.specs.Totals.{Column, size, spacing, passAt, passFrom, pass}
+use Rattle.contrasts.specs.Totals.{Column, size}
+use Rattle.contrasts.specs.Passes.{spacing, passAt, passFrom, pass}
 
 pass-from-at : (s : ℕ) (Fs : List Factor) (f : ℕ) (G : Factor) (x : Column) → f < length Fs → passFrom s Fs f x ≡ passAt (s * spacing Fs f) (getD Fs f G) x
 unfolding passFrom size

@@ -17,12 +17,16 @@ use native.Mathlib.Omega.{arith}
 use lib.Dec.{lit<}
 use lib.IntN.{ℤ, pos, natAbs, _+ℤ_, _*ℤ_, _-ℤ_}
 use lib.ListN.{length, replicate}
-use Rattle.algebra.specs.Solve.{solve, var, lit, _⊕_, _⊖_, _⊗_}
-use Rattle.algebra.specs.Size.{natAbs-+ℤ, natAbs-sub, natAbs-*ℤ}
+use Rattle.algebra.specs.Laws.Solve.{solve, var, lit, _⊕_, _⊖_, _⊗_}
+use Rattle.algebra.specs.Laws.Size.{natAbs-+ℤ, natAbs-sub, natAbs-*ℤ}
 use Rattle.algebra.specs.Sum.{Σ}
 use Rattle.algebra.specs.Naturals.{Σℕ, most}
-use Rattle.contrasts.specs.Tables.{three, neg}
-use Rattle.contrasts.specs.Totals.{Column, size, passAt, passes, step, divisor*, denominator, checkWeight, round}
+use Rattle.contrasts.specs.Factors.{three}
+use Rattle.contrasts.specs.Codings.{neg}
+use Rattle.contrasts.specs.Totals.{Column, size, divisor*, denominator}
+use Rattle.contrasts.specs.Passes.{passAt, passes}
+use Rattle.contrasts.specs.Steps.{step}
+use Rattle.contrasts.specs.Checks.{checkWeight, round}
 use Rattle.contrasts.specs.Laws.Alike.{size-alike, denominator-alike, divisor-fewer, widest-alike}
 use Rattle.contrasts.specs.Laws.Bounds.{Within, reach, widest, bound-calls}
 use Rattle.contrasts.specs.Laws.Steps.{step-value}

@@ -17,13 +17,18 @@ use native.Mathlib.Omega.{arith}
 use lib.Dec.{eqb, eqb→eq, lit<}
 use lib.IntN.{ℤ, pos, _+ℤ_, _*ℤ_, _-ℤ_}
 use lib.ListN.{length, replicate}
-use Rattle.algebra.specs.Ring.{one-*ℤ, *ℤ-assoc}
-use Rattle.algebra.specs.Solve.{solve, var, lit, _⊕_, _⊖_, _⊗_}
+use Rattle.algebra.specs.Laws.Ring.{one-*ℤ, *ℤ-assoc}
+use Rattle.algebra.specs.Laws.Solve.{solve, var, lit, _⊕_, _⊖_, _⊗_}
 use Rattle.algebra.specs.Sum.{Σ}
 use Rattle.algebra.specs.Naturals.{Σℕ, most}
-use Rattle.algebra.specs.Tests.{every, every-at}
-use Rattle.contrasts.specs.Tables.{two, neg}
-use Rattle.contrasts.specs.Totals.{Column, size, total, passAt, passes, step, divisor*, denominator, weight*, checkWeight, round, rounds}
+use Rattle.algebra.specs.Tests.{every}
+use Rattle.algebra.specs.Laws.Tests.{every-at}
+use Rattle.contrasts.specs.Factors.{two}
+use Rattle.contrasts.specs.Codings.{neg}
+use Rattle.contrasts.specs.Totals.{Column, size, total, divisor*, denominator, weight*}
+use Rattle.contrasts.specs.Passes.{passAt, passes}
+use Rattle.contrasts.specs.Steps.{step}
+use Rattle.contrasts.specs.Checks.{checkWeight, round, rounds}
 use Rattle.contrasts.specs.Laws.Alike.{size-alike, denominator-alike, widest-alike}
 use Rattle.contrasts.specs.Laws.Bounds.{Within, reach, widest, bound-calls}
 use Rattle.contrasts.specs.Laws.CheckSum.{check-rounds}

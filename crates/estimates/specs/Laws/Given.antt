@@ -1,6 +1,6 @@
 -- The numbers of the estimate call, and what it hands out where it is not refused.
 --
---   estimate-two         of an accepted plan of two levels lines 10 and 12 are left
+--   estimate-two         of an accepted plan of two levels refusals 10 and 12 are left
 --   Admitted p e t       the plan is accepted and has two levels, the effect has base letters only, the total is within its limit
 --   admitted, admits     so it is where the call gives no number, and it gives none where this holds
 --   some-factor, held    such a plan has a factor, and doubles hold the total and 2 ^ k
@@ -23,30 +23,30 @@ use Rattle.words.specs.Words.{beyond}
 use Rattle.plan.specs.declared.types.Plan.{Plan}
 use Rattle.plan.specs.Outcome.{Outcome, given, outcome}
 use Rattle.plan.specs.Plan.{confoundedIn}
-use Rattle.plan.specs.Check.{planNumber}
+use Rattle.plan.specs.Check.{planRefused}
 use Rattle.plan.specs.Laws.Accepted.{accepted, sizes}
 use Rattle.plan.specs.Laws.Answers.{after-plan, passed, plan-passed, refused-with, given-with}
 use Rattle.plan.specs.Laws.Confounded.{not-empty}
 use Rattle.plan.specs.Laws.Sizes.{two-levels}
 use Rattle.estimates.specs.Quotient.{Exactly, InDouble}
-use Rattle.estimates.specs.Estimate.{Value, mean, difference, lost, meanOf, differenceOf, valueBy, estimateValue, totalLimit, estimateNumber, ExactlyGiven}
+use Rattle.estimates.specs.Estimate.{Value, mean, difference, lost, meanOf, differenceOf, valueBy, estimateValue, totalLimit, estimateRefused, ExactlyGiven}
 use Rattle.estimates.specs.Laws.Exact.{exact}
 
 -- ---- the numbers
 
-pub estimate-two : (p : Plan) (e : ℕ) (t : ℤ) → planNumber p ≡ 0 → (p .levels ≡ 3 → ⊥)
-    → estimateNumber p e t ≡ cond (beyond (p .k) e) 10 (cond (ltb (totalLimit p) (natAbs t)) 12 0)
-unfolding estimateNumber
+pub estimate-two : (p : Plan) (e : ℕ) (t : ℤ) → planRefused p ≡ 0 → (p .levels ≡ 3 → ⊥)
+    → estimateRefused p e t ≡ cond (beyond (p .k) e) 10 (cond (ltb (totalLimit p) (natAbs t)) 12 0)
+unfolding estimateRefused
 estimate-two p e t z h = after-plan p _ z ∙ rw (ne-eqb (p .levels) 3 h) refl
 
 pub record Admitted (p : Plan) (e : ℕ) (t : ℤ) : Type 0 where
-  pub plan : planNumber p ≡ 0
+  pub plan : planRefused p ≡ 0
   pub levels : p .levels ≡ 2
   pub letters : beyond (p .k) e ≡ false
   pub within : natAbs t ≤ totalLimit p
 
-pub admitted : (p : Plan) (e : ℕ) (t : ℤ) → estimateNumber p e t ≡ 0 → Admitted p e t
-unfolding estimateNumber
+pub admitted : (p : Plan) (e : ℕ) (t : ℤ) → estimateRefused p e t ≡ 0 → Admitted p e t
+unfolding estimateRefused
 admitted p e t n =
     let q = plan-passed p _ n in
     let l9 = passed (eqb (p .levels) 3) 9 _ (omega arith) (q .1) in
@@ -60,7 +60,7 @@ admitted p e t n =
     }
 
 module _ {p : Plan} {e : ℕ} {t : ℤ} (a : Admitted p e t) where
-  pub admits : estimateNumber p e t ≡ 0
+  pub admits : estimateRefused p e t ≡ 0
   admits =
       estimate-two p e t (a .plan) (λ h. omega (arith, h, a .levels))
       ∙ rw (a .letters, le-ltb (totalLimit p) (natAbs t) (a .within)) refl
@@ -103,7 +103,7 @@ lost-by true zero x y = refl
 lost-by false true x y = refl
 lost-by false false x y = refl
 
-pub estimated : (p : Plan) (e : ℕ) (t : ℤ) → estimateNumber p e t ≡ 0 → Estimated p e t
+pub estimated : (p : Plan) (e : ℕ) (t : ℤ) → estimateRefused p e t ≡ 0 → Estimated p e t
 unfolding valueBy meanOf differenceOf
 estimated p e t n =
     let a = admitted p e t n in
@@ -123,10 +123,10 @@ module _ (p : Plan) (e : ℕ) (t : ℤ) where
   exactly d false true = d .mean-exact
   exactly d false false = d .difference-exact
 
-  pub exactly-given : {o : Outcome Value} → o ≡ outcome (estimateNumber p e t) (estimateValue p e t) → ExactlyGiven p t o
+  pub exactly-given : {o : Outcome Value} → o ≡ outcome (estimateRefused p e t) (estimateValue p e t) → ExactlyGiven p t o
   unfolding valueBy
-  exactly-given d = subst (ExactlyGiven p t) (sym d) (by (ℕ-discrete (estimateNumber p e t) 0))
+  exactly-given d = subst (ExactlyGiven p t) (sym d) (by (ℕ-discrete (estimateRefused p e t) 0))
     where
-      by : Dec (estimateNumber p e t ≡ 0) → ExactlyGiven p t (outcome (estimateNumber p e t) (estimateValue p e t))
-      by (yes z) = rw (given-with (estimateNumber p e t) (estimateValue p e t) z) (exactly (estimated p e t z) (confoundedIn p e) (eqb e 0))
-      by (no h) = rw (refused-with (estimateNumber p e t) (estimateValue p e t) h) tt
+      by : Dec (estimateRefused p e t ≡ 0) → ExactlyGiven p t (outcome (estimateRefused p e t) (estimateValue p e t))
+      by (yes z) = rw (given-with (estimateRefused p e t) (estimateValue p e t) z) (exactly (estimated p e t z) (confoundedIn p e) (eqb e 0))
+      by (no h) = rw (refused-with (estimateRefused p e t) (estimateValue p e t) h) tt

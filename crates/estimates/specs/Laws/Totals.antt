@@ -7,13 +7,13 @@ use lib.IntN.{natAbs}
 use lib.ListN.{replicate}
 use Rattle.algebra.specs.Naturals.{Σℕ, most}
 use Rattle.contrasts.specs.Limits.{readingLimit}
-use Rattle.contrasts.specs.Tables.{two}
+use Rattle.contrasts.specs.Factors.{two}
 use Rattle.contrasts.specs.Totals.{Column, total}
 use Rattle.contrasts.specs.Laws.Alike.{growth-alike}
 use Rattle.contrasts.specs.Laws.Bounds.{Within, reach, growth, bound-total}
 use Rattle.words.specs.Laws.Letters.{beyond-none}
 use Rattle.plan.specs.declared.types.Plan.{Plan}
-use Rattle.plan.specs.Check.{planNumber}
+use Rattle.plan.specs.Check.{planRefused}
 use Rattle.plan.specs.Plan.{factorsOf, runsOf}
 use Rattle.plan.specs.Laws.Sizes.{factors-two, runs-two}
 use Rattle.estimates.specs.Laws.Given.{Admitted}
@@ -22,7 +22,7 @@ growth-two : (k : ℕ) → growth (replicate k two) ≡ 2 ^ k
 unfolding reach most Σℕ two
 growth-two k = growth-alike k two
 
-pub totals-admitted : (p : Plan) → planNumber p ≡ 0 → p .levels ≡ 2 → (x : Column) → Within (runsOf p) readingLimit x
+pub totals-admitted : (p : Plan) → planRefused p ≡ 0 → p .levels ≡ 2 → (x : Column) → Within (runsOf p) readingLimit x
     → (e : ℕ) → e < runsOf p → Admitted p e (total (factorsOf p) x e)
 totals-admitted p z l x w e h =
     let n : runsOf p ≡ 2 ^ p .k = runs-two p l in

@@ -12,6 +12,12 @@ yates-pass-spec =
     (λ c. search needs)
     (λ c. search needs)
     (λ c. search needs)
-    (λ c. rw (← (c .before .before .before .before .before .whole .ensures)) (told (c .enum-told .given .1) (c .before .before .before .pass .ensures .0), c .before .before .before .pass .ensures .1))
+    (λ c.
+    let whole-is = c .before .before .before .before .before .whole .ensures in
+    let pass-is = c .before .before .before .pass .ensures in
+    rw (← whole-is) (told (c .enum-told .given .1) (pass-is .0), pass-is .1))
     (λ c. search needs)
-    (λ c. rw (← (c .before .before .before .before .before .before .whole .ensures)) (told (c .before .n .given .1) (c .before .before .before .before .pass .ensures .0), c .before .before .before .before .pass .ensures .1)))
+    (λ c.
+    let whole-is = c .before .before .before .before .before .before .whole .ensures in
+    let pass-is = c .before .before .before .before .pass .ensures in
+    rw (← whole-is) (told (c .before .n .given .1) (pass-is .0), pass-is .1)))

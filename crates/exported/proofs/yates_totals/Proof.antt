@@ -12,6 +12,12 @@ yates-totals-spec =
     (λ c. search needs)
     (λ c. search needs)
     (λ c. search needs)
-    (λ c. rw (← (c .before .before .before .before .before .whole .ensures)) (told (c .enum-told .given .1) (c .before .before .before .totals .ensures .0), c .before .before .before .totals .ensures .1))
+    (λ c.
+    let whole-is = c .before .before .before .before .before .whole .ensures in
+    let totals-is = c .before .before .before .totals .ensures in
+    rw (← whole-is) (told (c .enum-told .given .1) (totals-is .0), totals-is .1))
     (λ c. search needs)
-    (λ c. rw (← (c .before .before .before .before .before .before .whole .ensures)) (told (c .before .n .given .1) (c .before .before .before .before .totals .ensures .0), c .before .before .before .before .totals .ensures .1)))
+    (λ c.
+    let whole-is = c .before .before .before .before .before .before .whole .ensures in
+    let totals-is = c .before .before .before .before .totals .ensures in
+    rw (← whole-is) (told (c .before .n .given .1) (totals-is .0), totals-is .1)))

@@ -2,7 +2,7 @@
 --
 --   no-more        after it comes nothing
 --   Ends body s    the bytes are the last of a list
---   five-last      so are those of tag 5, where line 1 does not apply
+--   five-last      so are those of tag 5, where refusal 1 does not apply
 use mathlib.Core.Path.{_≡_, refl, sym, ap, _∙_}
 use mathlib.Core.Bool.{Bool, true, false, cond, true≢false}
 use mathlib.Core.List.{List, [], _∷_}

@@ -1,8 +1,8 @@
--- How many bytes fields take, and that line 1 lets pass no other.
+-- How many bytes fields take, and that refusal 1 lets pass no other.
 --
 --   spanOf fs                  the bytes of fields, with their tags and lengths
 --   Spanned, span-parse, span-none    of the fields that are read from some bytes
---   span-whole                 so of a sheet, where line 1 does not apply
+--   span-whole                 so of a sheet, where refusal 1 does not apply
 --   spans, byTags, span-by-tags    these bytes, tag by tag
 --   span-of-sheet              of a sheet: 5, 6 for each field 2, 5 for each field 3, and the two bodies with 3 each
 --   four-whole                 field 4 is whole readings

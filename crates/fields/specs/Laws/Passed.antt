@@ -1,4 +1,4 @@
--- What is known of fields to which line 1 does not apply.
+-- What is known of fields to which refusal 1 does not apply.
 --
 --   Known t n, known    the tags and lengths that the rules admit
 --   passes              of a field, and of those after it
@@ -10,7 +10,7 @@ use Prim.Native.Nat.{ℕ, _%_, _≤_}
 use borrow.Author.Tests.{ltb-false, eqb-true, not-false}
 use lib.Dec.{eqb, ltb}
 use lib.ListN.{length}
-use Rattle.algebra.specs.Tests.{neither}
+use Rattle.algebra.specs.Laws.Tests.{neither}
 use Rattle.fields.specs.Fields.{Fields, field, bodies}
 use Rattle.fields.specs.Rules.{rules, admits, badFrom, anyNotOnce, badFields}
 

@@ -2,7 +2,7 @@
 --
 --   Accepted p              the plan's levels, counts, words and confounded effects are as the rules ask
 --   accepted                so they are where the check gives no number
---   levels-known, factors-known, counts-known    what lines 2, 3 and 4 say where they do not apply
+--   levels-known, factors-known, counts-known    what refusals 2, 3 and 4 say where they do not apply
 --   levels-small            two or three levels are at most three
 --   signs-small             a sign is 0 or 1, and 0 is read past the end
 --   at-most-ten, sizes      the most factors, as a number; the bounds of an accepted plan's counts
@@ -17,16 +17,16 @@ use lib.Dec.{eqb, ltb}
 use lib.ListN.{length, getD, take}
 use lib.Seq.{length-take-le, getD-take}
 use borrow.Author.Tests.{eqb-true, eqb-false, ltb-false, not-false}
-use Rattle.algebra.specs.Tests.{neither}
-use Rattle.algebra.specs.Search.{none-at}
-use Rattle.algebra.specs.Tab.{getD-past}
+use Rattle.algebra.specs.Laws.Tests.{neither}
+use Rattle.algebra.specs.Laws.Search.{none-at}
+use Rattle.algebra.specs.Laws.Tab.{getD-past}
 use Rattle.contrasts.specs.Limits.{mostTwo, mostThree}
 use Rattle.plan.specs.declared.types.Plan.{Plan}
 use Rattle.words.specs.Words.{letters, beyond, any, among, repeated, combined}
 use Rattle.plan.specs.Plan.{addedWords, addedSigns, blockWords, combinesTo, confoundedIn}
 use Rattle.plan.specs.Laws.Answers.{passed}
 use Rattle.plan.specs.Laws.Combinations.{the-combination, each-fails}
-use Rattle.plan.specs.Check.{badLevels, badFactors, badCounts, badWord, badSign, badWords, dependent, factorWord, losesFactor, planNumber}
+use Rattle.plan.specs.Check.{badLevels, badFactors, badCounts, badWord, badSign, badWords, dependent, factorWord, losesFactor, planRefused}
 
 -- ---- what each condition says where it does not hold
 
@@ -94,7 +94,7 @@ pub record Accepted (p : Plan) : Type 0 where
   -- a confounded effect is neither empty nor one letter nor an added factor's word
   pub lost : (w : ℕ) → confoundedIn p w ≡ true → (w ≡ 0 → ⊥) × (letters w ≡ 1 → ⊥) × (among w (addedWords p) ≡ false)
 
--- ---- what lines 5 to 8 say of the words
+-- ---- what refusals 5 to 8 say of the words
 
 words-of : (k least : ℕ) (ws : List ℕ) → any (badWord k least) ws ≡ false
     → (j : ℕ) → j < length ws → (beyond k (getD ws j 0) ≡ false) × (least ≤ letters (getD ws j 0))
@@ -137,8 +137,8 @@ lost-of words blocks e f w t =
     let s = neither (eqb (letters v) 1) (among v words) (each-fails blocks (λ v. factorWord v words) f (c .0) (c .1) (c .2)) in
     (λ d. eqb-false v 0 z (is ∙ d), λ d. eqb-false (letters v) 1 (s .0) (ap letters is ∙ d), rw (← is) (s .1))
 
-pub accepted : (p : Plan) → planNumber p ≡ 0 → Accepted p
-unfolding planNumber
+pub accepted : (p : Plan) → planRefused p ≡ 0 → Accepted p
+unfolding planRefused
 accepted p e =
     let l2 = passed (badLevels (p .levels)) 2 _ (omega arith) e in
     let l3 = passed (badFactors (p .levels) (p .k)) 3 _ (omega arith) (l2 .1) in
@@ -166,7 +166,7 @@ signs-small {p} a j = by (decLt j (length (addedSigns p)))
     by (yes h) = a .signs j h
     by (no h) = rw (getD-past 0 (addedSigns p) j (omega arith)) (omega arith)
 
-pub sizes : (p : Plan) → planNumber p ≡ 0 → (p .k ≤ 10) × (p .added ≤ 6) × (p .blocks ≤ 4)
+pub sizes : (p : Plan) → planRefused p ≡ 0 → (p .k ≤ 10) × (p .added ≤ 6) × (p .blocks ≤ 4)
 sizes p e =
     let a = accepted p e in
     (at-most-ten (p .k) (a .factors .1), a .counts .0, a .counts .1)

@@ -1,7 +1,7 @@
 -- What is known of an accepted plan is all that acceptance asks: the check refuses no plan of which it holds.
 --
 --   accepts                        a plan of which `Accepted` holds gets no number
---   levels-right, factors-right    lines 2 and 3 do not apply to it
+--   levels-right, factors-right    refusals 2 and 3 do not apply to it
 use mathlib.Core.Path.{_≡_, refl, sym, _∙_}
 use mathlib.Core.Logic.{_⊎_, inl, inr}
 use mathlib.Core.Bool.{true, false, cond, not, _||_}
@@ -11,13 +11,13 @@ use lib.Dec.{eqb, ltb}
 use lib.ListN.{length, getD, take}
 use lib.Seq.{length-take-le, getD-take}
 use borrow.Author.Tests.{eq-eqb, ne-eqb, le-ltb}
-use Rattle.algebra.specs.Tests.{none}
-use Rattle.algebra.specs.Search.{some-false}
+use Rattle.algebra.specs.Laws.Tests.{none}
+use Rattle.algebra.specs.Laws.Search.{some-false}
 use Rattle.contrasts.specs.Limits.{mostTwo, mostThree}
 use Rattle.words.specs.Words.{letters, any, among, repeated, combined}
 use Rattle.plan.specs.declared.types.Plan.{Plan}
 use Rattle.plan.specs.Plan.{addedWords, addedSigns, blockWords, combinesTo, confoundedIn}
-use Rattle.plan.specs.Check.{badLevels, badFactors, badCounts, badWord, badSign, badWords, dependent, factorWord, losesFactor, planNumber}
+use Rattle.plan.specs.Check.{badLevels, badFactors, badCounts, badWord, badSign, badWords, dependent, factorWord, losesFactor, planRefused}
 use Rattle.plan.specs.Laws.Combinations.{combination, no-combination}
 use Rattle.plan.specs.Laws.Accepted.{Accepted}
 
@@ -80,7 +80,7 @@ module _ {p : Plan} (a : Accepted p) where
       no-combination (blockWords p) _
       (λ c h l. none (ne-eqb (letters (combined 0 c (blockWords p))) 1 (a .lost _ (lost c h l) .1)) (a .lost _ (lost c h l) .2))
 
-pub accepts : (p : Plan) → Accepted p → planNumber p ≡ 0
-unfolding planNumber
+pub accepts : (p : Plan) → Accepted p → planRefused p ≡ 0
+unfolding planRefused
 accepts p a =
     rw (levels-right a, factors-right a, counts-right a, words-right a, apart-right a, independent-right a, clear-right a) refl

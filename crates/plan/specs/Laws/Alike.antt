@@ -1,14 +1,14 @@
 -- "Places beyond a plan's counts are ignored": plans that agree as far as their counts reach get the same answers.
 --
 --   Alike p q       the plans agree so far
---   same-number     the check gives them the same number
+--   same-refused     the check gives them the same number
 --   same-factors    they have the same base factors
 --   same-lost       the same effects are confounded
 use mathlib.Core.Path.{_≡_, refl}
 use Prim.Native.Nat.{ℕ}
 use Rattle.plan.specs.declared.types.Plan.{Plan}
 use Rattle.plan.specs.Plan.{addedWords, addedSigns, blockWords, factorsOf, confoundedIn}
-use Rattle.plan.specs.Check.{planNumber}
+use Rattle.plan.specs.Check.{planRefused}
 
 pub record Alike (p q : Plan) : Type 0 where
   pub levels : p .levels ≡ q .levels
@@ -20,9 +20,9 @@ pub record Alike (p q : Plan) : Type 0 where
   pub blockwords : blockWords p ≡ blockWords q
 
 module _ {p q : Plan} (a : Alike p q) where
-  pub same-number : planNumber p ≡ planNumber q
-  unfolding planNumber
-  same-number = rw (a .words, a .signs, a .blockwords, a .levels, a .k, a .added, a .blocks) refl
+  pub same-refused : planRefused p ≡ planRefused q
+  unfolding planRefused
+  same-refused = rw (a .words, a .signs, a .blockwords, a .levels, a .k, a .added, a .blocks) refl
 
   pub same-factors : factorsOf p ≡ factorsOf q
   unfolding factorsOf

@@ -11,10 +11,11 @@ use native.Mathlib.Nat.{mod-lt, zero-lt-suc}
 use native.Mathlib.Omega.{arith}
 use lib.IntN.{ℤ, _*ℤ_}
 use lib.ListN.{replicate}
-use Rattle.algebra.specs.Bits.{bit-zero, bit-suc}
-use Rattle.algebra.specs.Naturals.{Σℕ, Σℕ-first, Σℕ-cong}
-use Rattle.algebra.specs.Sum.{Σ-ext}
-use Rattle.contrasts.specs.Tables.{two}
+use Rattle.algebra.specs.Laws.Bits.{bit-zero, bit-suc}
+use Rattle.algebra.specs.Naturals.{Σℕ}
+use Rattle.algebra.specs.Laws.Naturals.{Σℕ-first, Σℕ-cong}
+use Rattle.algebra.specs.Laws.Sum.{Σ-ext}
+use Rattle.contrasts.specs.Factors.{two}
 use Rattle.contrasts.specs.Totals.{Column, coef*, total}
 use Rattle.contrasts.specs.Contrast.{signOf, contrast}
 use Rattle.contrasts.specs.Laws.Signed.{signed-sum}
@@ -22,7 +23,7 @@ use Rattle.words.specs.Words.{letter, odd, oddIn}
 use Rattle.words.specs.Laws.Letters.{shared-first}
 use Rattle.words.specs.Laws.Parity.{odd-add}
 use Rattle.plan.specs.declared.types.Plan.{Plan}
-use Rattle.plan.specs.Check.{planNumber}
+use Rattle.plan.specs.Check.{planRefused}
 use Rattle.plan.specs.Plan.{factorsOf, runsOf}
 use Rattle.plan.specs.Laws.Accepted.{sizes}
 use Rattle.plan.specs.Laws.Sizes.{runs-two, factors-two}
@@ -64,7 +65,7 @@ coef-two k e r h l = coef-first k e r ∙ ap (λ (n : ℕ). signOf (odd n)) (sym
 
 -- ---- an accepted plan of two levels
 
-module _ (p : Plan) (ok : planNumber p ≡ 0) (t : p .levels ≡ 2) (e : ℕ) (h : e < runsOf p) where
+module _ (p : Plan) (ok : planRefused p ≡ 0) (t : p .levels ≡ 2) (e : ℕ) (h : e < runsOf p) where
   pub plan-coef : (r : ℕ) → coef* (factorsOf p) e r ≡ signOf (oddIn r e)
   plan-coef r = rw (factors-two p t) (coef-two (p .k) e r (omega (arith, sizes p ok .0)) (rw (runs-two p t) at h))
 

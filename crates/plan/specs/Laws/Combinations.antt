@@ -13,7 +13,8 @@ use native.Mathlib.Omega.{arith}
 use lib.Dec.{ltb}
 use lib.ListN.{length}
 use borrow.Author.Tests.{lt-ltb, ltb-true}
-use Rattle.algebra.specs.Search.{some-true, some-false, some-at, none-at, Unfound, unfound, onward, found, nowhere}
+use Rattle.algebra.specs.Laws.Search.{some-true, some-false, some-at, none-at}
+use Rattle.algebra.specs.Laws.Searching.{Unfound, unfound, onward, found, nowhere}
 use Rattle.words.specs.Words.{combined}
 use Rattle.plan.specs.Plan.{someCombination}
 

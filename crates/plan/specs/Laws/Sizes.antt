@@ -23,14 +23,14 @@ use lib.Dec.{T}
 use lib.ListN.{replicate, length-take}
 use borrow.Author.Tests.{eq-eqb, lt-leb}
 use Rattle.contrasts.specs.Limits.{mostTwo, mostThree}
-use Rattle.contrasts.specs.Tables.{two, three, ofLevels}
-use Rattle.contrasts.specs.Totals.{spacing}
+use Rattle.contrasts.specs.Factors.{two, three, ofLevels}
+use Rattle.contrasts.specs.Passes.{spacing}
 use Rattle.contrasts.specs.Laws.Alike.{size-alike, spacing-alike}
 use Rattle.contrasts.specs.Laws.Kinds.{kind-of}
 use Rattle.contrasts.specs.Laws.Limits.{withinLimits, two-within, three-within}
 use Rattle.plan.specs.declared.types.Plan.{Plan}
 use Rattle.plan.specs.Plan.{factorsOf, runsOf, allLetters, confoundedIn}
-use Rattle.plan.specs.Check.{badLevels, badFactors, planNumber, runCount, spacingAt, confoundedAccepted}
+use Rattle.plan.specs.Check.{badLevels, badFactors, planRefused, runCount, spacingAt, confoundedAccepted}
 use Rattle.plan.specs.Laws.Accepted.{Accepted, accepted, at-most-ten, levels-known, factors-known}
 use Rattle.plan.specs.Laws.Accepts.{levels-right, factors-right}
 
@@ -38,7 +38,7 @@ two-then : (p : Plan) → (p .levels ≡ 2) ⊎ (p .levels ≡ 3) → (p .levels
 two-then p (inl e) t = e
 two-then p (inr e) t = absurd (t e)
 
-pub two-levels : (p : Plan) → planNumber p ≡ 0 → (p .levels ≡ 3 → ⊥) → p .levels ≡ 2
+pub two-levels : (p : Plan) → planRefused p ≡ 0 → (p .levels ≡ 3 → ⊥) → p .levels ≡ 2
 two-levels p z t = two-then p (accepted p z .levels) t
 
 pub runs-power : (p : Plan) → (p .levels ≡ 2) ⊎ (p .levels ≡ 3) → runsOf p ≡ p .levels ^ p .k
@@ -55,7 +55,7 @@ spacing-power p f (inl e) h = rw e (spacing-alike (p .k) two f h)
 spacing-power p f (inr e) h = rw e (spacing-alike (p .k) three f h)
 
 -- the length of a column of N
-pub as-power : (p : Plan) → planNumber p ≡ 0 → {n : ℕ} → n ≡ runsOf p → n ≡ p .levels ^ p .k
+pub as-power : (p : Plan) → planRefused p ≡ 0 → {n : ℕ} → n ≡ runsOf p → n ≡ p .levels ^ p .k
 as-power p ok e = e ∙ runs-power p (accepted p ok .levels)
 
 -- ---- the plan's factors, and what the helpers give of an accepted plan
@@ -68,10 +68,10 @@ pub factors-three : (p : Plan) → p .levels ≡ 3 → factorsOf p ≡ replicate
 unfolding factorsOf
 factors-three p e = rw e refl
 
-pub plan-kind : (p : Plan) → planNumber p ≡ 0 → ofLevels (p .levels) .levels ≡ p .levels
+pub plan-kind : (p : Plan) → planRefused p ≡ 0 → ofLevels (p .levels) .levels ≡ p .levels
 plan-kind p e = kind-of (p .levels) (accepted p e .levels)
 
-pub plan-within : (p : Plan) → planNumber p ≡ 0 → T (withinLimits (ofLevels (p .levels)) (p .k))
+pub plan-within : (p : Plan) → planRefused p ≡ 0 → T (withinLimits (ofLevels (p .levels)) (p .k))
 plan-within p e = by (accepted p e .levels)
   where
     by : (p .levels ≡ 2) ⊎ (p .levels ≡ 3) → T (withinLimits (ofLevels (p .levels)) (p .k))
@@ -106,11 +106,11 @@ runs-known p = by (badLevels (p .levels)) (badFactors (p .levels) (p .k)) refl r
     by false true d e = inl (rw (d, e) refl)
     by false false d e = inr (inside (levels-known (p .levels) d) (factors-known (p .levels) (p .k) e) (rw (d, e) refl))
 
-pub run-count : (p : Plan) → planNumber p ≡ 0 → runCount p ≡ runsOf p
+pub run-count : (p : Plan) → planRefused p ≡ 0 → runCount p ≡ runsOf p
 unfolding runCount
 run-count p e = let a = accepted p e in rw (levels-right a, factors-right a) refl
 
-pub runs-few : (p : Plan) → planNumber p ≡ 0 → runsOf p ≤ 1024
+pub runs-few : (p : Plan) → planRefused p ≡ 0 → runsOf p ≤ 1024
 runs-few p ok = by (runs-known p)
   where
     c : runsOf p ≡ runCount p
@@ -126,13 +126,13 @@ runs-few p ok = by (runs-known p)
 pub letters-few : (p : Plan) → Accepted p → allLetters p ≤ 16
 letters-few p a = omega (arith, at-most-ten (p .k) (a .factors .1), a .counts .0, length-take (p .added) (p .words))
 
-pub spacing-is : (p : Plan) (f : ℕ) → planNumber p ≡ 0 → f < p .k → spacingAt p f ≡ spacing (factorsOf p) f
+pub spacing-is : (p : Plan) (f : ℕ) → planRefused p ≡ 0 → f < p .k → spacingAt p f ≡ spacing (factorsOf p) f
 unfolding spacingAt
 spacing-is p f e h = let a = accepted p e in rw (levels-right a, factors-right a, lt-leb (p .k) f h) refl
 
-pub confounded-is : (p : Plan) (w : ℕ) → planNumber p ≡ 0 → confoundedAccepted p w ≡ confoundedIn p w
+pub confounded-is : (p : Plan) (w : ℕ) → planRefused p ≡ 0 → confoundedAccepted p w ≡ confoundedIn p w
 unfolding confoundedAccepted
-confounded-is p w e = rw (eq-eqb (planNumber p) 0 e) refl
+confounded-is p w e = rw (eq-eqb (planRefused p) 0 e) refl
 
 -- ---- the loop that multiplies
 

@@ -7,4 +7,4 @@ text-spec =
     tie.close
     (tie.spec
     (λ c κs. tt)
-    (λ c. (c .report .ensures .0, c .report .ensures .1 ∙ rw (c .report .ensures .0) refl)))
+    (λ c. (c .print-sheet .ensures .0, c .print-sheet .ensures .1 ∙ rw (c .print-sheet .ensures .0) refl)))

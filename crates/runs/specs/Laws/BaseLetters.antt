@@ -6,8 +6,8 @@ use mathlib.Core.Path.{_≡_, sym, ap, _∙_}
 use mathlib.Core.Bool.{Bool, cond}
 use mathlib.Core.List.{List}
 use Prim.Native.Nat.{ℕ, _*_, _^_, _<_, _≤_}
-use Rattle.algebra.specs.Bits.{bit-lt, digit}
-use Rattle.algebra.specs.Naturals.{Σℕ-cong}
+use Rattle.algebra.specs.Laws.Bits.{bit-lt, digit}
+use Rattle.algebra.specs.Laws.Naturals.{Σℕ-cong}
 use Rattle.words.specs.Words.{letter, odd, oddIn}
 use Rattle.words.specs.Laws.Letters.{shared-first}
 use Rattle.runs.specs.Run.{highLetters}

@@ -16,8 +16,10 @@ use lib.Dec.{eqb}
 use lib.ListN.{length, getD}
 use lib.Pow.{pow-pos}
 use borrow.Author.Tests.{eqb-true, eq-eqb}
-use Rattle.algebra.specs.Naturals.{Σℕ, Σℕ-parity}
-use Rattle.algebra.specs.Bits.{bits, bit-lt, bits-lt, bits-at, bits-cong}
+use Rattle.algebra.specs.Naturals.{Σℕ}
+use Rattle.algebra.specs.Laws.Naturals.{Σℕ-parity}
+use Rattle.algebra.specs.Bits.{bits}
+use Rattle.algebra.specs.Laws.Bits.{bit-lt, bits-lt, bits-at, bits-cong}
 use Rattle.words.specs.Words.{letter, has, shared, oddIn, beyond, combined}
 use Rattle.words.specs.Laws.Letters.{odd-same, shared-none}
 use Rattle.words.specs.Laws.Combined.{keeps-odd, shared-combined}

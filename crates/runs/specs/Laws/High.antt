@@ -5,7 +5,7 @@
 --   high-small, high-at      the set of high letters: its size, and each of its letters
 --   high-base, high-added    a base letter in it, and the letter of an added factor
 --   high-turned              an added factor is high by the parity of its word, turned where its sign is 1
---   run-two                  of an accepted plan of two levels only line 10 is left
+--   run-two                  of an accepted plan of two levels only refusal 10 is left
 use mathlib.Core.Path.{_≡_, refl, sym, _∙_}
 use mathlib.Core.Bool.{cond, not}
 use mathlib.Core.List.{List}
@@ -14,12 +14,13 @@ use native.Mathlib.Omega.{arith}
 use lib.Dec.{eqb, leb}
 use lib.ListN.{length, getD}
 use borrow.Author.Tests.{lt-ltb, le-ltb, ne-eqb}
-use Rattle.algebra.specs.Bits.{bits, bits-lt, bits-at, bits-all, bits-cong}
+use Rattle.algebra.specs.Bits.{bits}
+use Rattle.algebra.specs.Laws.Bits.{bits-lt, bits-at, bits-all, bits-cong}
 use Rattle.words.specs.Words.{has, oddIn}
 use Rattle.plan.specs.declared.types.Plan.{Plan}
 use Rattle.plan.specs.Plan.{runsOf}
-use Rattle.plan.specs.Check.{planNumber}
-use Rattle.runs.specs.Run.{highBy, highIn, highLetters, runNumber}
+use Rattle.plan.specs.Check.{planRefused}
+use Rattle.runs.specs.Run.{highBy, highIn, highLetters, runRefused}
 use Rattle.plan.specs.Laws.Sizes.{two-levels, runs-two}
 use Rattle.plan.specs.Laws.Answers.{after-plan}
 
@@ -53,8 +54,8 @@ high-turned zero w r h = refl
 high-turned (suc zero) w r h = refl
 high-turned (suc (suc sign)) w r h = absurd (omega (arith, h))
 
-pub run-two : (p : Plan) (r : ℕ) → planNumber p ≡ 0 → (p .levels ≡ 3 → ⊥) → runNumber p r ≡ cond (leb (2 ^ p .k) r) 10 0
-unfolding runNumber
+pub run-two : (p : Plan) (r : ℕ) → planRefused p ≡ 0 → (p .levels ≡ 3 → ⊥) → runRefused p r ≡ cond (leb (2 ^ p .k) r) 10 0
+unfolding runRefused
 run-two p r z t =
     let e : p .levels ≡ 2 = two-levels p z t in
     let n : runsOf p ≡ 2 ^ p .k = runs-two p e in

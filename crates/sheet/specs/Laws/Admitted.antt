@@ -3,7 +3,7 @@
 --   Admitted fs p narrow    its fields, plan, readings and marks are as the rules ask, and the column is wide enough
 --   admitted                so they are where there is no number
 --   admits                  and this is all that is asked
---   own-number              a plan's own number comes before the lines that name the column, the readings and the marks
+--   own-refused              a plan's own number comes before the refusals that name the column, the readings and the marks
 --   read-admitted, marks-admitted    of a sheet that the reader accepts, and of one that the marks call does
 use mathlib.Core.Path.{_≡_, refl, sym, ap, _∙_}
 use mathlib.Core.Bool.{Bool, false, cond, _||_}
@@ -12,22 +12,22 @@ use Prim.Native.Nat.{ℕ}
 use native.Mathlib.Omega.{arith}
 use lib.Dec.{ltb}
 use lib.ListN.{length}
-use Rattle.algebra.specs.Tests.{neither}
+use Rattle.algebra.specs.Laws.Tests.{neither}
 use Rattle.contrasts.specs.Limits.{readingLimit}
 use Rattle.plan.specs.declared.types.Plan.{Plan}
-use Rattle.plan.specs.Check.{planNumber}
+use Rattle.plan.specs.Check.{planRefused}
 use Rattle.plan.specs.Laws.Answers.{passed, plan-first, plan-passed, after-plan}
 use Rattle.plan.specs.Plan.{runsOf}
-use Rattle.columns.specs.Lines.{wrongLength, anyBeyond}
+use Rattle.columns.specs.Refusals.{wrongLength, anyBeyond}
 use Rattle.rows.specs.Kinds.{wrongRows, badMarks}
 use Rattle.fields.specs.Fields.{Fields, fieldsOf}
 use Rattle.fields.specs.Rules.{badFields}
 use Rattle.contents.specs.Contents.{planIn, readingsIn, marksIn}
-use Rattle.sheet.specs.Sheet.{numberWith, readNumber, marksNumber}
+use Rattle.sheet.specs.Sheet.{refusedWith, readRefused, marksRefused}
 
 pub record Admitted (fs : Fields) (p : Plan) (narrow : Bool) : Type 0 where
   pub fields : badFields fs ≡ false
-  pub plan : planNumber p ≡ 0
+  pub plan : planRefused p ≡ 0
   pub wide : narrow ≡ false
   pub readings : wrongLength p (length (readingsIn fs)) ≡ false
   pub marks : wrongRows p (length (marksIn fs)) ≡ false
@@ -38,8 +38,8 @@ module _ (fs : Fields) (p : Plan) (narrow : Bool) where
   abbrev lengths : Bool
   lengths = wrongLength p (length (readingsIn fs)) || wrongRows p (length (marksIn fs))
 
-  pub admitted : numberWith fs p narrow ≡ 0 → Admitted fs p narrow
-  unfolding numberWith
+  pub admitted : refusedWith fs p narrow ≡ 0 → Admitted fs p narrow
+  unfolding refusedWith
   admitted e =
       let l1 = passed (badFields fs) 1 _ (omega arith) e in
       let q = plan-passed p _ (l1 .1) in
@@ -58,19 +58,19 @@ module _ (fs : Fields) (p : Plan) (narrow : Bool) where
         lawful = l13 .0;
       }
 
-  pub admits : Admitted fs p narrow → numberWith fs p narrow ≡ 0
-  unfolding numberWith
+  pub admits : Admitted fs p narrow → refusedWith fs p narrow ≡ 0
+  unfolding refusedWith
   admits a = rw (a .fields) (after-plan p _ (a .plan) ∙ rw (a .wide, a .readings, a .marks, a .within, a .lawful) refl)
 
-  pub own-number : (planNumber p ≡ 0 → ⊥) → numberWith fs p narrow ≡ cond (badFields fs) 1 (planNumber p)
-  unfolding numberWith
-  own-number h = ap (cond (badFields fs) 1) (sym (plan-first p _ refl h))
+  pub own-refused : (planRefused p ≡ 0 → ⊥) → refusedWith fs p narrow ≡ cond (badFields fs) 1 (planRefused p)
+  unfolding refusedWith
+  own-refused h = ap (cond (badFields fs) 1) (sym (plan-first p _ refl h))
 
-pub read-admitted : (sheet : List ℕ) (room : ℕ) → readNumber sheet room ≡ 0
+pub read-admitted : (sheet : List ℕ) (room : ℕ) → readRefused sheet room ≡ 0
     → Admitted (fieldsOf sheet) (planIn (fieldsOf sheet)) (ltb room (runsOf (planIn (fieldsOf sheet))))
-unfolding readNumber
+unfolding readRefused
 read-admitted sheet room z = admitted (fieldsOf sheet) (planIn (fieldsOf sheet)) (ltb room (runsOf (planIn (fieldsOf sheet)))) z
 
-pub marks-admitted : (sheet : List ℕ) → marksNumber sheet ≡ 0 → Admitted (fieldsOf sheet) (planIn (fieldsOf sheet)) false
-unfolding marksNumber
+pub marks-admitted : (sheet : List ℕ) → marksRefused sheet ≡ 0 → Admitted (fieldsOf sheet) (planIn (fieldsOf sheet)) false
+unfolding marksRefused
 marks-admitted sheet z = admitted (fieldsOf sheet) (planIn (fieldsOf sheet)) false z

@@ -1,8 +1,8 @@
 -- What the reader accepts, the marks call hands back: R bytes, each 0 or 1.
 --
 --   accepted-without    a sheet that the reader accepts is accepted without the column too
---   same-number         a column that has room for every plan changes no number
---   small-marks         marks to which line 13 does not apply are 0 or 1
+--   same-refused         a column that has room for every plan changes no number
+--   small-marks         marks to which refusal 13 does not apply are 0 or 1
 --   Lawful p marks      so many marks as the plan has rows, each 0 or 1
 --   marks-lawful        the marks of a sheet that the reader accepts
 use mathlib.Core.Path.{_≡_, refl, sym, ap, _∙_}
@@ -14,23 +14,23 @@ use native.Mathlib.Nat.{le-trans}
 use borrow.Author.Tests.{le-ltb, ltb-false}
 use lib.Dec.{eqb, ltb}
 use lib.ListN.{length, getD}
-use Rattle.algebra.specs.Search.{none-at}
-use Rattle.algebra.specs.Tests.{neither}
+use Rattle.algebra.specs.Laws.Search.{none-at}
+use Rattle.algebra.specs.Laws.Tests.{neither}
 use Rattle.plan.specs.declared.types.Plan.{Plan}
-use Rattle.plan.specs.Check.{planNumber}
+use Rattle.plan.specs.Check.{planRefused}
 use Rattle.plan.specs.Plan.{runsOf, confoundedIn}
 use Rattle.plan.specs.Laws.Answers.{written-new}
 use Rattle.plan.specs.Laws.Sizes.{runs-few}
 use Rattle.rows.specs.Kinds.{rowsIn, badMark, badMarks}
-use Rattle.rows.specs.Laws.{rows-as-long}
+use Rattle.rows.specs.Laws.Rows.{rows-as-long}
 use Rattle.fields.specs.Fields.{Fields, fieldsOf}
 use Rattle.contents.specs.Contents.{planIn, marksIn}
-use Rattle.sheet.specs.Sheet.{numberWith, readNumber, noPlan, readPlan, marksNumber, marksOf}
-use Rattle.sheet.specs.Laws.Admitted.{admits, own-number, read-admitted}
+use Rattle.sheet.specs.Sheet.{refusedWith, readRefused, noPlan, readPlan, marksRefused, marksOf}
+use Rattle.sheet.specs.Laws.Admitted.{admits, own-refused, read-admitted}
 
-pub same-number : (sheet : List ℕ) (room : ℕ) → 1024 ≤ room → readNumber sheet room ≡ marksNumber sheet
-unfolding readNumber marksNumber
-same-number sheet room h = by (ℕ-discrete (planNumber p) 0)
+pub same-refused : (sheet : List ℕ) (room : ℕ) → 1024 ≤ room → readRefused sheet room ≡ marksRefused sheet
+unfolding readRefused marksRefused
+same-refused sheet room h = by (ℕ-discrete (planRefused p) 0)
   where
     fs : Fields
     fs = fieldsOf sheet
@@ -38,9 +38,9 @@ same-number sheet room h = by (ℕ-discrete (planNumber p) 0)
     p : Plan
     p = planIn fs
 
-    by : Dec (planNumber p ≡ 0) → numberWith fs p (ltb room (runsOf p)) ≡ numberWith fs p false
-    by (yes z) = ap (numberWith fs p) (le-ltb room (runsOf p) (le-trans (runs-few p z) h))
-    by (no z) = own-number fs p (ltb room (runsOf p)) z ∙ sym (own-number fs p false z)
+    by : Dec (planRefused p ≡ 0) → refusedWith fs p (ltb room (runsOf p)) ≡ refusedWith fs p false
+    by (yes z) = ap (refusedWith fs p) (le-ltb room (runsOf p) (le-trans (runs-few p z) h))
+    by (no z) = own-refused fs p (ltb room (runsOf p)) z ∙ sym (own-refused fs p false z)
 
 pub record Lawful (p : Plan) (marks : List ℕ) : Type 0 where
   pub long : length marks ≡ rowsIn p
@@ -52,9 +52,9 @@ small-marks p marks e w h =
     let m = getD marks w 0 in
     ltb-false 1 m (neither (ltb 1 m) (eqb m 1 && (eqb w 0 || confoundedIn p w)) (none-at (length marks) (λ v. badMark p v (getD marks v 0)) e w h) .0)
 
-module _ (sheet : List ℕ) (room : ℕ) (z : readNumber sheet room ≡ 0) where
-  pub accepted-without : marksNumber sheet ≡ 0
-  unfolding marksNumber
+module _ (sheet : List ℕ) (room : ℕ) (z : readRefused sheet room ≡ 0) where
+  pub accepted-without : marksRefused sheet ≡ 0
+  unfolding marksRefused
   accepted-without =
       let a = read-admitted sheet room z in
       admits (fieldsOf sheet) (planIn (fieldsOf sheet)) false
@@ -64,7 +64,7 @@ module _ (sheet : List ℕ) (room : ℕ) (z : readNumber sheet room ≡ 0) where
   unfolding readPlan marksOf
   marks-lawful =
       rw
-      (← (written-new (readNumber sheet room) (planIn (fieldsOf sheet)) noPlan z), ← (written-new (marksNumber sheet) (marksIn (fieldsOf sheet)) [] accepted-without))
+      (← (written-new (readRefused sheet room) (planIn (fieldsOf sheet)) noPlan z), ← (written-new (marksRefused sheet) (marksIn (fieldsOf sheet)) [] accepted-without))
       (record {
         long = rows-as-long (planIn (fieldsOf sheet)) (length (marksIn (fieldsOf sheet))) (read-admitted sheet room z .marks);
         small = small-marks (planIn (fieldsOf sheet)) (marksIn (fieldsOf sheet)) (read-admitted sheet room z .lawful);

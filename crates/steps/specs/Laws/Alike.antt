@@ -8,10 +8,10 @@ use Rattle.contrasts.specs.Limits.{valueLimit}
 use Rattle.plan.specs.declared.types.Plan.{Plan}
 use Rattle.plan.specs.Laws.Alike.{Alike, same-factors}
 use Rattle.columns.specs.Laws.Alike.{same-columns}
-use Rattle.steps.specs.Step.{stepNumber, stepColumn}
+use Rattle.steps.specs.Step.{stepRefused, stepColumn}
 
 module _ {p q : Plan} (a : Alike p q) (from to : List ℤ) where
-  pub same-step : stepNumber p from to ≡ stepNumber q from to
+  pub same-step : stepRefused p from to ≡ stepRefused q from to
   same-step = same-columns a valueLimit from to
 
   pub same-step-column : stepColumn p from to ≡ stepColumn q from to

@@ -21,7 +21,7 @@ use lib.Signed.{ltZ}
 use mir.Facts.{toZ-ofZ}
 use mir.Syntax.{w64}
 use mir.Val.{SFits}
-use Rattle.algebra.specs.Size.{wrap}
+use Rattle.algebra.specs.Laws.Machine.{wrap}
 use Rattle.text.specs.Text.{Wrote}
 use Rattle.text.specs.Fields.{digit, decimalIn, decimal, signed}
 use Rattle.text.specs.Laws.Writing.{retext}

@@ -18,9 +18,11 @@ use lib.Bits.{bitXor, xor-lt}
 use lib.Dec.{leb}
 use lib.ListN.{length, getD}
 use borrow.Author.Tests.{leb-true, eqb-true, eqb-false}
-use Rattle.algebra.specs.Bits.{bit, bit-lt, bit-xor, digit, bits-lt, bits-at, bits-all, bits-cong}
-use Rattle.algebra.specs.Naturals.{Σℕ, Σℕ-none, Σℕ-add, Σℕ-mul, Σℕ-cong, Σℕ-swap, Σℕ-parity}
-use Rattle.algebra.specs.Search.{some-false}
+use Rattle.algebra.specs.Bits.{bit}
+use Rattle.algebra.specs.Laws.Bits.{bit-lt, bit-xor, digit, bits-lt, bits-at, bits-all, bits-cong}
+use Rattle.algebra.specs.Naturals.{Σℕ}
+use Rattle.algebra.specs.Laws.Naturals.{Σℕ-none, Σℕ-add, Σℕ-mul, Σℕ-cong, Σℕ-swap, Σℕ-parity}
+use Rattle.algebra.specs.Laws.Search.{some-false}
 use Rattle.words.specs.Words.{letter, has, beyond, shared, odd, times, combined}
 use Rattle.words.specs.Laws.Letters.{no-letter, beyond-none, within}
 

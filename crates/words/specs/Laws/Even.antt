@@ -19,9 +19,12 @@ use native.Mathlib.Omega.{arith}
 use lib.Dec.{eqb}
 use lib.ListN.{length, getD}
 use lib.Pow.{pow-lt, pow-pos}
-use Rattle.algebra.specs.Naturals.{Σℕ, Σℕ-none, Σℕ-first, Σℕ-cong}
-use Rattle.algebra.specs.Bits.{bits, bit-lt, bit-zero, bit-suc, bits-cong, bits-ext}
-use Rattle.algebra.specs.Search.{some, some-at, none-at, some-false}
+use Rattle.algebra.specs.Naturals.{Σℕ}
+use Rattle.algebra.specs.Laws.Naturals.{Σℕ-none, Σℕ-first, Σℕ-cong}
+use Rattle.algebra.specs.Bits.{bits}
+use Rattle.algebra.specs.Laws.Bits.{bit-lt, bit-zero, bit-suc, bits-cong, bits-ext}
+use Rattle.algebra.specs.Search.{some}
+use Rattle.algebra.specs.Laws.Search.{some-at, none-at, some-false}
 use Rattle.words.specs.Words.{letter, has, shared, odd, oddIn, beyond, times, combined, any}
 use Rattle.words.specs.Laws.Letters.{odd-same, beyond-none}
 use Rattle.words.specs.Laws.Combined.{combined-small, combined-at, combined-within, shared-combined}

@@ -20,9 +20,11 @@ use lib.Count.{ones}
 use lib.Dec.{eqb, leb}
 use lib.Pow.{pow-add}
 use borrow.Author.Tests.{ne-eqb, leb-true, leb-false, le-leb}
-use Rattle.algebra.specs.Bits.{digit, bit, isSet, bit-none, bit-unset, bits-ext, ones-bits, ones-and}
-use Rattle.algebra.specs.Naturals.{Σℕ, Σℕ-none, Σℕ-upto}
-use Rattle.algebra.specs.Search.{some-false, none-at}
+use Rattle.algebra.specs.Laws.Bits.{digit, bit-none, bit-unset, bits-ext, ones-bits, ones-and}
+use Rattle.algebra.specs.Bits.{bit, isSet}
+use Rattle.algebra.specs.Naturals.{Σℕ}
+use Rattle.algebra.specs.Laws.Naturals.{Σℕ-none, Σℕ-upto}
+use Rattle.algebra.specs.Laws.Search.{some-false, none-at}
 use Rattle.words.specs.Words.{letter, has, letters, beyond, shared, oddIn, odd}
 
 pub letters-ones : (w : ℕ) → w < 2 ^ 16 → ones w ≡ letters w

@@ -11,8 +11,9 @@ use native.Mathlib.Nat.{mul-comm, mod-eq-of-lt}
 use native.Mathlib.Omega.{arith}
 use lib.Dec.{eqb}
 use borrow.Author.Tests.{eq-eqb, ne-eqb, eqb-true, eqb-false}
-use Rattle.algebra.specs.Naturals.{Σℕ-cong, Σℕ-one}
-use Rattle.algebra.specs.Bits.{bits, bits-at, bit-lt, digit}
+use Rattle.algebra.specs.Laws.Naturals.{Σℕ-cong, Σℕ-one}
+use Rattle.algebra.specs.Bits.{bits}
+use Rattle.algebra.specs.Laws.Bits.{bits-at, bit-lt, digit}
 use Rattle.words.specs.Words.{letter, has, shared, odd, oddIn}
 use Rattle.words.specs.Laws.Letters.{shared-none}
 

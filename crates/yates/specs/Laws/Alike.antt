@@ -9,21 +9,21 @@ use lib.IntN.{ℤ}
 use Rattle.contrasts.specs.Limits.{readingLimit}
 use Rattle.plan.specs.declared.types.Plan.{Plan}
 use Rattle.plan.specs.Check.{withPlan}
-use Rattle.plan.specs.Laws.Alike.{Alike, same-number as same-plan-number, same-factors}
-use Rattle.columns.specs.Lines.{wrongLength}
+use Rattle.plan.specs.Laws.Alike.{Alike, same-refused as same-plan-refused, same-factors}
+use Rattle.columns.specs.Refusals.{wrongLength}
 use Rattle.columns.specs.Laws.Alike.{same-columns}
-use Rattle.yates.specs.Calls.{passNumber, passColumn, totalsNumber, totalsColumn}
+use Rattle.yates.specs.Calls.{passRefused, passColumn, totalsRefused, totalsColumn}
 
 module _ {p q : Plan} (a : Alike p q) where
-  pub same-pass : (f : ℕ) (xs : List ℤ) → passNumber p f xs ≡ passNumber q f xs
-  unfolding passNumber withPlan wrongLength
-  same-pass f xs = rw (same-plan-number a, same-factors a, a .k) refl
+  pub same-pass : (f : ℕ) (xs : List ℤ) → passRefused p f xs ≡ passRefused q f xs
+  unfolding passRefused withPlan wrongLength
+  same-pass f xs = rw (same-plan-refused a, same-factors a, a .k) refl
 
   pub same-pass-column : (f : ℕ) (xs : List ℤ) → passColumn p f xs ≡ passColumn q f xs
   unfolding passColumn
   same-pass-column f xs = rw (same-pass f xs, same-factors a) refl
 
-  pub same-totals : (readings totals : List ℤ) → totalsNumber p readings totals ≡ totalsNumber q readings totals
+  pub same-totals : (readings totals : List ℤ) → totalsRefused p readings totals ≡ totalsRefused q readings totals
   same-totals readings totals = same-columns a readingLimit readings totals
 
   pub same-totals-column : (readings totals : List ℤ) → totalsColumn p readings totals ≡ totalsColumn q readings totals

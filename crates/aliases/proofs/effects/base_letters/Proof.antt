@@ -2,7 +2,7 @@ use mathlib.Core.Path.{refl}
 use native.Mathlib.Nat.{one-le-pow}
 use native.Mathlib.Omega.{arith}
 use borrow.Author.Needs.{needs}
-use Rattle.algebra.specs.Bits.{one-shifted}
+use Rattle.algebra.specs.Laws.Gathered.{one-shifted}
 use Rattle.aliases.proofs.effects.base_letters.Statement.{statement}
 use Rattle.aliases.proofs.effects.base_letters.Tie as tie
 

@@ -1,7 +1,7 @@
 use Prim.Native.Nat.{_-_}
 use native.Mathlib.Omega.{arith}
 use lib.ListN.{length}
-use Rattle.aliases.specs.Laws.Turns.{Counted, counted-none, counted-more, counted-all}
+use Rattle.aliases.specs.Laws.Turned.{Counted, counted-none, counted-more, counted-all}
 use Rattle.aliases.proofs.effects.count_turns.Statement.{statement}
 use Rattle.aliases.proofs.effects.count_turns.Tie as tie
 
@@ -24,5 +24,8 @@ count-turns-spec =
     (λ c. record { fits = omega arith })
     (λ c. omega arith)
     (λ c. omega arith)
-    (λ c. counted-more (c .before .before .before .before .loop .inv) (c .before .before .before .loop-test .taken) _ (c .before .before .has-letter .ensures) (c .turn .ensures .0))
+    (λ c.
+    let inv = c .before .before .before .before .loop .inv in
+    let inside = c .before .before .before .loop-test .taken in
+    counted-more inv inside _ (c .before .before .has-letter .ensures) (c .turn .ensures .0))
     (λ c. counted-all (c .before .loop .inv) (c .loop-test .left)))

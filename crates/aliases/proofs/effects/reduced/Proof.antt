@@ -3,7 +3,7 @@ use native.Mathlib.Omega.{arith}
 use lib.Seq.{length-take-le}
 use borrow.Author.Needs.{needs}
 use Rattle.aliases.specs.Alias.{baseWord, turns}
-use Rattle.algebra.specs.Tests.{is}
+use Rattle.algebra.specs.Laws.Tests.{is}
 use Rattle.aliases.proofs.effects.reduced.Statement.{statement}
 use Rattle.aliases.proofs.effects.reduced.Tie as tie
 
@@ -14,7 +14,9 @@ reduced-spec =
     (tie.spec
     (λ c. search needs)
     (λ c κs. search needs)
-    (λ c. rw (length-take-le (c .before .before .args .added) (c .before .before .args .t4) (omega arith), is (c .before .has-beyond .ensures) (c .if1 .taken)) refl)
+    (λ c.
+    let args = c .before .before .args in
+    rw (length-take-le (args .added) (args .t4) (omega arith), is (c .before .has-beyond .ensures) (c .if1 .taken)) refl)
     (λ c. search needs)
     (λ c. search needs)
     (λ c κs. search needs)
@@ -24,4 +26,9 @@ reduced-spec =
     (λ c. search needs)
     (λ c. sym (length-take-le _ _ (omega arith)))
     (λ c κs. tt)
-    (λ c. rw (length-take-le (c .before .before .before .before .before .before .before .args .added) (c .before .before .before .before .before .before .before .args .t4) (omega arith), is (c .before .before .before .before .before .before .has-beyond .ensures) (c .before .before .before .before .before .if1 .left), c .before .before .combine .ensures, c .before .before .before .before .base-letters .ensures, c .count-turns .ensures) refl))
+    (λ c.
+    let args = c .before .before .before .before .before .before .before .args in
+    let has-beyond-is = c .before .before .before .before .before .before .has-beyond .ensures in
+    let if1-left = c .before .before .before .before .before .if1 .left in
+    let base-letters-is = c .before .before .before .before .base-letters .ensures in
+    rw (length-take-le (args .added) (args .t4) (omega arith), is has-beyond-is if1-left, c .before .before .combine .ensures, base-letters-is, c .count-turns .ensures) refl))

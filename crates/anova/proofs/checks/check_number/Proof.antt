@@ -1,6 +1,6 @@
 use mathlib.Core.Path.{refl, sym, ap, _∙_}
 use lib.ListN.{length}
-use Rattle.algebra.specs.Size.{kept, widened-fits}
+use Rattle.algebra.specs.Laws.Machine.{kept, widened-fits}
 use Rattle.contrasts.specs.Columns.{read}
 use Rattle.anova.proofs.Checked.{count-fits, some-reading, first-fits, first-is, copy-is, rounds-ready, rounds-made}
 use Rattle.anova.proofs.checks.check_number.Statement.{statement}
@@ -16,6 +16,18 @@ check-number-spec =
     (λ c. first-fits (c .before .before .pre) (c .result .given))
     (λ c. (first-is (c .before .before .pre) (c .result .given) (c .before .if1 .taken), refl))
     (λ c κs. tt)
-    (λ c κs. rounds-ready (c .before .before .before .before .before .pre) (c .before .before .before .before .if1 .left) (c .before .before .copy .ensures))
-    (λ c. c .before .all-rounds .ensures .1 ∙ ap length (copy-is (c .before .before .before .before .before .before .before .pre) (c .before .before .before .before .before .before .if1 .left) (c .before .before .before .before .copy .ensures)) ∙ sym (c .before .before .before .before .before .before .before .pre .same))
-    (λ c. (kept _ (c .before .all-rounds .ok) ∙ rounds-made (c .before .before .before .before .before .before .before .pre) (c .before .before .before .before .before .before .if1 .left) (c .before .before .before .before .copy .ensures) (c .before .all-rounds .ensures .0), c .before .all-rounds .ensures .1 ∙ ap length (copy-is (c .before .before .before .before .before .before .before .pre) (c .before .before .before .before .before .before .if1 .left) (c .before .before .before .before .copy .ensures)) ∙ sym (c .before .before .before .before .before .before .before .pre .same))))
+    (λ c κs.
+    let pre = c .before .before .before .before .before .pre in
+    let if1-left = c .before .before .before .before .if1 .left in
+    rounds-ready pre if1-left (c .before .before .copy .ensures))
+    (λ c.
+    let pre = c .before .before .before .before .before .before .before .pre in
+    let if1-left = c .before .before .before .before .before .before .if1 .left in
+    let copy-is2 = c .before .before .before .before .copy .ensures in
+    c .before .all-rounds .ensures .1 ∙ ap length (copy-is pre if1-left copy-is2) ∙ sym (pre .same))
+    (λ c.
+    let pre = c .before .before .before .before .before .before .before .pre in
+    let if1-left = c .before .before .before .before .before .before .if1 .left in
+    let copy-is2 = c .before .before .before .before .copy .ensures in
+    let all-rounds-is = c .before .all-rounds .ensures in
+    (kept _ (c .before .all-rounds .ok) ∙ rounds-made pre if1-left copy-is2 (all-rounds-is .0), all-rounds-is .1 ∙ ap length (copy-is pre if1-left copy-is2) ∙ sym (pre .same))))

@@ -1,7 +1,7 @@
 use mathlib.Core.Path.{refl, _∙_}
 use Prim.Native.Nat.{_-_}
 use native.Mathlib.Omega.{arith}
-use Rattle.algebra.specs.Size.{kept}
+use Rattle.algebra.specs.Laws.Machine.{kept}
 use Rattle.anova.proofs.Rounded.{Rounding, rounding-none, rounding-long, rounding-more, rounding-all, small-set}
 use Rattle.anova.proofs.checks.round.Statement.{statement}
 use Rattle.anova.proofs.checks.round.Tie as tie
@@ -19,22 +19,66 @@ round-spec =
     Inv-loop
     μ-loop
     (λ c. rounding-none (c .pre))
-    (λ c. omega (arith, c .before .before .pre .whole, rounding-long (c .before .before .pre) (c .before .loop .inv)))
-    (λ c. omega (arith, c .before .before .pre .whole, rounding-long (c .before .before .pre) (c .before .loop .inv)))
-    (λ c. omega (arith, c .before .before .pre .whole, rounding-long (c .before .before .pre) (c .before .loop .inv)))
-    (λ c. omega (arith, c .before .before .before .pre .whole, rounding-long (c .before .before .before .pre) (c .before .before .loop .inv)))
-    (λ c. omega (arith, c .before .before .before .pre .whole, rounding-long (c .before .before .before .pre) (c .before .before .loop .inv)))
-    (λ c. omega (arith, c .before .before .before .pre .whole, rounding-long (c .before .before .before .pre) (c .before .before .loop .inv)))
-    (λ c. omega (arith, c .before .before .before .pre .whole, rounding-long (c .before .before .before .pre) (c .before .before .loop .inv)))
-    (λ c. omega (arith, c .before .before .before .before .pre .whole, rounding-long (c .before .before .before .before .pre) (c .before .before .before .loop .inv)))
-    (λ c. omega (arith, c .before .before .before .before .pre .whole, rounding-long (c .before .before .before .before .pre) (c .before .before .before .loop .inv)))
-    (λ c. omega (arith, c .before .before .before .before .pre .whole, rounding-long (c .before .before .before .before .pre) (c .before .before .before .loop .inv)))
-    (λ c. omega (arith, c .before .before .before .before .pre .whole, rounding-long (c .before .before .before .before .pre) (c .before .before .before .loop .inv)))
-    (λ c κs. let s = small-set (c .before .before .before .before .before .pre) (c .before .before .before .before .loop .inv) (c .before .before .before .loop-test .taken) in rw (kept _ (c .before .before .turned-arg .given), kept _ (c .before .turned-arg2 .given), kept _ (c .turned-arg3 .given)) s)
-    (λ c. omega (arith, c .before .before .before .before .before .before .pre .whole, rounding-long (c .before .before .before .before .before .before .pre) (c .before .before .before .before .before .loop .inv)))
-    (λ c. omega (arith, c .before .before .before .before .before .before .pre .whole, rounding-long (c .before .before .before .before .before .before .pre) (c .before .before .before .before .before .loop .inv)))
-    (λ c. omega (arith, c .before .before .before .before .before .before .pre .whole, rounding-long (c .before .before .before .before .before .before .pre) (c .before .before .before .before .before .loop .inv)))
+    (λ c.
+    let pre = c .before .before .pre in
+    omega (arith, pre .whole, rounding-long pre (c .before .loop .inv)))
+    (λ c.
+    let pre = c .before .before .pre in
+    omega (arith, pre .whole, rounding-long pre (c .before .loop .inv)))
+    (λ c.
+    let pre = c .before .before .pre in
+    omega (arith, pre .whole, rounding-long pre (c .before .loop .inv)))
+    (λ c.
+    let pre = c .before .before .before .pre in
+    omega (arith, pre .whole, rounding-long pre (c .before .before .loop .inv)))
+    (λ c.
+    let pre = c .before .before .before .pre in
+    omega (arith, pre .whole, rounding-long pre (c .before .before .loop .inv)))
+    (λ c.
+    let pre = c .before .before .before .pre in
+    omega (arith, pre .whole, rounding-long pre (c .before .before .loop .inv)))
+    (λ c.
+    let pre = c .before .before .before .pre in
+    omega (arith, pre .whole, rounding-long pre (c .before .before .loop .inv)))
+    (λ c.
+    let pre = c .before .before .before .before .pre in
+    let inv = c .before .before .before .loop .inv in
+    omega (arith, pre .whole, rounding-long pre inv))
+    (λ c.
+    let pre = c .before .before .before .before .pre in
+    let inv = c .before .before .before .loop .inv in
+    omega (arith, pre .whole, rounding-long pre inv))
+    (λ c.
+    let pre = c .before .before .before .before .pre in
+    let inv = c .before .before .before .loop .inv in
+    omega (arith, pre .whole, rounding-long pre inv))
+    (λ c.
+    let pre = c .before .before .before .before .pre in
+    let inv = c .before .before .before .loop .inv in
+    omega (arith, pre .whole, rounding-long pre inv))
+    (λ c κs.
+    let pre = c .before .before .before .before .before .pre in
+    let inv = c .before .before .before .before .loop .inv in
+    let inside = c .before .before .before .loop-test .taken in
+    let s = small-set pre inv inside in rw (kept _ (c .before .before .turned-arg .given), kept _ (c .before .turned-arg2 .given), kept _ (c .turned-arg3 .given)) s)
+    (λ c.
+    let pre = c .before .before .before .before .before .before .pre in
+    let inv = c .before .before .before .before .before .loop .inv in
+    omega (arith, pre .whole, rounding-long pre inv))
+    (λ c.
+    let pre = c .before .before .before .before .before .before .pre in
+    let inv = c .before .before .before .before .before .loop .inv in
+    omega (arith, pre .whole, rounding-long pre inv))
+    (λ c.
+    let pre = c .before .before .before .before .before .before .pre in
+    let inv = c .before .before .before .before .before .loop .inv in
+    omega (arith, pre .whole, rounding-long pre inv))
     (λ c. omega arith)
-    (λ c. rounding-more (c .before .before .before .before .before .before .pre) (c .before .before .before .before .before .loop .inv) (c .before .before .before .before .loop-test .taken) (kept _ (c .turned .ok) ∙ c .turned .ensures ∙ rw (kept _ (c .before .before .before .turned-arg .given), kept _ (c .before .before .turned-arg2 .given), kept _ (c .before .turned-arg3 .given)) refl))
+    (λ c.
+    let pre = c .before .before .before .before .before .before .pre in
+    let inv = c .before .before .before .before .before .loop .inv in
+    let inside = c .before .before .before .before .loop-test .taken in
+    let turned-arg-given = c .before .before .before .turned-arg .given in
+    rounding-more pre inv inside (kept _ (c .turned .ok) ∙ c .turned .ensures ∙ rw (kept _ turned-arg-given, kept _ (c .before .before .turned-arg2 .given), kept _ (c .before .turned-arg3 .given)) refl))
     (λ c. rounding-long (c .before .before .pre) (c .before .loop .inv))
     (λ c. rounding-all (c .before .before .pre) (c .before .loop .inv) (c .loop-test .left)))

@@ -1,4 +1,4 @@
-use Rattle.contrasts.specs.Laws.Turns.{triple-fits, drop-fits, round-fits, round-is}
+use Rattle.contrasts.specs.Laws.Rounds.{triple-fits, drop-fits, round-fits, round-is}
 use Rattle.anova.proofs.checks.turned.Statement.{statement}
 use Rattle.anova.proofs.checks.turned.Tie as tie
 

@@ -1,4 +1,4 @@
-use Rattle.algebra.specs.Size.{square-fits, square-held, square-is}
+use Rattle.algebra.specs.Laws.Machine.{square-fits, square-held, square-is}
 use Rattle.anova.proofs.squares.square.Statement.{statement}
 use Rattle.anova.proofs.squares.square.Tie as tie
 

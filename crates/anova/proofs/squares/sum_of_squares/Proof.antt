@@ -3,7 +3,7 @@ use Rattle.contrasts.specs.Columns.{read}
 use Prim.Native.Nat.{_-_}
 use native.Mathlib.Omega.{arith}
 use lib.ListN.{length}
-use Rattle.algebra.specs.Size.{widened, widened-fits}
+use Rattle.algebra.specs.Laws.Machine.{widened, widened-fits}
 use Rattle.anova.proofs.Squared.{Summing, summing-none, summing-more, summing-all, squarable, summing-fits}
 use Rattle.anova.proofs.squares.sum_of_squares.Statement.{statement}
 use Rattle.anova.proofs.squares.sum_of_squares.Tie as tie
@@ -23,10 +23,20 @@ sum-of-squares-spec =
     (λ c. summing-none _)
     (λ c. omega arith)
     (λ c. omega arith)
-    (λ c. widened-fits (read (c .before .before .before .args .readings .now) (c .before .before .loop .i)) (c .square-arg .given))
-    (λ c κs. rw (widened _ (c .square-arg .given)) (squarable (c .before .before .before .pre) (c .before .before .loop .inv) (c .before .loop-test .taken)))
-    (λ c. omega (arith, summing-fits (c .before .before .before .before .pre) (c .before .before .before .loop .inv) (c .before .before .loop-test .taken) (c .square .ensures ∙ rw (widened _ (c .before .square-arg .given)) refl)))
+    (λ c.
+    let args = c .before .before .before .args in
+    widened-fits (read (args .readings .now) (c .before .before .loop .i)) (c .square-arg .given))
+    (λ c κs.
+    let pre = c .before .before .before .pre in
+    rw (widened _ (c .square-arg .given)) (squarable pre (c .before .before .loop .inv) (c .before .loop-test .taken)))
+    (λ c.
+    let pre = c .before .before .before .before .pre in
+    let inv = c .before .before .before .loop .inv in
+    omega (arith, summing-fits pre inv (c .before .before .loop-test .taken) (c .square .ensures ∙ rw (widened _ (c .before .square-arg .given)) refl)))
     (λ c. omega arith)
     (λ c. omega arith)
-    (λ c. summing-more (c .before .before .before .before .pre) (c .before .before .before .loop .inv) (c .before .before .loop-test .taken) (c .square .ensures ∙ rw (widened _ (c .before .square-arg .given)) refl))
+    (λ c.
+    let pre = c .before .before .before .before .pre in
+    let inv = c .before .before .before .loop .inv in
+    summing-more pre inv (c .before .before .loop-test .taken) (c .square .ensures ∙ rw (widened _ (c .before .square-arg .given)) refl))
     (λ c. summing-all (c .before .before .pre) (c .before .loop .inv) (c .loop-test .left)))

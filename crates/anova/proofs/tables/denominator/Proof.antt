@@ -1,6 +1,6 @@
 use native.Mathlib.Omega.{arith}
 use native.Mathlib.Nat.{mul-le-mul}
-use Rattle.algebra.specs.Tests.{tests}
+use Rattle.algebra.specs.Laws.Tests.{tests}
 use Rattle.anova.proofs.tables.denominator.Statement.{statement}
 use Rattle.anova.proofs.tables.denominator.Tie as tie
 
@@ -9,7 +9,11 @@ denominator-spec =
     tie.close
     (tie.spec
     (λ c. omega arith)
-    (λ c. omega (arith, mul-le-mul (c .before .pre .0) (c .before .pre .1)))
-    (λ c. omega (arith, mul-le-mul (c .before .pre .0) (c .before .pre .1)))
+    (λ c.
+    let pre = c .before .pre in
+    omega (arith, mul-le-mul (pre .0) (pre .1)))
+    (λ c.
+    let pre = c .before .pre in
+    omega (arith, mul-le-mul (pre .0) (pre .1)))
     (λ c. search tests)
     (λ c. search tests))

@@ -15,7 +15,22 @@ form-spec =
     (λ c. search needs)
     (λ c. search needs)
     (λ c. search needs)
-    (λ c κs. walk-ready (c .before .before .before .before .before .before .before .before .before .before .before .before .before .before .before .before .before .pre .1) (record { totals-are = totals-made (c .before .before .before .before .before .before .before .before .before .before .before .before .before .before .before .before .before .pre .1) (c .before .before .before .before .before .before .before .before .before .before .before .before .before .totals .ensures .1); effects-are = c .before .before .before .before .before .before .before .rows2 .ensures; denominator-is = c .before .before .before .before .before .before .before .before .before .before .before .before .before .before .before .before .before .pre .0; divisors-are = c .before .before .before .before .before .before .divisors .ensures; kinds-are = c .before .before .before .before .before .kinds .ensures; rows-are = c .before .before .before .before .before .before .before .before .before .before .clear .ensures }))
+    (λ c κs.
+    let pre = c .before .before .before .before .before .before .before .before .before .before .before .before .before .before .before .before .before .pre in
+    let totals-is = c .before .before .before .before .before .before .before .before .before .before .before .before .before .totals .ensures in
+    let clear-is = c .before .before .before .before .before .before .before .before .before .before .clear .ensures in
+    let rows2-is = c .before .before .before .before .before .before .before .rows2 .ensures in
+    let divisors-is = c .before .before .before .before .before .before .divisors .ensures in
+    let kinds-is = c .before .before .before .before .before .kinds .ensures in
+    walk-ready (pre .1) (record { totals-are = totals-made (pre .1) (totals-is .1); effects-are = rows2-is; denominator-is = pre .0; divisors-are = divisors-is; kinds-are = kinds-is; rows-are = clear-is }))
     (λ c. search needs)
     (λ c. search needs)
-    (λ c. (sums-made (c .before .before .before .before .before .before .before .before .before .before .before .before .before .before .before .before .before .before .before .before .pre .1) (record { totals-are = totals-made (c .before .before .before .before .before .before .before .before .before .before .before .before .before .before .before .before .before .before .before .before .pre .1) (c .before .before .before .before .before .before .before .before .before .before .before .before .before .before .before .before .totals .ensures .1); effects-are = c .before .before .before .before .before .before .before .before .before .before .rows2 .ensures; denominator-is = c .before .before .before .before .before .before .before .before .before .before .before .before .before .before .before .before .before .before .before .before .pre .0; divisors-are = c .before .before .before .before .before .before .before .before .before .divisors .ensures; kinds-are = c .before .before .before .before .before .before .before .before .kinds .ensures; rows-are = c .before .before .before .before .before .before .before .before .before .before .before .before .before .clear .ensures }) (c .before .before .walk .result) (c .before .before .walk .ensures .0) (c .before .before .walk .ensures .1 .0) (c .before .before .walk .ensures .1 .1 .0), (totals-made (c .before .before .before .before .before .before .before .before .before .before .before .before .before .before .before .before .before .before .before .before .pre .1) (c .before .before .before .before .before .before .before .before .before .before .before .before .before .before .before .before .totals .ensures .1), rows-made (c .before .before .before .before .before .before .before .before .before .before .before .before .before .before .before .before .before .before .before .before .pre .1) (record { totals-are = totals-made (c .before .before .before .before .before .before .before .before .before .before .before .before .before .before .before .before .before .before .before .before .pre .1) (c .before .before .before .before .before .before .before .before .before .before .before .before .before .before .before .before .totals .ensures .1); effects-are = c .before .before .before .before .before .before .before .before .before .before .rows2 .ensures; denominator-is = c .before .before .before .before .before .before .before .before .before .before .before .before .before .before .before .before .before .before .before .before .pre .0; divisors-are = c .before .before .before .before .before .before .before .before .before .divisors .ensures; kinds-are = c .before .before .before .before .before .before .before .before .kinds .ensures; rows-are = c .before .before .before .before .before .before .before .before .before .before .before .before .before .clear .ensures }) (c .before .before .walk .ensures .1 .1 .1)))))
+    (λ c.
+    let pre = c .before .before .before .before .before .before .before .before .before .before .before .before .before .before .before .before .before .before .before .before .pre in
+    let totals-is = c .before .before .before .before .before .before .before .before .before .before .before .before .before .before .before .before .totals .ensures in
+    let clear-is = c .before .before .before .before .before .before .before .before .before .before .before .before .before .clear .ensures in
+    let rows2-is = c .before .before .before .before .before .before .before .before .before .before .rows2 .ensures in
+    let divisors-is = c .before .before .before .before .before .before .before .before .before .divisors .ensures in
+    let kinds-is = c .before .before .before .before .before .before .before .before .kinds .ensures in
+    let walk-is = c .before .before .walk .ensures in
+    (sums-made (pre .1) (record { totals-are = totals-made (pre .1) (totals-is .1); effects-are = rows2-is; denominator-is = pre .0; divisors-are = divisors-is; kinds-are = kinds-is; rows-are = clear-is }) (c .before .before .walk .result) (walk-is .0) (walk-is .1 .0) (walk-is .1 .1 .0), (totals-made (pre .1) (totals-is .1), rows-made (pre .1) (record { totals-are = totals-made (pre .1) (totals-is .1); effects-are = rows2-is; denominator-is = pre .0; divisors-are = divisors-is; kinds-are = kinds-is; rows-are = clear-is }) (walk-is .1 .1 .1)))))

@@ -13,8 +13,14 @@ table-spec =
     (λ c κs. tt)
     (λ c. search needs)
     (λ c. search needs)
-    (λ c. table-stopped _ _ _ _ _ (c .before .table-number .ensures) (λ z. omega (arith, z, c .if1 .taken)))
-    (λ c κs. table-admitted _ _ _ _ _ (sym (c .before .before .before .table-number .ensures) ∙ c .before .before .if1 .left))
+    (λ c. table-stopped _ _ _ _ _ (c .before .table-refused .ensures) (λ z. omega (arith, z, c .if1 .taken)))
+    (λ c κs.
+    let table-refused-is = c .before .before .before .table-refused .ensures in
+    table-admitted _ _ _ _ _ (sym table-refused-is ∙ c .before .before .if1 .left))
     (λ c. search needs)
     (λ c. search needs)
-    (λ c. table-completed _ _ _ _ _ (sym (c .before .before .before .before .before .before .before .table-number .ensures) ∙ c .before .before .before .before .before .before .if1 .left) (c .before .before .before .make .ensures .0) (c .before .before .before .make .ensures .1 .0) (c .before .before .before .make .ensures .1 .1)))
+    (λ c.
+    let table-refused-is = c .before .before .before .before .before .before .before .table-refused .ensures in
+    let if1-left = c .before .before .before .before .before .before .if1 .left in
+    let make-is = c .before .before .before .make .ensures in
+    table-completed _ _ _ _ _ (sym table-refused-is ∙ if1-left) (make-is .0) (make-is .1 .0) (make-is .1 .1)))

@@ -1,6 +1,6 @@
 use mathlib.Core.Path.{refl, _∙_}
 use native.Mathlib.Omega.{arith}
-use Rattle.algebra.specs.Size.{kept}
+use Rattle.algebra.specs.Laws.Machine.{kept}
 use Rattle.anova.proofs.Walked.{product-fits, product-is}
 use Rattle.anova.proofs.walks.numerator.Statement.{statement}
 use Rattle.anova.proofs.walks.numerator.Tie as tie

@@ -2,7 +2,7 @@ use Prim.Native.Nat.{_-_}
 use native.Mathlib.Omega.{arith}
 use lib.ListN.{length}
 use Rattle.columns.proofs.Sizes.{Gathered, gathered, gather, all-gathered}
-use Rattle.algebra.specs.Size.{kept}
+use Rattle.algebra.specs.Laws.Machine.{kept}
 use Rattle.columns.proofs.bits.all_bits.Statement.{statement}
 use Rattle.columns.proofs.bits.all_bits.Tie as tie
 
@@ -24,5 +24,7 @@ all-bits-spec =
     (λ c κs. tt)
     (λ c. omega arith)
     (λ c. omega arith)
-    (λ c. gather (c .before .before .before .loop .inv) (c .before .before .loop-test .taken) (kept _ (c .before .magnitude-arg .given)) (c .magnitude .ensures))
+    (λ c.
+    let inv = c .before .before .before .loop .inv in
+    gather inv (c .before .before .loop-test .taken) (kept _ (c .before .magnitude-arg .given)) (c .magnitude .ensures))
     (λ c. all-gathered (c .before .loop .inv) (c .loop-test .left)))

@@ -1,4 +1,4 @@
-use Rattle.algebra.specs.Signs.{turned-fits, turned-held, turned-is, upright-held, upright-is}
+use Rattle.algebra.specs.Laws.Signs.{turned-fits, turned-held, turned-is, upright-held, upright-is}
 use Rattle.columns.proofs.bits.magnitude.Statement.{statement}
 use Rattle.columns.proofs.bits.magnitude.Tie as tie
 

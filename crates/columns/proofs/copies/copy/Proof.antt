@@ -1,7 +1,7 @@
 use mathlib.Core.Path.{_∙_, refl}
 use borrow.Author.Needs.{needs}
 use borrow.Author.Tests.{eq-eqb, ne-eqb}
-use Rattle.columns.specs.Copies.{copied}
+use Rattle.columns.specs.Inner.Copies.{copied}
 use Rattle.columns.proofs.copies.copy.Statement.{statement}
 use Rattle.columns.proofs.copies.copy.Tie as tie
 
@@ -12,5 +12,7 @@ copy-spec =
     (tie.spec
     (λ c κs. search needs)
     (λ c. search needs)
-    (λ c. c .before .put-readings .ensures ∙ rw (eq-eqb _ _ (c .before .before .before .if1 .taken)) refl)
+    (λ c.
+    let if1-taken = c .before .before .before .if1 .taken in
+    c .before .put-readings .ensures ∙ rw (eq-eqb _ _ if1-taken) refl)
     (λ c. rw (ne-eqb _ _ (c .if1 .left)) refl))

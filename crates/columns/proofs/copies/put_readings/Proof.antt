@@ -1,7 +1,7 @@
 use Prim.Native.Nat.{_-_}
 use native.Mathlib.Omega.{arith}
 use lib.ListN.{length}
-use Rattle.algebra.specs.Size.{widened, widened-fits}
+use Rattle.algebra.specs.Laws.Machine.{widened, widened-fits}
 use Rattle.contrasts.specs.Columns.{read}
 use Rattle.columns.proofs.Copied.{Copying, copying-none, copying-long, copying-more, copying-all}
 use Rattle.columns.proofs.copies.put_readings.Statement.{statement}
@@ -22,7 +22,9 @@ put-readings-spec =
     (λ c. copying-none _ _ (c .pre))
     (λ c. omega (arith, copying-long (c .before .loop .inv)))
     (λ c. omega (arith, copying-long (c .before .loop .inv)))
-    (λ c. widened-fits (read (c .before .before .before .args .readings .now) (c .before .before .loop .i)) (c .column .given))
+    (λ c.
+    let args = c .before .before .before .args in
+    widened-fits (read (args .readings .now) (c .before .before .loop .i)) (c .column .given))
     (λ c. omega (arith, copying-long (c .before .before .loop .inv)))
     (λ c. omega (arith, copying-long (c .before .before .loop .inv)))
     (λ c. omega (arith, copying-long (c .before .before .loop .inv)))

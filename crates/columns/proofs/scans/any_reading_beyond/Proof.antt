@@ -1,7 +1,7 @@
 use Prim.Native.Nat.{_-_}
 use native.Mathlib.Omega.{arith}
 use lib.ListN.{length}
-use Rattle.algebra.specs.Size.{held-half}
+use Rattle.algebra.specs.Laws.Machine.{held-half}
 use Rattle.contrasts.specs.Limits.{readingLimit}
 use Rattle.columns.proofs.Searched.{Looked, looked, looked-on, looked-all}
 use Rattle.columns.proofs.scans.any_reading_beyond.Statement.{statement}
@@ -25,5 +25,7 @@ any-reading-beyond-spec =
     (λ c κs. tt)
     (λ c. omega arith)
     (λ c. omega arith)
-    (λ c. looked-on (c .before .before .before .loop .inv) (c .before .before .loop-test .taken) (held-half _ (c .before .is-reading-beyond-arg .given)) (c .is-reading-beyond .ensures))
+    (λ c.
+    let inv = c .before .before .before .loop .inv in
+    looked-on inv (c .before .before .loop-test .taken) (held-half _ (c .before .is-reading-beyond-arg .given)) (c .is-reading-beyond .ensures))
     (λ c. looked-all (c .before .loop .inv) (c .loop-test .left)))

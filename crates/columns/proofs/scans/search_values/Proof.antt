@@ -1,7 +1,7 @@
 use Prim.Native.Nat.{_-_}
 use native.Mathlib.Omega.{arith}
 use lib.ListN.{length}
-use Rattle.algebra.specs.Size.{kept}
+use Rattle.algebra.specs.Laws.Machine.{kept}
 use Rattle.contrasts.specs.Limits.{valueLimit}
 use Rattle.columns.proofs.Searched.{Sought, sought, onward, found, nowhere}
 use Rattle.columns.proofs.scans.search_values.Statement.{statement}
@@ -24,8 +24,14 @@ search-values-spec =
     (λ c. omega arith)
     (λ c. omega arith)
     (λ c κs. tt)
-    (λ c. found (c .before .before .before .before .loop .inv) (c .before .before .before .loop-test .taken) (kept _ (c .before .before .is-beyond-arg .given)) (c .before .is-beyond .ensures) (c .if1 .taken))
+    (λ c.
+    let inv = c .before .before .before .before .loop .inv in
+    let inside = c .before .before .before .loop-test .taken in
+    found inv inside (kept _ (c .before .before .is-beyond-arg .given)) (c .before .is-beyond .ensures) (c .if1 .taken))
     (λ c. omega arith)
     (λ c. omega arith)
-    (λ c. onward (c .before .before .before .before .loop .inv) (c .before .before .before .loop-test .taken) (kept _ (c .before .before .is-beyond-arg .given)) (c .before .is-beyond .ensures) (c .if1 .left))
+    (λ c.
+    let inv = c .before .before .before .before .loop .inv in
+    let inside = c .before .before .before .loop-test .taken in
+    onward inv inside (kept _ (c .before .before .is-beyond-arg .given)) (c .before .is-beyond .ensures) (c .if1 .left))
     (λ c. nowhere (c .before .loop .inv) (c .loop-test .left)))

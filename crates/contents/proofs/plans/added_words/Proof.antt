@@ -3,7 +3,7 @@ use Prim.Native.Nat.{ℕ, _-_}
 use native.Mathlib.Omega.{arith}
 use borrow.Author.Needs.{needs}
 use lib.ListN.{getD, replicate}
-use Rattle.algebra.specs.Fill.{Filled, filled-none, filled-more, filled-all}
+use Rattle.algebra.specs.Laws.Fill.{Filled, filled-none, filled-more, filled-all}
 use Rattle.fields.specs.Fields.{fieldsOf, bodyAt}
 use Rattle.contents.specs.Contents.{byteAt, wordIn}
 use Rattle.contents.proofs.plans.added_words.Statement.{statement}
@@ -28,5 +28,7 @@ added-words-spec =
     (λ c. search needs)
     (λ c. search needs)
     (λ c. omega arith)
-    (λ c. filled-more 0 (c .before .before .before .loop .inv) (c .before .before .loop-test .taken) (c .word .ensures ∙ ap wordIn (c .before .body .ensures)))
+    (λ c.
+    let inv = c .before .before .before .loop .inv in
+    filled-more 0 inv (c .before .before .loop-test .taken) (c .word .ensures ∙ ap wordIn (c .before .body .ensures)))
     (λ c. filled-all 0 (c .before .loop .inv) (c .loop-test .left)))

@@ -18,4 +18,12 @@ plan-in-spec =
     (λ c κs. tt)
     (λ c κs. tt)
     (λ c κs. tt)
-    (λ c. made _ _ (c .before .before .before .before .before .before .before .before .byte .ensures ∙ ap (byteAt 0) (c .before .before .before .before .before .before .before .before .before .body .ensures)) (c .before .before .before .before .before .before .before .byte2 .ensures ∙ ap (byteAt 1) (c .before .before .before .before .before .before .before .before .before .body .ensures)) (rw (c .before .before .before .before .before .at-most .ensures, c .before .before .before .before .before .before .count .ensures) refl) (c .before .before .before .before .added-words .ensures) (c .before .before .before .added-signs .ensures) (rw (c .before .at-most2 .ensures, c .before .before .count2 .ensures) refl) (c .block-words .ensures)))
+    (λ c.
+    let body-is = c .before .before .before .before .before .before .before .before .before .body .ensures in
+    let byte-is = c .before .before .before .before .before .before .before .before .byte .ensures in
+    let byte2-is = c .before .before .before .before .before .before .before .byte2 .ensures in
+    let count-is = c .before .before .before .before .before .before .count .ensures in
+    let at-most-is = c .before .before .before .before .before .at-most .ensures in
+    let added-words-is = c .before .before .before .before .added-words .ensures in
+    let added-signs-is = c .before .before .before .added-signs .ensures in
+    made _ _ (byte-is ∙ ap (byteAt 0) body-is) (byte2-is ∙ ap (byteAt 1) body-is) (rw (at-most-is, count-is) refl) added-words-is added-signs-is (rw (c .before .at-most2 .ensures, c .before .before .count2 .ensures) refl) (c .block-words .ensures)))

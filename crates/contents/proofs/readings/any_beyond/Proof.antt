@@ -2,12 +2,13 @@ use mathlib.Core.Path.{sym, ap, _∙_}
 use Prim.Native.Nat.{_-_}
 use native.Mathlib.Omega.{arith}
 use lib.ListN.{length}
-use Rattle.algebra.specs.Search.{some, Seen, seen-none, seen-more, seen-all}
+use Rattle.algebra.specs.Search.{some}
+use Rattle.algebra.specs.Laws.Searching.{Seen, seen-none, seen-more, seen-all}
 use mir.Syntax.{w32}
 use mir.ValLaws.{toZ-ofZ}
 use Rattle.contrasts.specs.Columns.{read}
 use Rattle.contrasts.specs.Limits.{readingLimit}
-use Rattle.columns.specs.Lines.{isBeyond, anyBeyond}
+use Rattle.columns.specs.Refusals.{isBeyond, anyBeyond}
 use Rattle.contents.specs.Contents.{readingsOf}
 use Rattle.contents.specs.Laws.Readings.{readings-long, reading-is}
 use Rattle.contents.proofs.readings.any_beyond.Statement.{statement}
@@ -31,5 +32,11 @@ any-beyond-spec =
     (λ c κs. tt)
     (λ c. omega arith)
     (λ c. omega arith)
-    (λ c. seen-more (c .before .before .before .loop .inv) (c .before .before .loop-test .taken) (c .is-reading-beyond .ensures ∙ ap (isBeyond readingLimit) (toZ-ofZ w32 (c .before .reading-at .result) (record { sfits = c .before .reading-at .ok }) ∙ c .before .reading-at .ensures ∙ sym (reading-is (c .before .before .before .before .before .args .body .now) _ (c .before .before .loop-test .taken)))))
-    (λ c. seen-all (c .before .loop .inv) (c .loop-test .left) ∙ ap (λ m. some m (λ j. isBeyond readingLimit (read (readingsOf (c .before .before .before .args .body .now)) j))) (sym (readings-long _))))
+    (λ c.
+    let args = c .before .before .before .before .before .args in
+    let inv = c .before .before .before .loop .inv in
+    let inside = c .before .before .loop-test .taken in
+    seen-more inv inside (c .is-reading-beyond .ensures ∙ ap (isBeyond readingLimit) (toZ-ofZ w32 (c .before .reading-at .result) (record { sfits = c .before .reading-at .ok }) ∙ c .before .reading-at .ensures ∙ sym (reading-is (args .body .now) _ inside))))
+    (λ c.
+    let args = c .before .before .before .args in
+    seen-all (c .before .loop .inv) (c .loop-test .left) ∙ ap (λ m. some m (λ j. isBeyond readingLimit (read (readingsOf (args .body .now)) j))) (sym (readings-long _))))

@@ -5,7 +5,7 @@ use mir.Syntax.{w32}
 use mir.ValLaws.{toZ-ofZ}
 use lib.IntN.{pos}
 use lib.ListN.{length, getD}
-use Rattle.algebra.specs.Fill.{Filled, filled-none, filled-more, filled-all, filled-long}
+use Rattle.algebra.specs.Laws.Fill.{Filled, filled-none, filled-more, filled-all, filled-long}
 use Rattle.algebra.specs.Tab.{tab}
 use Rattle.contents.specs.Contents.{readingAt, readingsOf}
 use Rattle.contents.proofs.readings.fill.Statement.{statement}
@@ -25,11 +25,19 @@ fill-spec =
     Inv-loop
     μ-loop
     (λ c. filled-none (pos 0) _ _ _ _ refl (λ j k. refl))
-    (λ c κs. omega (arith, c .before .before .before .pre, filled-long (pos 0) (c .before .loop .inv)))
+    (λ c κs.
+    let pre = c .before .before .before .pre in
+    omega (arith, pre, filled-long (pos 0) (c .before .loop .inv)))
     (λ c. omega (arith, filled-long (pos 0) (c .before .before .loop .inv)))
     (λ c. omega (arith, filled-long (pos 0) (c .before .before .loop .inv)))
     (λ c. omega (arith, filled-long (pos 0) (c .before .before .loop .inv)))
     (λ c. omega (arith, filled-long (pos 0) (c .before .before .loop .inv)))
-    (λ c. filled-more (pos 0) (c .before .before .loop .inv) (omega (arith, filled-long (pos 0) (c .before .before .loop .inv))) (toZ-ofZ w32 (c .reading-at .result) (record { sfits = c .reading-at .ok }) ∙ c .reading-at .ensures))
+    (λ c.
+    let inv = c .before .before .loop .inv in
+    filled-more (pos 0) inv (omega (arith, filled-long (pos 0) inv)) (toZ-ofZ w32 (c .reading-at .result) (record { sfits = c .reading-at .ok }) ∙ c .reading-at .ensures))
     (λ c. filled-long (pos 0) (c .before .loop .inv))
-    (λ c. filled-all (pos 0) (c .before .loop .inv) (omega (arith, filled-long (pos 0) (c .before .loop .inv))) ∙ ap (λ m. tab m (readingAt (c .before .before .before .args .body .now))) (c .before .before .before .pre)))
+    (λ c.
+    let args = c .before .before .before .args in
+    let pre = c .before .before .before .pre in
+    let inv = c .before .loop .inv in
+    filled-all (pos 0) inv (omega (arith, filled-long (pos 0) inv)) ∙ ap (λ m. tab m (readingAt (args .body .now))) pre))

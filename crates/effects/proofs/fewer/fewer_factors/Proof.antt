@@ -22,5 +22,8 @@ fewer-factors-spec =
     (λ c κs. tt)
     (λ c. omega arith)
     (λ c. omega arith)
-    (λ c. missing-more (c .before .before .before .before .loop .inv) (c .before .before .before .loop-test .taken) (c .before .divide-by-three .ensures))
+    (λ c.
+    let inv = c .before .before .before .before .loop .inv in
+    let inside = c .before .before .before .loop-test .taken in
+    missing-more inv inside (c .before .divide-by-three .ensures))
     (λ c. missing-all (c .before .loop .inv) (c .loop-test .left)))

@@ -1,5 +1,5 @@
 use native.Mathlib.Omega.{arith}
-use Rattle.algebra.specs.Tests.{tests}
+use Rattle.algebra.specs.Laws.Tests.{tests}
 use Rattle.effects.proofs.letters.first_letter.Statement.{statement}
 use Rattle.effects.proofs.letters.first_letter.Tie as tie
 

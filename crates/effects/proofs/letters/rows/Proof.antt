@@ -8,6 +8,10 @@ rows-spec =
     (tie.spec
     (λ c κs. tt)
     (λ c κs. few-two _ (c .before .before .runs .ensures))
-    (λ c. of-two _ (c .before .before .before .runs .ensures) (c .before .if1 .taken) (c .rows-of-two .ensures))
+    (λ c.
+    let runs-is = c .before .before .before .runs .ensures in
+    of-two _ runs-is (c .before .if1 .taken) (c .rows-of-two .ensures))
     (λ c κs. few-three _ (c .before .before .runs .ensures) (c .if1 .left))
-    (λ c. of-three _ (c .before .before .before .runs .ensures) (c .before .if1 .left) (c .rows-of-three .ensures)))
+    (λ c.
+    let runs-is = c .before .before .before .runs .ensures in
+    of-three _ runs-is (c .before .if1 .left) (c .rows-of-three .ensures)))

@@ -21,10 +21,14 @@ rows-of-three-spec =
     (λ c. omega arith)
     (λ c. omega (arith, three-fits (c .before .loop .inv) (c .loop-test .taken) (c .before .before .pre)))
     (λ c κs. tt)
-    (λ c. omega (arith, three-fits (c .before .before .loop .inv) (c .before .loop-test .taken) (c .before .before .before .pre), c .first-letter .ensures .1))
+    (λ c.
+    let pre = c .before .before .before .pre in
+    omega (arith, three-fits (c .before .before .loop .inv) (c .before .loop-test .taken) pre, c .first-letter .ensures .1))
     (λ c. omega arith)
     (λ c. omega arith)
     (λ c. omega arith)
     (λ c. omega arith)
-    (λ c. three-more (c .before .before .loop .inv) (c .before .loop-test .taken) (c .before .before .before .pre) (c .first-letter .ensures .0))
+    (λ c.
+    let pre = c .before .before .before .pre in
+    three-more (c .before .before .loop .inv) (c .before .loop-test .taken) pre (c .first-letter .ensures .0))
     (λ c. three-all (c .before .loop .inv) (c .loop-test .left)))

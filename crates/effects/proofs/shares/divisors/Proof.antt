@@ -9,8 +9,19 @@ divisors-spec =
     (tie.spec
     (λ c κs. tt)
     (λ c. no-effects _ (c .before .runs .ensures) (c .if1 .taken))
-    (λ c κs. is-two _ (c .before .before .before .runs .ensures) (c .before .before .if1 .left) (c .if2 .taken))
-    (λ c. of-two _ (c .before .before .before .before .runs .ensures) (c .before .before .before .if1 .left) (c .before .if2 .taken) (c .divisors-of-two .ensures))
+    (λ c κs.
+    let runs-is = c .before .before .before .runs .ensures in
+    is-two _ runs-is (c .before .before .if1 .left) (c .if2 .taken))
+    (λ c.
+    let runs-is = c .before .before .before .before .runs .ensures in
+    let if1-left = c .before .before .before .if1 .left in
+    of-two _ runs-is if1-left (c .before .if2 .taken) (c .divisors-of-two .ensures))
     (λ c. search needs)
-    (λ c κs. is-three _ (c .before .before .before .before .runs .ensures) (c .before .before .before .if1 .left) (c .before .if2 .left))
-    (λ c. of-three _ (c .before .before .before .before .before .runs .ensures) (c .before .before .before .before .if1 .left) (c .before .before .if2 .left) (c .divisors-of-three .ensures)))
+    (λ c κs.
+    let runs-is = c .before .before .before .before .runs .ensures in
+    let if1-left = c .before .before .before .if1 .left in
+    is-three _ runs-is if1-left (c .before .if2 .left))
+    (λ c.
+    let runs-is = c .before .before .before .before .before .runs .ensures in
+    let if1-left = c .before .before .before .before .if1 .left in
+    of-three _ runs-is if1-left (c .before .before .if2 .left) (c .divisors-of-three .ensures)))

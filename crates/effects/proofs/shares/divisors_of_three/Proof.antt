@@ -18,11 +18,25 @@ divisors-of-three-spec =
     μ-loop
     (λ c κs. tt)
     (λ c. three-none _ _)
-    (λ c. omega (arith, n-fits (c .before .before .before .pre .0) (c .before .before .before .pre .1)))
-    (λ c. omega (arith, n-fits (c .before .before .before .pre .0) (c .before .before .before .pre .1)))
-    (λ c. omega (arith, n-fits (c .before .before .before .pre .0) (c .before .before .before .pre .1)))
-    (λ c. omega (arith, n-fits (c .before .before .before .pre .0) (c .before .before .before .pre .1)))
-    (λ c. omega (arith, n-fits (c .before .before .before .pre .0) (c .before .before .before .pre .1)))
-    (λ c. omega (arith, n-fits (c .before .before .before .pre .0) (c .before .before .before .pre .1)))
-    (λ c. three-more (c .before .before .before .pre .0) (c .before .before .before .pre .1) (c .loop-test .taken) (c .before .before .fewer-factors .ensures) (c .before .loop .inv))
+    (λ c.
+    let pre = c .before .before .before .pre in
+    omega (arith, n-fits (pre .0) (pre .1)))
+    (λ c.
+    let pre = c .before .before .before .pre in
+    omega (arith, n-fits (pre .0) (pre .1)))
+    (λ c.
+    let pre = c .before .before .before .pre in
+    omega (arith, n-fits (pre .0) (pre .1)))
+    (λ c.
+    let pre = c .before .before .before .pre in
+    omega (arith, n-fits (pre .0) (pre .1)))
+    (λ c.
+    let pre = c .before .before .before .pre in
+    omega (arith, n-fits (pre .0) (pre .1)))
+    (λ c.
+    let pre = c .before .before .before .pre in
+    omega (arith, n-fits (pre .0) (pre .1)))
+    (λ c.
+    let pre = c .before .before .before .pre in
+    three-more (pre .0) (pre .1) (c .loop-test .taken) (c .before .before .fewer-factors .ensures) (c .before .loop .inv))
     (λ c. three-all (c .before .loop .inv) (c .loop-test .left)))

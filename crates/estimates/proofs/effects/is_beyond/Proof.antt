@@ -1,5 +1,5 @@
 use borrow.Author.Needs.{needs}
-use Rattle.algebra.specs.Signs.{turned-fits, turned-held, upright-held}
+use Rattle.algebra.specs.Laws.Signs.{turned-fits, turned-held, upright-held}
 use Rattle.estimates.proofs.Limit.{below, above}
 use Rattle.estimates.proofs.effects.is_beyond.Statement.{statement}
 use Rattle.estimates.proofs.effects.is_beyond.Tie as tie

@@ -14,7 +14,13 @@ value-spec =
     (tie.spec
     (λ c. rw (c .if1 .taken) refl)
     (λ c κs. rw (toZ-ofZ (c .before .before .fits .total)) (c .before .before .pre .1))
-    (λ c. rw (c .before .before .if1 .left, c .before .if2 .taken, c .scaled .ensures, toZ-ofZ (c .before .before .before .fits .total)) refl)
+    (λ c.
+    let total-fits = c .before .before .before .fits .total in
+    rw (c .before .before .if1 .left, c .before .if2 .taken, c .scaled .ensures, toZ-ofZ total-fits) refl)
     (λ c. search needs)
-    (λ c κs. rw (toZ-ofZ (c .before .before .fits .total)) (record { number = c .before .before .pre .1 .number; power = omega (arith, c .before .before .pre .1 .power) }))
-    (λ c. rw (c .before .before .if1 .left, ne-eqb _ _ (c .before .if2 .left), c .scaled2 .ensures, toZ-ofZ (c .before .before .before .fits .total)) refl))
+    (λ c κs.
+    let pre = c .before .before .pre in
+    rw (toZ-ofZ (c .before .before .fits .total)) (record { number = pre .1 .number; power = omega (arith, pre .1 .power) }))
+    (λ c.
+    let total-fits = c .before .before .before .fits .total in
+    rw (c .before .before .if1 .left, ne-eqb _ _ (c .before .if2 .left), c .scaled2 .ensures, toZ-ofZ total-fits) refl))

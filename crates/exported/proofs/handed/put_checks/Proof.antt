@@ -1,6 +1,6 @@
 use mathlib.Core.Path.{_∙_}
 use borrow.Author.Needs.{needs}
-use Rattle.algebra.specs.Size.{kept}
+use Rattle.algebra.specs.Laws.Machine.{kept}
 use Rattle.exported.proofs.handed.put_checks.Statement.{statement}
 use Rattle.exported.proofs.handed.put_checks.Tie as tie
 
@@ -11,4 +11,7 @@ put-checks-spec =
     (λ c. search needs)
     (λ c κs. search needs)
     (λ c. search needs)
-    (λ c. c .before .put-signed .ensures ∙ rw (kept (c .before .before .before .before .before .before .args .f .checks .totals) (c .before .before .before .before .struct-told .given .0 .1), kept (c .before .before .before .before .before .before .args .f .checks .readings) (c .before .before .before .before .struct-told .given .1 .0 .1))))
+    (λ c.
+    let args = c .before .before .before .before .before .before .args in
+    let struct-told-given = c .before .before .before .before .struct-told .given in
+    c .before .put-signed .ensures ∙ rw (kept (args .f .checks .totals) (struct-told-given .0 .1), kept (args .f .checks .readings) (struct-told-given .1 .0 .1))))

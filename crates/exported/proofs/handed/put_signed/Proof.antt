@@ -2,7 +2,7 @@ use Prim.Native.Nat.{_-_}
 use native.Mathlib.Omega.{arith}
 use lib.IntN.{pos}
 use lib.ListN.{length}
-use Rattle.algebra.specs.Size.{kept}
+use Rattle.algebra.specs.Laws.Machine.{kept}
 use Rattle.exported.proofs.Copied.{Copying, copying-none, copying-long, copying-more, copying-all}
 use Rattle.exported.proofs.handed.put_signed.Statement.{statement}
 use Rattle.exported.proofs.handed.put_signed.Tie as tie

@@ -1,5 +1,5 @@
 use mathlib.Core.Path.{refl}
-use Rattle.algebra.specs.Tests.{is}
+use Rattle.algebra.specs.Laws.Tests.{is}
 use Prim.Native.Nat.{_-_}
 use native.Mathlib.Omega.{arith}
 use lib.ListN.{length}
@@ -22,13 +22,42 @@ any-bad-field-spec =
     μ-loop
     (λ c. passed-none _)
     (λ c κs. c .loop-test .taken)
-    (λ c. passed-cut (c .before .before .before .loop .inv) (c .before .before .loop-test .taken) (c .before .field-end .ensures) (c .if1 .taken))
+    (λ c.
+    let inv = c .before .before .before .loop .inv in
+    passed-cut inv (c .before .before .loop-test .taken) (c .before .field-end .ensures) (c .if1 .taken))
     (λ c. omega arith)
-    (λ c. passed-falling (c .before .before .before .before .before .loop .inv) (c .before .before .before .before .loop-test .taken) (c .before .before .before .field-end .ensures) (c .before .before .if1 .left) (omega (arith, c .if2 .taken)))
-    (λ c. omega (arith, next (c .before .before .before .before .before .loop .inv .rest) (c .before .before .before .before .loop-test .taken) (c .before .before .before .field-end .ensures) (c .before .before .if1 .left) .past))
-    (λ c. omega (arith, next (c .before .before .before .before .before .loop .inv .rest) (c .before .before .before .before .loop-test .taken) (c .before .before .before .field-end .ensures) (c .before .before .if1 .left) .past))
+    (λ c.
+    let inv = c .before .before .before .before .before .loop .inv in
+    let inside = c .before .before .before .before .loop-test .taken in
+    let field-end-is = c .before .before .before .field-end .ensures in
+    passed-falling inv inside field-end-is (c .before .before .if1 .left) (omega (arith, c .if2 .taken)))
+    (λ c.
+    let inv = c .before .before .before .before .before .loop .inv in
+    let inside = c .before .before .before .before .loop-test .taken in
+    let field-end-is = c .before .before .before .field-end .ensures in
+    omega (arith, next (inv .rest) inside field-end-is (c .before .before .if1 .left) .past))
+    (λ c.
+    let inv = c .before .before .before .before .before .loop .inv in
+    let inside = c .before .before .before .before .loop-test .taken in
+    let field-end-is = c .before .before .before .field-end .ensures in
+    omega (arith, next (inv .rest) inside field-end-is (c .before .before .if1 .left) .past))
     (λ c κs. tt)
-    (λ c. passed-unknown (c .before .before .before .before .before .before .before .loop .inv) (c .before .before .before .before .before .before .loop-test .taken) (c .before .before .before .before .before .field-end .ensures) (c .before .before .before .before .if1 .left) (omega (arith, c .before .before .if2 .left)) refl (is (c .before .is-bad .ensures) (c .if3 .taken)))
-    (λ c. omega (arith, next (c .before .before .before .before .before .before .before .loop .inv .rest) (c .before .before .before .before .before .before .loop-test .taken) (c .before .before .before .before .before .field-end .ensures) (c .before .before .before .before .if1 .left) .past))
-    (λ c. passed-one (c .before .before .before .before .before .before .before .loop .inv) (c .before .before .before .before .before .before .loop-test .taken) (c .before .before .before .before .before .field-end .ensures) (c .before .before .before .before .if1 .left) (omega (arith, c .before .before .if2 .left)) refl (is (c .before .is-bad .ensures) (c .if3 .left)))
+    (λ c.
+    let inv = c .before .before .before .before .before .before .before .loop .inv in
+    let inside = c .before .before .before .before .before .before .loop-test .taken in
+    let field-end-is = c .before .before .before .before .before .field-end .ensures in
+    let if1-left = c .before .before .before .before .if1 .left in
+    passed-unknown inv inside field-end-is if1-left (omega (arith, c .before .before .if2 .left)) refl (is (c .before .is-bad .ensures) (c .if3 .taken)))
+    (λ c.
+    let inv = c .before .before .before .before .before .before .before .loop .inv in
+    let inside = c .before .before .before .before .before .before .loop-test .taken in
+    let field-end-is = c .before .before .before .before .before .field-end .ensures in
+    let if1-left = c .before .before .before .before .if1 .left in
+    omega (arith, next (inv .rest) inside field-end-is if1-left .past))
+    (λ c.
+    let inv = c .before .before .before .before .before .before .before .loop .inv in
+    let inside = c .before .before .before .before .before .before .loop-test .taken in
+    let field-end-is = c .before .before .before .before .before .field-end .ensures in
+    let if1-left = c .before .before .before .before .if1 .left in
+    passed-one inv inside field-end-is if1-left (omega (arith, c .before .before .if2 .left)) refl (is (c .before .is-bad .ensures) (c .if3 .left)))
     (λ c. passed-all (c .before .loop .inv) (c .loop-test .left)))

@@ -22,17 +22,66 @@ body-spec =
     (λ c. sought-none _ _ _)
     (λ c κs. c .loop-test .taken)
     (λ c. search needs)
-    (λ c. sought-cut (c .before .before .before .before .loop .inv) (c .before .before .before .loop-test .taken) (c .before .before .field-end .ensures) (c .before .if1 .taken))
+    (λ c.
+    let inv = c .before .before .before .before .loop .inv in
+    let inside2 = c .before .before .before .loop-test .taken in
+    sought-cut inv inside2 (c .before .before .field-end .ensures) (c .before .if1 .taken))
     (λ c. omega arith)
-    (λ c. omega (arith, next (c .before .before .before .before .before .before .loop .inv .rest) (c .before .before .before .before .before .loop-test .taken) (c .before .before .before .before .field-end .ensures) (c .before .before .before .if1 .left) .past, next (c .before .before .before .before .before .before .loop .inv .rest) (c .before .before .before .before .before .loop-test .taken) (c .before .before .before .before .field-end .ensures) (c .before .before .before .if1 .left) .rest .inside))
-    (λ c. omega (arith, next (c .before .before .before .before .before .before .loop .inv .rest) (c .before .before .before .before .before .loop-test .taken) (c .before .before .before .before .field-end .ensures) (c .before .before .before .if1 .left) .past, next (c .before .before .before .before .before .before .loop .inv .rest) (c .before .before .before .before .before .loop-test .taken) (c .before .before .before .before .field-end .ensures) (c .before .before .before .if1 .left) .rest .inside))
-    (λ c. omega (arith, next (c .before .before .before .before .before .before .loop .inv .rest) (c .before .before .before .before .before .loop-test .taken) (c .before .before .before .before .field-end .ensures) (c .before .before .before .if1 .left) .past, next (c .before .before .before .before .before .before .loop .inv .rest) (c .before .before .before .before .before .loop-test .taken) (c .before .before .before .before .field-end .ensures) (c .before .before .before .if1 .left) .rest .inside))
-    (λ c. omega (arith, next (c .before .before .before .before .before .before .loop .inv .rest) (c .before .before .before .before .before .loop-test .taken) (c .before .before .before .before .field-end .ensures) (c .before .before .before .if1 .left) .past, next (c .before .before .before .before .before .before .loop .inv .rest) (c .before .before .before .before .before .loop-test .taken) (c .before .before .before .before .field-end .ensures) (c .before .before .before .if1 .left) .rest .inside))
-    (λ c. sought-here (c .before .before .before .before .before .before .before .loop .inv) (c .before .before .before .before .before .before .loop-test .taken) (c .before .before .before .before .before .field-end .ensures) (c .before .before .before .before .if1 .left) (c .before .before .if2 .taken) (omega (arith, c .before .if3 .taken)))
-    (λ c. omega (arith, c .before .before .before .before .before .before .loop .inv .few))
-    (λ c. omega (arith, next (c .before .before .before .before .before .before .loop .inv .rest) (c .before .before .before .before .before .loop-test .taken) (c .before .before .before .before .field-end .ensures) (c .before .before .before .if1 .left) .past, next (c .before .before .before .before .before .before .loop .inv .rest) (c .before .before .before .before .before .loop-test .taken) (c .before .before .before .before .field-end .ensures) (c .before .before .before .if1 .left) .rest .inside))
-    (λ c. sought-one (c .before .before .before .before .before .before .loop .inv) (c .before .before .before .before .before .loop-test .taken) (c .before .before .before .before .field-end .ensures) (c .before .before .before .if1 .left) (c .before .if2 .taken) (λ e. omega (arith, e, c .if3 .left)))
-    (λ c. omega (arith, next (c .before .before .before .before .before .loop .inv .rest) (c .before .before .before .before .loop-test .taken) (c .before .before .before .field-end .ensures) (c .before .before .if1 .left) .past, next (c .before .before .before .before .before .loop .inv .rest) (c .before .before .before .before .loop-test .taken) (c .before .before .before .field-end .ensures) (c .before .before .if1 .left) .rest .inside))
-    (λ c. sought-other (c .before .before .before .before .before .loop .inv) (c .before .before .before .before .loop-test .taken) (c .before .before .before .field-end .ensures) (c .before .before .if1 .left) (c .if2 .left))
+    (λ c.
+    let inv = c .before .before .before .before .before .before .loop .inv in
+    let inside2 = c .before .before .before .before .before .loop-test .taken in
+    let field-end-is = c .before .before .before .before .field-end .ensures in
+    let if1-left = c .before .before .before .if1 .left in
+    omega (arith, next (inv .rest) inside2 field-end-is if1-left .past, next (inv .rest) inside2 field-end-is if1-left .rest .inside))
+    (λ c.
+    let inv = c .before .before .before .before .before .before .loop .inv in
+    let inside2 = c .before .before .before .before .before .loop-test .taken in
+    let field-end-is = c .before .before .before .before .field-end .ensures in
+    let if1-left = c .before .before .before .if1 .left in
+    omega (arith, next (inv .rest) inside2 field-end-is if1-left .past, next (inv .rest) inside2 field-end-is if1-left .rest .inside))
+    (λ c.
+    let inv = c .before .before .before .before .before .before .loop .inv in
+    let inside2 = c .before .before .before .before .before .loop-test .taken in
+    let field-end-is = c .before .before .before .before .field-end .ensures in
+    let if1-left = c .before .before .before .if1 .left in
+    omega (arith, next (inv .rest) inside2 field-end-is if1-left .past, next (inv .rest) inside2 field-end-is if1-left .rest .inside))
+    (λ c.
+    let inv = c .before .before .before .before .before .before .loop .inv in
+    let inside2 = c .before .before .before .before .before .loop-test .taken in
+    let field-end-is = c .before .before .before .before .field-end .ensures in
+    let if1-left = c .before .before .before .if1 .left in
+    omega (arith, next (inv .rest) inside2 field-end-is if1-left .past, next (inv .rest) inside2 field-end-is if1-left .rest .inside))
+    (λ c.
+    let inv = c .before .before .before .before .before .before .before .loop .inv in
+    let inside2 = c .before .before .before .before .before .before .loop-test .taken in
+    let field-end-is = c .before .before .before .before .before .field-end .ensures in
+    let if1-left = c .before .before .before .before .if1 .left in
+    sought-here inv inside2 field-end-is if1-left (c .before .before .if2 .taken) (omega (arith, c .before .if3 .taken)))
+    (λ c.
+    let inv = c .before .before .before .before .before .before .loop .inv in
+    omega (arith, inv .few))
+    (λ c.
+    let inv = c .before .before .before .before .before .before .loop .inv in
+    let inside2 = c .before .before .before .before .before .loop-test .taken in
+    let field-end-is = c .before .before .before .before .field-end .ensures in
+    let if1-left = c .before .before .before .if1 .left in
+    omega (arith, next (inv .rest) inside2 field-end-is if1-left .past, next (inv .rest) inside2 field-end-is if1-left .rest .inside))
+    (λ c.
+    let inv = c .before .before .before .before .before .before .loop .inv in
+    let inside2 = c .before .before .before .before .before .loop-test .taken in
+    let field-end-is = c .before .before .before .before .field-end .ensures in
+    let if1-left = c .before .before .before .if1 .left in
+    sought-one inv inside2 field-end-is if1-left (c .before .if2 .taken) (λ e. omega (arith, e, c .if3 .left)))
+    (λ c.
+    let inv = c .before .before .before .before .before .loop .inv in
+    let inside2 = c .before .before .before .before .loop-test .taken in
+    let field-end-is = c .before .before .before .field-end .ensures in
+    let if1-left = c .before .before .if1 .left in
+    omega (arith, next (inv .rest) inside2 field-end-is if1-left .past, next (inv .rest) inside2 field-end-is if1-left .rest .inside))
+    (λ c.
+    let inv = c .before .before .before .before .before .loop .inv in
+    let inside2 = c .before .before .before .before .loop-test .taken in
+    let field-end-is = c .before .before .before .field-end .ensures in
+    sought-other inv inside2 field-end-is (c .before .before .if1 .left) (c .if2 .left))
     (λ c. search needs)
     (λ c. sought-all (c .before .before .loop .inv) (c .before .loop-test .left)))

@@ -20,11 +20,31 @@ count-spec =
     μ-loop
     (λ c. counted-none _ _)
     (λ c κs. c .loop-test .taken)
-    (λ c. search (counted-cut (c .before .before .before .loop .inv) (c .before .before .loop-test .taken) (c .before .field-end .ensures) (c .if1 .taken)))
+    (λ c.
+    let inv = c .before .before .before .loop .inv in
+    search (counted-cut inv (c .before .before .loop-test .taken) (c .before .field-end .ensures) (c .if1 .taken)))
     (λ c. omega arith)
-    (λ c. omega (arith, c .before .before .before .before .before .loop .inv .few))
-    (λ c. omega (arith, next (c .before .before .before .before .before .loop .inv .rest) (c .before .before .before .before .loop-test .taken) (c .before .before .before .field-end .ensures) (c .before .before .if1 .left) .past))
-    (λ c. counted-one (c .before .before .before .before .before .loop .inv) (c .before .before .before .before .loop-test .taken) (c .before .before .before .field-end .ensures) (c .before .before .if1 .left) (c .if2 .taken))
-    (λ c. omega (arith, next (c .before .before .before .before .before .loop .inv .rest) (c .before .before .before .before .loop-test .taken) (c .before .before .before .field-end .ensures) (c .before .before .if1 .left) .past))
-    (λ c. counted-other (c .before .before .before .before .before .loop .inv) (c .before .before .before .before .loop-test .taken) (c .before .before .before .field-end .ensures) (c .before .before .if1 .left) (c .if2 .left))
+    (λ c.
+    let inv = c .before .before .before .before .before .loop .inv in
+    omega (arith, inv .few))
+    (λ c.
+    let inv = c .before .before .before .before .before .loop .inv in
+    let inside = c .before .before .before .before .loop-test .taken in
+    let field-end-is = c .before .before .before .field-end .ensures in
+    omega (arith, next (inv .rest) inside field-end-is (c .before .before .if1 .left) .past))
+    (λ c.
+    let inv = c .before .before .before .before .before .loop .inv in
+    let inside = c .before .before .before .before .loop-test .taken in
+    let field-end-is = c .before .before .before .field-end .ensures in
+    counted-one inv inside field-end-is (c .before .before .if1 .left) (c .if2 .taken))
+    (λ c.
+    let inv = c .before .before .before .before .before .loop .inv in
+    let inside = c .before .before .before .before .loop-test .taken in
+    let field-end-is = c .before .before .before .field-end .ensures in
+    omega (arith, next (inv .rest) inside field-end-is (c .before .before .if1 .left) .past))
+    (λ c.
+    let inv = c .before .before .before .before .before .loop .inv in
+    let inside = c .before .before .before .before .loop-test .taken in
+    let field-end-is = c .before .before .before .field-end .ensures in
+    counted-other inv inside field-end-is (c .before .before .if1 .left) (c .if2 .left))
     (λ c. counted-all (c .before .loop .inv) (c .loop-test .left)))

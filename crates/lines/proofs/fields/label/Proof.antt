@@ -1,5 +1,5 @@
 use borrow.Author.Needs.{needs}
-use Rattle.lines.specs.Laws.{mean-label, letters-label}
+use Rattle.lines.specs.Laws.Lines.{mean-label, letters-label}
 use Rattle.lines.proofs.fields.label.Statement.{statement}
 use Rattle.lines.proofs.fields.label.Tie as tie
 
@@ -10,7 +10,11 @@ label-spec =
     (λ c. search needs)
     (λ c κs. tt)
     (λ c. search needs)
-    (λ c. mean-label _ (c .before .before .before .before .before .if1 .taken) (c .before .before .copy .ensures))
+    (λ c.
+    let if1-taken = c .before .before .before .before .before .if1 .taken in
+    mean-label _ if1-taken (c .before .before .copy .ensures))
     (λ c κs. tt)
     (λ c. search needs)
-    (λ c. letters-label _ (c .before .before .before .before .if1 .left) (c .before .before .letters .ensures)))
+    (λ c.
+    let if1-left = c .before .before .before .before .if1 .left in
+    letters-label _ if1-left (c .before .before .letters .ensures)))

@@ -1,5 +1,5 @@
 use borrow.Author.Needs.{needs}
-use Rattle.lines.specs.Laws.{error-text, blocks-text, no-text}
+use Rattle.lines.specs.Laws.Lines.{error-text, blocks-text, no-text}
 use Rattle.lines.proofs.fields.next_kind.Statement.{statement}
 use Rattle.lines.proofs.fields.next_kind.Tie as tie
 
@@ -10,9 +10,13 @@ next-kind-spec =
     (λ c. search needs)
     (λ c κs. tt)
     (λ c. search needs)
-    (λ c. error-text _ (c .before .before .before .before .before .if1 .taken) (c .before .before .copy .ensures))
+    (λ c.
+    let if1-taken = c .before .before .before .before .before .if1 .taken in
+    error-text _ if1-taken (c .before .before .copy .ensures))
     (λ c. search needs)
     (λ c κs. tt)
     (λ c. search needs)
-    (λ c. blocks-text _ (c .before .before .before .before .before .if2 .taken) (c .before .before .copy2 .ensures))
+    (λ c.
+    let if2-taken = c .before .before .before .before .before .if2 .taken in
+    blocks-text _ if2-taken (c .before .before .copy2 .ensures))
     (λ c. no-text _ _ _ (c .before .if1 .left) (c .if2 .left)))

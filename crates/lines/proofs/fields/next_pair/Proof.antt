@@ -10,4 +10,6 @@ next-pair-spec =
     (λ c κs. tt)
     (λ c κs. tt)
     (λ c. search needs)
-    (λ c. then (c .before .before .before .before .before .before .next-number .ensures) (c .before .before .next-number2 .ensures)))
+    (λ c.
+    let next-number-is = c .before .before .before .before .before .before .next-number .ensures in
+    then next-number-is (c .before .before .next-number2 .ensures)))

@@ -1,5 +1,5 @@
 use borrow.Author.Needs.{needs}
-use Rattle.lines.specs.Laws.{next-value}
+use Rattle.lines.specs.Laws.Lines.{next-value}
 use Rattle.lines.proofs.fields.next_value.Statement.{statement}
 use Rattle.lines.proofs.fields.next_value.Tie as tie
 
@@ -10,4 +10,7 @@ next-value-spec =
     (λ c κs. tt)
     (λ c κs. tt)
     (λ c. search needs)
-    (λ c. next-value (c .before .before .before .before .before .before .before .before .before .fits .x) (c .before .before .before .before .before .before .put .ensures) (c .before .before .value .ensures)))
+    (λ c.
+    let x-fits = c .before .before .before .before .before .before .before .before .before .fits .x in
+    let put-is = c .before .before .before .before .before .before .put .ensures in
+    next-value x-fits put-is (c .before .before .value .ensures)))

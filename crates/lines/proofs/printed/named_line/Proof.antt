@@ -1,5 +1,5 @@
 use borrow.Author.Needs.{needs}
-use Rattle.lines.specs.Laws.{named-made}
+use Rattle.lines.specs.Laws.Lines.{named-made}
 use Rattle.lines.proofs.printed.named_line.Statement.{statement}
 use Rattle.lines.proofs.printed.named_line.Tie as tie
 
@@ -11,4 +11,7 @@ named-line-spec =
     (λ c κs. tt)
     (λ c κs. tt)
     (λ c. search needs)
-    (λ c. named-made _ (c .before .before .before .before .before .before .before .before .before .before .copy .ensures) (c .before .before .before .before .before .before .next-number .ensures) (c .before .before .end-line .ensures)))
+    (λ c.
+    let copy-is = c .before .before .before .before .before .before .before .before .before .before .copy .ensures in
+    let next-number-is = c .before .before .before .before .before .before .next-number .ensures in
+    named-made _ copy-is next-number-is (c .before .before .end-line .ensures)))

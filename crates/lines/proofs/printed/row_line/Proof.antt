@@ -1,5 +1,5 @@
 use borrow.Author.Needs.{needs}
-use Rattle.lines.specs.Laws.{row-made}
+use Rattle.lines.specs.Laws.Lines.{row-made}
 use Rattle.lines.proofs.printed.row_line.Statement.{statement}
 use Rattle.lines.proofs.printed.row_line.Tie as tie
 
@@ -12,4 +12,8 @@ row-line-spec =
     (λ c κs. tt)
     (λ c κs. tt)
     (λ c. search needs)
-    (λ c. row-made _ _ _ _ (c .before .before .before .before .before .before .before .before .before .before .before .before .before .before .label .ensures) (c .before .before .before .before .before .before .before .before .before .before .next-pair .ensures) (c .before .before .before .before .before .before .next-kind .ensures) (c .before .before .end-line .ensures)))
+    (λ c.
+    let label-is = c .before .before .before .before .before .before .before .before .before .before .before .before .before .before .label .ensures in
+    let next-pair-is = c .before .before .before .before .before .before .before .before .before .before .next-pair .ensures in
+    let next-kind-is = c .before .before .before .before .before .before .next-kind .ensures in
+    row-made _ _ _ _ label-is next-pair-is next-kind-is (c .before .before .end-line .ensures)))

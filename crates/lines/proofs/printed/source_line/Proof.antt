@@ -1,5 +1,5 @@
 use borrow.Author.Needs.{needs}
-use Rattle.lines.specs.Laws.{source-made}
+use Rattle.lines.specs.Laws.Lines.{source-made}
 use Rattle.lines.proofs.printed.source_line.Statement.{statement}
 use Rattle.lines.proofs.printed.source_line.Tie as tie
 
@@ -11,4 +11,7 @@ source-line-spec =
     (λ c κs. tt)
     (λ c κs. tt)
     (λ c. search needs)
-    (λ c. source-made _ _ (c .before .before .before .before .before .before .before .before .before .before .copy .ensures) (c .before .before .before .before .before .before .next-pair .ensures) (c .before .before .end-line .ensures)))
+    (λ c.
+    let copy-is = c .before .before .before .before .before .before .before .before .before .before .copy .ensures in
+    let next-pair-is = c .before .before .before .before .before .before .next-pair .ensures in
+    source-made _ _ copy-is next-pair-is (c .before .before .end-line .ensures)))

@@ -11,5 +11,7 @@ combines-in-spec =
     (tie.spec
     (λ c. search needs)
     (λ c. sym (length-take-le _ _ (omega arith)))
-    (λ c κs. omega (arith, length-take-le (c .before .args .blocks) (c .before .args .t3) (omega arith)))
+    (λ c κs.
+    let args = c .before .args in
+    omega (arith, length-take-le (args .blocks) (args .t3) (omega arith)))
     (λ c. search needs))

@@ -1,6 +1,6 @@
 use borrow.Author.Needs.{needs}
 use Rattle.plan.specs.Check.{badWords}
-use Rattle.algebra.specs.Tests.{is}
+use Rattle.algebra.specs.Laws.Tests.{is}
 use Rattle.plan.proofs.checks.bad_words.Statement.{statement}
 use Rattle.plan.proofs.checks.bad_words.Tie as tie
 
@@ -12,6 +12,11 @@ bad-words-spec =
     (λ c κs. search needs)
     (λ c. rw (is (c .before .any-bad-word .ensures) (c .if1 .taken)))
     (λ c κs. search needs)
-    (λ c. rw (is (c .before .before .before .any-bad-word .ensures) (c .before .before .if1 .left), is (c .before .any-bad-sign .ensures) (c .if2 .taken)))
+    (λ c.
+    let any-bad-word-is = c .before .before .before .any-bad-word .ensures in
+    rw (is any-bad-word-is (c .before .before .if1 .left), is (c .before .any-bad-sign .ensures) (c .if2 .taken)))
     (λ c κs. search needs)
-    (λ c. rw (is (c .before .before .before .before .any-bad-word .ensures) (c .before .before .before .if1 .left), is (c .before .before .any-bad-sign .ensures) (c .before .if2 .left)) (c .any-bad-word2 .ensures)))
+    (λ c.
+    let any-bad-word-is = c .before .before .before .before .any-bad-word .ensures in
+    let if1-left = c .before .before .before .if1 .left in
+    rw (is any-bad-word-is if1-left, is (c .before .before .any-bad-sign .ensures) (c .before .if2 .left)) (c .any-bad-word2 .ensures)))

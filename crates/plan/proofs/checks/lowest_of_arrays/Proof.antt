@@ -15,5 +15,7 @@ lowest-of-arrays-spec =
     (λ c. sym (length-take-le _ _ (omega arith)))
     (λ c. search needs)
     (λ c. sym (length-take-le _ _ (omega arith)))
-    (λ c κs. omega (arith, length-take-le (c .before .before .before .args .blocks) (c .before .before .before .args .t6) (omega arith)))
+    (λ c κs.
+    let args = c .before .before .before .args in
+    omega (arith, length-take-le (args .blocks) (args .t6) (omega arith)))
     (λ c. search needs))

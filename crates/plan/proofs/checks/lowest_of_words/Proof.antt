@@ -1,7 +1,7 @@
 use mathlib.Core.Path.{refl}
 use borrow.Author.Needs.{needs}
 use Rattle.plan.specs.Check.{dependent}
-use Rattle.algebra.specs.Tests.{is}
+use Rattle.algebra.specs.Laws.Tests.{is}
 use Rattle.plan.proofs.checks.lowest_of_words.Statement.{statement}
 use Rattle.plan.proofs.checks.lowest_of_words.Tie as tie
 
@@ -13,9 +13,27 @@ lowest-of-words-spec =
     (λ c κs. search needs)
     (λ c. rw (is (c .before .bad-words .ensures) (c .if1 .taken)) refl)
     (λ c κs. search needs)
-    (λ c. rw (is (c .before .before .before .bad-words .ensures) (c .before .before .if1 .left), is (c .before .is-repeated .ensures) (c .if2 .taken)) refl)
+    (λ c.
+    let bad-words-is = c .before .before .before .bad-words .ensures in
+    rw (is bad-words-is (c .before .before .if1 .left), is (c .before .is-repeated .ensures) (c .if2 .taken)) refl)
     (λ c κs. search needs)
-    (λ c. rw (is (c .before .before .before .before .before .bad-words .ensures) (c .before .before .before .before .if1 .left), is (c .before .before .before .is-repeated .ensures) (c .before .before .if2 .left), is (c .before .combines-to .ensures) (c .if3 .taken)) refl)
+    (λ c.
+    let bad-words-is = c .before .before .before .before .before .bad-words .ensures in
+    let if1-left = c .before .before .before .before .if1 .left in
+    let is-repeated-is = c .before .before .before .is-repeated .ensures in
+    rw (is bad-words-is if1-left, is is-repeated-is (c .before .before .if2 .left), is (c .before .combines-to .ensures) (c .if3 .taken)) refl)
     (λ c κs. search needs)
-    (λ c. rw (is (c .before .before .before .before .before .before .before .bad-words .ensures) (c .before .before .before .before .before .before .if1 .left), is (c .before .before .before .before .before .is-repeated .ensures) (c .before .before .before .before .if2 .left), is (c .before .before .before .combines-to .ensures) (c .before .before .if3 .left), is (c .before .loses-factor .ensures) (c .if4 .taken)) refl)
-    (λ c. rw (is (c .before .before .before .before .before .before .before .bad-words .ensures) (c .before .before .before .before .before .before .if1 .left), is (c .before .before .before .before .before .is-repeated .ensures) (c .before .before .before .before .if2 .left), is (c .before .before .before .combines-to .ensures) (c .before .before .if3 .left), is (c .before .loses-factor .ensures) (c .if4 .left)) refl))
+    (λ c.
+    let bad-words-is = c .before .before .before .before .before .before .before .bad-words .ensures in
+    let if1-left = c .before .before .before .before .before .before .if1 .left in
+    let is-repeated-is = c .before .before .before .before .before .is-repeated .ensures in
+    let if2-left = c .before .before .before .before .if2 .left in
+    let combines-to-is = c .before .before .before .combines-to .ensures in
+    rw (is bad-words-is if1-left, is is-repeated-is if2-left, is combines-to-is (c .before .before .if3 .left), is (c .before .loses-factor .ensures) (c .if4 .taken)) refl)
+    (λ c.
+    let bad-words-is = c .before .before .before .before .before .before .before .bad-words .ensures in
+    let if1-left = c .before .before .before .before .before .before .if1 .left in
+    let is-repeated-is = c .before .before .before .before .before .is-repeated .ensures in
+    let if2-left = c .before .before .before .before .if2 .left in
+    let combines-to-is = c .before .before .before .combines-to .ensures in
+    rw (is bad-words-is if1-left, is is-repeated-is if2-left, is combines-to-is (c .before .before .if3 .left), is (c .before .loses-factor .ensures) (c .if4 .left)) refl))

@@ -2,7 +2,7 @@ use Prim.Native.Nat.{_-_}
 use native.Mathlib.Omega.{arith}
 use lib.ListN.{length, getD}
 use borrow.Author.Tests.{lt-ltb, le-ltb}
-use Rattle.algebra.specs.Search.{Unfound, unfound, onward, found, nowhere}
+use Rattle.algebra.specs.Laws.Searching.{Unfound, unfound, onward, found, nowhere}
 use Rattle.words.specs.Words.{any}
 use Rattle.plan.specs.Check.{badSign}
 use Rattle.plan.proofs.conditions.any_bad_sign.Statement.{statement}
@@ -23,8 +23,12 @@ any-bad-sign-spec =
     μ-loop
     (λ c. unfound _ _)
     (λ c. omega arith)
-    (λ c. found (c .before .before .before .loop .inv) (c .before .before .loop-test .taken) (lt-ltb _ _ (c .if1 .taken)))
+    (λ c.
+    let inv = c .before .before .before .loop .inv in
+    found inv (c .before .before .loop-test .taken) (lt-ltb _ _ (c .if1 .taken)))
     (λ c. omega arith)
     (λ c. omega arith)
-    (λ c. onward (c .before .before .before .loop .inv) (c .before .before .loop-test .taken) (le-ltb _ _ (c .if1 .left)))
+    (λ c.
+    let inv = c .before .before .before .loop .inv in
+    onward inv (c .before .before .loop-test .taken) (le-ltb _ _ (c .if1 .left)))
     (λ c. nowhere (c .before .loop .inv) (c .loop-test .left)))

@@ -1,10 +1,10 @@
 use Prim.Native.Nat.{_-_}
 use native.Mathlib.Omega.{arith}
 use lib.ListN.{length, getD}
-use Rattle.algebra.specs.Search.{Unfound, unfound, onward, found, nowhere}
+use Rattle.algebra.specs.Laws.Searching.{Unfound, unfound, onward, found, nowhere}
 use Rattle.words.specs.Words.{any}
 use Rattle.plan.specs.Check.{badWord}
-use Rattle.algebra.specs.Tests.{is}
+use Rattle.algebra.specs.Laws.Tests.{is}
 use Rattle.plan.proofs.conditions.any_bad_word.Statement.{statement}
 use Rattle.plan.proofs.conditions.any_bad_word.Tie as tie
 
@@ -25,8 +25,14 @@ any-bad-word-spec =
     (λ c. omega arith)
     (λ c. omega arith)
     (λ c κs. omega arith)
-    (λ c. found (c .before .before .before .before .loop .inv) (c .before .before .before .loop-test .taken) (is (c .before .bad-word .ensures) (c .if1 .taken)))
+    (λ c.
+    let inv = c .before .before .before .before .loop .inv in
+    let inside = c .before .before .before .loop-test .taken in
+    found inv inside (is (c .before .bad-word .ensures) (c .if1 .taken)))
     (λ c. omega arith)
     (λ c. omega arith)
-    (λ c. onward (c .before .before .before .before .loop .inv) (c .before .before .before .loop-test .taken) (is (c .before .bad-word .ensures) (c .if1 .left)))
+    (λ c.
+    let inv = c .before .before .before .before .loop .inv in
+    let inside = c .before .before .before .loop-test .taken in
+    onward inv inside (is (c .before .bad-word .ensures) (c .if1 .left)))
     (λ c. nowhere (c .before .loop .inv) (c .loop-test .left)))

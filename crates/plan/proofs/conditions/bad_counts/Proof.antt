@@ -1,5 +1,5 @@
 use Rattle.plan.specs.Check.{badCounts}
-use Rattle.algebra.specs.Tests.{tests}
+use Rattle.algebra.specs.Laws.Tests.{tests}
 use Rattle.plan.proofs.conditions.bad_counts.Statement.{statement}
 use Rattle.plan.proofs.conditions.bad_counts.Tie as tie
 

@@ -1,6 +1,6 @@
 use Rattle.contrasts.specs.Limits.{mostTwo, mostThree}
 use Rattle.plan.specs.Check.{badFactors}
-use Rattle.algebra.specs.Tests.{tests}
+use Rattle.algebra.specs.Laws.Tests.{tests}
 use Rattle.plan.proofs.conditions.bad_factors.Statement.{statement}
 use Rattle.plan.proofs.conditions.bad_factors.Tie as tie
 

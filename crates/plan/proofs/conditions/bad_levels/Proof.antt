@@ -1,5 +1,5 @@
 use Rattle.plan.specs.Check.{badLevels}
-use Rattle.algebra.specs.Tests.{tests}
+use Rattle.algebra.specs.Laws.Tests.{tests}
 use Rattle.plan.proofs.conditions.bad_levels.Statement.{statement}
 use Rattle.plan.proofs.conditions.bad_levels.Tie as tie
 

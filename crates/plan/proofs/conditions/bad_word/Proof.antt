@@ -1,6 +1,6 @@
 use native.Mathlib.Omega.{arith}
 use Rattle.plan.specs.Check.{badWord}
-use Rattle.algebra.specs.Tests.{is}
+use Rattle.algebra.specs.Laws.Tests.{is}
 use Rattle.plan.proofs.conditions.bad_word.Statement.{statement}
 use Rattle.plan.proofs.conditions.bad_word.Tie as tie
 

@@ -24,8 +24,12 @@ combines-to-spec =
     (λ c κs. omega arith)
     (λ c. trying)
     (λ c κs. tt)
-    (λ c. tried (c .before .before .before .loop .inv) (omega arith) (eq-eqb _ _ (sym (c .before .combine .ensures) ∙ c .if1 .taken)))
+    (λ c.
+    let inv = c .before .before .before .loop .inv in
+    tried inv (omega arith) (eq-eqb _ _ (sym (c .before .combine .ensures) ∙ c .if1 .taken)))
     (λ c. omega arith)
     (λ c. omega arith)
-    (λ c. try-more (c .before .before .before .loop .inv) (omega arith) (ne-eqb _ _ (λ e. c .if1 .left (c .before .combine .ensures ∙ e))))
+    (λ c.
+    let inv = c .before .before .before .loop .inv in
+    try-more inv (omega arith) (ne-eqb _ _ (λ e. c .if1 .left (c .before .combine .ensures ∙ e))))
     (λ c. tried-all (c .before .loop .inv) (omega arith)))

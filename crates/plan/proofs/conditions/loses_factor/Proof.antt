@@ -1,6 +1,6 @@
 use Prim.Native.Nat.{_-_}
 use native.Mathlib.Omega.{arith}
-use Rattle.algebra.specs.Tests.{is}
+use Rattle.algebra.specs.Laws.Tests.{is}
 use Rattle.plan.specs.Check.{factorWord, losesFactor}
 use Rattle.plan.specs.Laws.Combinations.{Trying, trying, try-more, tried, tried-all}
 use Rattle.plan.proofs.conditions.loses_factor.Statement.{statement}
@@ -23,8 +23,12 @@ loses-factor-spec =
     (λ c. trying)
     (λ c κs. tt)
     (λ c κs. tt)
-    (λ c. tried (c .before .before .before .before .loop .inv) (omega arith) (rw (← (c .before .before .combine .ensures)) (is (c .before .is-factor .ensures) (c .if1 .taken))))
+    (λ c.
+    let inv = c .before .before .before .before .loop .inv in
+    tried inv (omega arith) (rw (← (c .before .before .combine .ensures)) (is (c .before .is-factor .ensures) (c .if1 .taken))))
     (λ c. omega arith)
     (λ c. omega arith)
-    (λ c. try-more (c .before .before .before .before .loop .inv) (omega arith) (rw (← (c .before .before .combine .ensures)) (is (c .before .is-factor .ensures) (c .if1 .left))))
+    (λ c.
+    let inv = c .before .before .before .before .loop .inv in
+    try-more inv (omega arith) (rw (← (c .before .before .combine .ensures)) (is (c .before .is-factor .ensures) (c .if1 .left))))
     (λ c. tried-all (c .before .loop .inv) (omega arith)))

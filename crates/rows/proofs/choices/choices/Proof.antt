@@ -2,7 +2,7 @@ use mathlib.Core.Path.{refl}
 use native.Mathlib.Nat.{pow-le-pow-right}
 use native.Mathlib.Omega.{arith}
 use borrow.Author.Needs.{needs}
-use Rattle.algebra.specs.Bits.{one-shifted}
+use Rattle.algebra.specs.Laws.Gathered.{one-shifted}
 use Rattle.rows.proofs.choices.choices.Statement.{statement}
 use Rattle.rows.proofs.choices.choices.Tie as tie
 

@@ -2,7 +2,7 @@ use mathlib.Core.Path.{refl, _∙_}
 use native.Mathlib.Omega.{arith}
 use borrow.Author.Needs.{needs}
 use borrow.Author.Tests.{lt-ltb, le-ltb}
-use Rattle.algebra.specs.Bits.{one-shifted}
+use Rattle.algebra.specs.Laws.Gathered.{one-shifted}
 use Rattle.contrasts.specs.Limits.{mostTwo}
 use Rattle.rows.specs.Kinds.{rowCount}
 use Rattle.rows.proofs.counts.row_count.Statement.{statement}
@@ -16,4 +16,6 @@ row-count-spec =
     (λ c. rw (lt-ltb 10 (c .before .before .args .p .k) (omega (arith, c .if1 .taken))) refl)
     (λ c. search needs)
     (λ c. search needs)
-    (λ c. one-shifted (c .before .before .before .args .p .k) 64 (omega arith) ∙ rw (le-ltb 10 (c .before .before .before .args .p .k) (omega (arith, c .before .if1 .left))) refl))
+    (λ c.
+    let args = c .before .before .before .args in
+    one-shifted (args .p .k) 64 (omega arith) ∙ rw (le-ltb 10 (args .p .k) (omega (arith, c .before .if1 .left))) refl))

@@ -1,4 +1,4 @@
-use Rattle.algebra.specs.Tests.{tests}
+use Rattle.algebra.specs.Laws.Tests.{tests}
 use Rattle.rows.specs.Kinds.{kindByMark}
 use Rattle.rows.proofs.kinds_of_rows.kind_by_mark.Statement.{statement}
 use Rattle.rows.proofs.kinds_of_rows.kind_by_mark.Tie as tie

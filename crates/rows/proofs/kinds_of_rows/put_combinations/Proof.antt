@@ -21,10 +21,18 @@ put-combinations-spec =
     (λ c κs. omega arith)
     (λ c. blocking-none _ _ (one-le-pow _ 2 (lit< tt)))
     (λ c κs. tt)
-    (λ c. omega (arith, c .before .before .before .before .choices .ensures .1))
+    (λ c.
+    let choices-is = c .before .before .before .before .choices .ensures in
+    omega (arith, choices-is .1))
     (λ c κs. tt)
-    (λ c. omega (arith, c .before .before .before .before .before .before .before .choices .ensures .1))
+    (λ c.
+    let choices-is = c .before .before .before .before .before .before .before .choices .ensures in
+    omega (arith, choices-is .1))
     (λ c. omega arith)
-    (λ c. blocking-more (c .before .before .before .before .before .before .loop .inv) (omega (arith, c .before .before .before .before .before .before .before .choices .ensures .0)) (c .before .before .before .combine .ensures) (c .before .before .put .ensures))
+    (λ c.
+    let choices-is = c .before .before .before .before .before .before .before .choices .ensures in
+    let inv = c .before .before .before .before .before .before .loop .inv in
+    let combine-is = c .before .before .before .combine .ensures in
+    blocking-more inv (omega (arith, choices-is .0)) combine-is (c .before .before .put .ensures))
     (λ c. blocking-long (c .before .loop .inv))
     (λ c. blocking-all (c .before .loop .inv) (omega (arith, c .before .before .choices .ensures .0))))

@@ -18,11 +18,22 @@ put-marks-spec =
     μ-loop
     (λ c κs. tt)
     (λ c. marking-none _ _)
-    (λ c. omega (arith, c .before .before .before .smaller .ensures, marking-long (c .before .before .loop .inv)))
+    (λ c.
+    let smaller-is = c .before .before .before .smaller .ensures in
+    omega (arith, smaller-is, marking-long (c .before .before .loop .inv)))
     (λ c κs. tt)
-    (λ c. omega (arith, c .before .before .before .before .smaller .ensures, marking-long (c .before .before .before .loop .inv)))
-    (λ c. omega (arith, c .before .before .before .before .smaller .ensures, marking-long (c .before .before .before .loop .inv)))
+    (λ c.
+    let smaller-is = c .before .before .before .before .smaller .ensures in
+    let inv = c .before .before .before .loop .inv in
+    omega (arith, smaller-is, marking-long inv))
+    (λ c.
+    let smaller-is = c .before .before .before .before .smaller .ensures in
+    let inv = c .before .before .before .loop .inv in
+    omega (arith, smaller-is, marking-long inv))
     (λ c. omega arith)
-    (λ c. marking-more (c .before .before .before .loop .inv) (omega (arith, c .before .before .before .before .smaller .ensures)) (omega (arith, c .before .before .before .before .smaller .ensures)) (c .kind-by-mark .ensures))
+    (λ c.
+    let smaller-is = c .before .before .before .before .smaller .ensures in
+    let inv = c .before .before .before .loop .inv in
+    marking-more inv (omega (arith, smaller-is)) (omega (arith, smaller-is)) (c .kind-by-mark .ensures))
     (λ c. marking-long (c .before .loop .inv))
     (λ c. marking-all (c .before .loop .inv) (omega (arith, c .before .before .smaller .ensures))))

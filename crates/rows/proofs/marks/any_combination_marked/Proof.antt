@@ -1,8 +1,8 @@
 use Prim.Native.Nat.{_-_}
 use native.Mathlib.Omega.{arith}
-use Rattle.algebra.specs.Tests.{is}
+use Rattle.algebra.specs.Laws.Tests.{is}
 use Rattle.plan.specs.Laws.Combinations.{Trying, trying, try-more, tried, tried-all}
-use Rattle.rows.specs.Written.{marked}
+use Rattle.rows.specs.Inner.Written.{marked}
 use Rattle.rows.proofs.marks.any_combination_marked.Statement.{statement}
 use Rattle.rows.proofs.marks.any_combination_marked.Tie as tie
 
@@ -21,10 +21,20 @@ any-combination-marked-spec =
     (λ c κs. omega arith)
     (λ c. trying)
     (λ c κs. tt)
-    (λ c. omega (arith, c .before .before .before .choices .ensures .1))
+    (λ c.
+    let choices-is = c .before .before .before .choices .ensures in
+    omega (arith, choices-is .1))
     (λ c κs. tt)
-    (λ c. tried (c .before .before .before .before .loop .inv) (omega (arith, c .before .before .before .before .before .choices .ensures .0)) (rw (← (c .before .before .combine .ensures)) (is (c .before .is-marked .ensures) (c .if1 .taken))))
-    (λ c. omega (arith, c .before .before .before .before .before .choices .ensures .1))
+    (λ c.
+    let choices-is = c .before .before .before .before .before .choices .ensures in
+    let inv = c .before .before .before .before .loop .inv in
+    tried inv (omega (arith, choices-is .0)) (rw (← (c .before .before .combine .ensures)) (is (c .before .is-marked .ensures) (c .if1 .taken))))
+    (λ c.
+    let choices-is = c .before .before .before .before .before .choices .ensures in
+    omega (arith, choices-is .1))
     (λ c. omega arith)
-    (λ c. try-more (c .before .before .before .before .loop .inv) (omega (arith, c .before .before .before .before .before .choices .ensures .0)) (rw (← (c .before .before .combine .ensures)) (is (c .before .is-marked .ensures) (c .if1 .left))))
+    (λ c.
+    let choices-is = c .before .before .before .before .before .choices .ensures in
+    let inv = c .before .before .before .before .loop .inv in
+    try-more inv (omega (arith, choices-is .0)) (rw (← (c .before .before .combine .ensures)) (is (c .before .is-marked .ensures) (c .if1 .left))))
     (λ c. tried-all (c .before .loop .inv) (omega (arith, c .before .before .choices .ensures .0))))

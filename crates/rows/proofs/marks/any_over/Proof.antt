@@ -3,8 +3,8 @@ use Prim.Native.Nat.{_-_}
 use native.Mathlib.Omega.{arith}
 use lib.Dec.{ltb}
 use lib.ListN.{length, getD}
-use Rattle.algebra.specs.Search.{Seen, seen-none, seen-more, seen-all}
-use Rattle.rows.specs.Written.{anyOver}
+use Rattle.algebra.specs.Laws.Searching.{Seen, seen-none, seen-more, seen-all}
+use Rattle.rows.specs.Inner.Written.{anyOver}
 use Rattle.rows.proofs.marks.any_over.Statement.{statement}
 use Rattle.rows.proofs.marks.any_over.Tie as tie
 

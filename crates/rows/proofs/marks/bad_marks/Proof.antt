@@ -1,6 +1,6 @@
 use mathlib.Core.Path.{_∙_}
 use borrow.Author.Needs.{needs}
-use Rattle.algebra.specs.Tests.{is}
+use Rattle.algebra.specs.Laws.Tests.{is}
 use Rattle.rows.proofs.Judging.{over-bad, mean-bad, blocks-or-none}
 use Rattle.rows.proofs.marks.bad_marks.Statement.{statement}
 use Rattle.rows.proofs.marks.bad_marks.Tie as tie
@@ -15,4 +15,9 @@ bad-marks-spec =
     (λ c. mean-bad _ _ (is (c .before .is-marked .ensures) (c .if2 .taken)))
     (λ c. search needs)
     (λ c κs. tt)
-    (λ c. c .any-block-marked .ensures ∙ blocks-or-none _ _ (is (c .before .before .before .before .before .before .any-over .ensures) (c .before .before .before .before .before .if1 .left)) (is (c .before .before .before .before .is-marked .ensures) (c .before .before .before .if2 .left))))
+    (λ c.
+    let any-over-is = c .before .before .before .before .before .before .any-over .ensures in
+    let if1-left = c .before .before .before .before .before .if1 .left in
+    let is-marked-is = c .before .before .before .before .is-marked .ensures in
+    let if2-left = c .before .before .before .if2 .left in
+    c .any-block-marked .ensures ∙ blocks-or-none _ _ (is any-over-is if1-left) (is is-marked-is if2-left)))

@@ -1,7 +1,7 @@
 use mathlib.Core.Path.{refl}
 use Prim.Native.Nat.{ℕ}
 use borrow.Author.Needs.{needs}
-use Rattle.algebra.specs.Tab.{getD-past}
+use Rattle.algebra.specs.Laws.Tab.{getD-past}
 use Rattle.rows.proofs.marks.is_marked.Statement.{statement}
 use Rattle.rows.proofs.marks.is_marked.Tie as tie
 

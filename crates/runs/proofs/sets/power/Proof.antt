@@ -1,6 +1,6 @@
 use native.Mathlib.Omega.{arith}
 use borrow.Author.Needs.{needs}
-use Rattle.algebra.specs.Bits.{one-shifted}
+use Rattle.algebra.specs.Laws.Gathered.{one-shifted}
 use Rattle.runs.proofs.sets.power.Statement.{statement}
 use Rattle.runs.proofs.sets.power.Tie as tie
 

@@ -2,7 +2,7 @@ use mathlib.Core.Path.{ap}
 use Prim.Native.Nat.{ℕ, _+_}
 use native.Mathlib.Omega.{arith}
 use borrow.Author.Needs.{needs}
-use Rattle.algebra.specs.Bits.{room}
+use Rattle.algebra.specs.Laws.Gathered.{room}
 use Rattle.runs.proofs.sets.put_if.Statement.{statement}
 use Rattle.runs.proofs.sets.put_if.Tie as tie
 

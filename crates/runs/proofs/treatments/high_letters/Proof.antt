@@ -3,7 +3,7 @@ use Prim.Native.Nat.{ℕ, _+_, _-_}
 use native.Mathlib.Nat.{add-zero}
 use native.Mathlib.Omega.{arith}
 use lib.ListN.{length}
-use Rattle.algebra.specs.Bits.{Gathered, gathered-small, gathered-more, gathered-all}
+use Rattle.algebra.specs.Laws.Gathered.{Gathered, gathered-small, gathered-more, gathered-all}
 use Rattle.runs.specs.Laws.High.{base-high, added-high}
 use Rattle.runs.specs.Run.{highIn, highLetters}
 use Rattle.runs.proofs.treatments.high_letters.Statement.{statement}
@@ -28,8 +28,14 @@ high-letters-spec =
     (λ c. omega arith)
     (λ c κs. tt)
     (λ c. omega arith)
-    (λ c κs. (omega arith, gathered-small (c .before .before .before .before .loop .inv)))
+    (λ c κs.
+    let inv = c .before .before .before .before .loop .inv in
+    (omega arith, gathered-small inv))
     (λ c. omega arith)
     (λ c. omega arith)
-    (λ c. let e : _≡_ {A = ℕ} (c .before .before .before .before .before .before .before .before .args .k + (c .before .before .before .before .before .loop .j + 1)) (c .before .before .before .before .before .before .before .before .args .k + c .before .before .before .before .before .loop .j + 1) = omega arith in rw e (gathered-more (c .before .before .before .before .before .loop .inv) (omega arith) _ (c .before .is-high .ensures ∙ sym (added-high _ _ _ _ _)) (c .put-if .ensures)))
+    (λ c.
+    let args = c .before .before .before .before .before .before .before .before .args in
+    let j-now = c .before .before .before .before .before .loop .j in
+    let inv = c .before .before .before .before .before .loop .inv in
+    let e : _≡_ {A = ℕ} (args .k + (j-now + 1)) (args .k + j-now + 1) = omega arith in rw e (gathered-more inv (omega arith) _ (c .before .is-high .ensures ∙ sym (added-high _ _ _ _ _)) (c .put-if .ensures)))
     (λ c. gathered-all (c .before .loop .inv) (omega arith)))

@@ -18,8 +18,17 @@ treatment-spec =
     (λ c. sym (length-take-le _ _ (omega arith)))
     (λ c. search needs)
     (λ c. sym (length-take-le _ _ (omega arith)))
-    (λ c κs. (omega (arith, c .before .before .before .power .ensures), omega (arith, length-take-le (c .before .before .before .before .args .added) (c .before .before .before .before .args .t4) (omega arith)), omega (arith, length-take-le (c .before .before .before .before .args .added) (c .before .before .before .before .args .t4) (omega arith), length-take-le (c .before .before .before .before .args .added) (c .before .before .before .before .args .t5) (omega arith))))
+    (λ c κs.
+    let args = c .before .before .before .before .args in
+    let power-is = c .before .before .before .power .ensures in
+    (omega (arith, power-is), omega (arith, length-take-le (args .added) (args .t4) (omega arith)), omega (arith, length-take-le (args .added) (args .t4) (omega arith), length-take-le (args .added) (args .t5) (omega arith))))
     (λ c. search needs)
     (λ c. sym (length-take-le _ _ (omega arith)))
-    (λ c κs. omega (arith, length-take-le (c .before .before .before .before .before .before .args .blocks) (c .before .before .before .before .before .before .args .t7) (omega arith)))
-    (λ c. rw (← (c .before .before .before .before .before .before .power .ensures), lt-leb (c .before .before .before .before .before .before .power .result) (c .before .before .before .before .before .before .before .args .number) (omega arith), ← (c .before .before .high-letters .ensures), ← (c .block-number .ensures)) refl))
+    (λ c κs.
+    let args = c .before .before .before .before .before .before .args in
+    omega (arith, length-take-le (args .blocks) (args .t7) (omega arith)))
+    (λ c.
+    let args = c .before .before .before .before .before .before .before .args in
+    let power-is = c .before .before .before .before .before .before .power .ensures in
+    let power-result = c .before .before .before .before .before .before .power .result in
+    rw (← power-is, lt-leb power-result (args .number) (omega arith), ← (c .before .before .high-letters .ensures), ← (c .block-number .ensures)) refl))

@@ -1,6 +1,6 @@
 use native.Mathlib.Omega.{arith}
 use borrow.Author.Needs.{needs}
-use Rattle.sheet.proofs.Answering.{marks-number, marks-stopped, marks-given}
+use Rattle.sheet.proofs.Answering.{marks-refused, marks-stopped, marks-given}
 use Rattle.sheet.proofs.calls.marks.Statement.{statement}
 use Rattle.sheet.proofs.calls.marks.Tie as tie
 
@@ -11,6 +11,10 @@ marks-spec =
     (λ c κs. tt)
     (λ c κs. tt)
     (λ c. search needs)
-    (λ c. marks-stopped _ (marks-number _ (c .before .before .before .plan-in .ensures) (c .before .before .number .ensures)) (λ z. omega (arith, z, c .before .if1 .taken)))
+    (λ c.
+    let plan-in-is = c .before .before .before .plan-in .ensures in
+    marks-stopped _ (marks-refused _ plan-in-is (c .before .before .sheet-refused .ensures)) (λ z. omega (arith, z, c .before .if1 .taken)))
     (λ c κs. tt)
-    (λ c. marks-given _ (marks-number _ (c .before .before .before .plan-in .ensures) (c .before .before .number .ensures)) (omega (arith, c .before .if1 .left)) (search (c .body .ensures))))
+    (λ c.
+    let plan-in-is = c .before .before .before .plan-in .ensures in
+    marks-given _ (marks-refused _ plan-in-is (c .before .before .sheet-refused .ensures)) (omega (arith, c .before .if1 .left)) (search (c .body .ensures))))

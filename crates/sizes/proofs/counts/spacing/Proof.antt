@@ -5,7 +5,7 @@ use borrow.Author.Tests.{le-leb, lt-leb}
 use Rattle.plan.specs.Check.{spacingAt}
 use Rattle.plan.specs.Laws.Accepted.{levels-known, levels-small, factors-known, at-most-ten}
 use Rattle.plan.specs.Laws.Sizes.{spacing-power}
-use Rattle.algebra.specs.Tests.{is}
+use Rattle.algebra.specs.Laws.Tests.{is}
 use Rattle.sizes.proofs.counts.spacing.Statement.{statement}
 use Rattle.sizes.proofs.counts.spacing.Tie as tie
 
@@ -17,9 +17,26 @@ spacing-spec =
     (λ c κs. search needs)
     (λ c. rw (is (c .before .bad-levels .ensures) (c .if1 .taken)) refl)
     (λ c κs. search needs)
-    (λ c. rw (is (c .before .before .before .bad-levels .ensures) (c .before .before .if1 .left), is (c .before .bad-factors .ensures) (c .if2 .taken)) refl)
+    (λ c.
+    let bad-levels-is = c .before .before .before .bad-levels .ensures in
+    rw (is bad-levels-is (c .before .before .if1 .left), is (c .before .bad-factors .ensures) (c .if2 .taken)) refl)
     (λ c. search needs)
-    (λ c. rw (is (c .before .before .before .before .before .bad-levels .ensures) (c .before .before .before .before .if1 .left), is (c .before .before .before .bad-factors .ensures) (c .before .before .if2 .left), le-leb _ _ (c .if3 .taken)) refl)
+    (λ c.
+    let bad-levels-is = c .before .before .before .before .before .bad-levels .ensures in
+    let if1-left = c .before .before .before .before .if1 .left in
+    let bad-factors-is = c .before .before .before .bad-factors .ensures in
+    rw (is bad-levels-is if1-left, is bad-factors-is (c .before .before .if2 .left), le-leb _ _ (c .if3 .taken)) refl)
     (λ c. search needs)
-    (λ c κs. (levels-small _ (is (c .before .before .before .before .before .before .bad-levels .ensures) (c .before .before .before .before .before .if1 .left)), omega (arith, c .before .if3 .left, at-most-ten _ (factors-known _ _ (is (c .before .before .before .before .bad-factors .ensures) (c .before .before .before .if2 .left)) .1))))
-    (λ c. rw (is (c .before .before .before .before .before .before .before .bad-levels .ensures) (c .before .before .before .before .before .before .if1 .left), is (c .before .before .before .before .before .bad-factors .ensures) (c .before .before .before .before .if2 .left), lt-leb _ _ (c .before .before .if3 .left)) (c .to-the-power .ensures ∙ sym (spacing-power _ _ (levels-known _ (is (c .before .before .before .before .before .before .before .bad-levels .ensures) (c .before .before .before .before .before .before .if1 .left))) (c .before .before .if3 .left)))))
+    (λ c κs.
+    let bad-levels-is = c .before .before .before .before .before .before .bad-levels .ensures in
+    let if1-left = c .before .before .before .before .before .if1 .left in
+    let bad-factors-is = c .before .before .before .before .bad-factors .ensures in
+    let if2-left = c .before .before .before .if2 .left in
+    (levels-small _ (is bad-levels-is if1-left), omega (arith, c .before .if3 .left, at-most-ten _ (factors-known _ _ (is bad-factors-is if2-left) .1))))
+    (λ c.
+    let bad-levels-is = c .before .before .before .before .before .before .before .bad-levels .ensures in
+    let if1-left = c .before .before .before .before .before .before .if1 .left in
+    let bad-factors-is = c .before .before .before .before .before .bad-factors .ensures in
+    let if2-left = c .before .before .before .before .if2 .left in
+    let if3-left = c .before .before .if3 .left in
+    rw (is bad-levels-is if1-left, is bad-factors-is if2-left, lt-leb _ _ if3-left) (c .to-the-power .ensures ∙ sym (spacing-power _ _ (levels-known _ (is bad-levels-is if1-left)) if3-left))))

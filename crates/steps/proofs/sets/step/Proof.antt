@@ -16,10 +16,24 @@ step-spec =
     (tie.spec
     (λ c κs. tt)
     (λ c. search needs)
-    (λ c. stopped tt _ _ (c .before .values-number .ensures) (c .if1 .taken))
-    (λ c κs. step-ready (admitted _ _ _ _ (sym (c .before .before .before .before .values-number .ensures) ∙ c .before .before .before .if1 .left)) (c .before .if2 .taken))
-    (λ c κs. let a = admitted _ _ _ _ (sym (c .before .before .before .before .values-number .ensures) ∙ c .before .before .before .if1 .left) in step-ready a (the-three _ (plan-kind _ (a .plan)) (c .before .if2 .left)))
+    (λ c. stopped tt _ _ (c .before .values-refused .ensures) (c .if1 .taken))
+    (λ c κs.
+    let values-refused-is = c .before .before .before .before .values-refused .ensures in
+    let if1-left = c .before .before .before .if1 .left in
+    step-ready (admitted _ _ _ _ (sym values-refused-is ∙ if1-left)) (c .before .if2 .taken))
+    (λ c κs.
+    let values-refused-is = c .before .before .before .before .values-refused .ensures in
+    let if1-left = c .before .before .before .if1 .left in
+    let a = admitted _ _ _ _ (sym values-refused-is ∙ if1-left) in step-ready a (the-three _ (plan-kind _ (a .plan)) (c .before .if2 .left)))
     (λ c. search needs)
-    (λ c. let z = sym (c .before .before .before .before .before .before .values-number .ensures) ∙ c .before .before .before .before .before .if1 .left in completed tt _ _ z (step-made (admitted _ _ _ _ z) (c .before .before .before .if2 .taken) (as-two _ (c .before .before .before .if2 .taken)) (c .before .step-two .ensures)))
+    (λ c.
+    let values-refused-is = c .before .before .before .before .before .before .values-refused .ensures in
+    let if1-left = c .before .before .before .before .before .if1 .left in
+    let if2-taken = c .before .before .before .if2 .taken in
+    let z = sym values-refused-is ∙ if1-left in completed tt _ _ z (step-made (admitted _ _ _ _ z) if2-taken (as-two _ if2-taken) (c .before .step-two .ensures)))
     (λ c. search needs)
-    (λ c. let z = sym (c .before .before .before .before .before .before .values-number .ensures) ∙ c .before .before .before .before .before .if1 .left in let a = admitted _ _ _ _ z in completed tt _ _ z (step-made a (the-three _ (plan-kind _ (a .plan)) (c .before .before .before .if2 .left)) (as-three _ (c .before .before .before .if2 .left)) (c .before .step-three .ensures))))
+    (λ c.
+    let values-refused-is = c .before .before .before .before .before .before .values-refused .ensures in
+    let if1-left = c .before .before .before .before .before .if1 .left in
+    let if2-left = c .before .before .before .if2 .left in
+    let z = sym values-refused-is ∙ if1-left in let a = admitted _ _ _ _ z in completed tt _ _ z (step-made a (the-three _ (plan-kind _ (a .plan)) if2-left) (as-three _ if2-left) (c .before .step-three .ensures))))

@@ -3,9 +3,9 @@ use mathlib.Core.Path.{refl, sym, _∙_}
 use Prim.Native.Nat.{_-_}
 use native.Mathlib.Omega.{arith}
 use lib.ListN.{length-set}
-use Rattle.algebra.specs.Spread.{as-long}
+use Rattle.algebra.specs.Laws.Spread.{as-long}
 use lib.IntN.{pos}
-use Rattle.contrasts.specs.Laws.Turns.{sum-fits, less-fits, all-fits, scaled-fits, without-fits, third-fits}
+use Rattle.contrasts.specs.Laws.Sets.{sum-fits, less-fits, all-fits, scaled-fits, without-fits, third-fits}
 use Rattle.steps.proofs.Worked.{Stepped, step-begun, step-ended, small-from, step-three}
 use Rattle.steps.proofs.sets.step_three.Statement.{statement}
 use Rattle.steps.proofs.sets.step_three.Tie as tie
@@ -23,32 +23,86 @@ step-three-spec =
     Inv-loop
     μ-loop
     (λ c. step-begun (c .pre))
-    (λ c. omega (arith, c .before .before .pre .whole, c .before .before .pre .same))
-    (λ c. omega (arith, c .before .before .pre .whole, c .before .before .pre .same))
-    (λ c. omega (arith, c .before .before .pre .whole, c .before .before .pre .same))
-    (λ c. omega (arith, c .before .before .before .pre .whole, c .before .before .before .pre .same))
-    (λ c. omega (arith, c .before .before .before .pre .whole, c .before .before .before .pre .same))
-    (λ c. omega (arith, c .before .before .before .pre .whole, c .before .before .before .pre .same))
-    (λ c. omega (arith, c .before .before .before .before .pre .whole, c .before .before .before .before .pre .same))
-    (λ c. omega (arith, c .before .before .before .before .pre .whole, c .before .before .before .before .pre .same))
-    (λ c. omega (arith, c .before .before .before .before .pre .whole, c .before .before .before .before .pre .same))
-    (λ c. omega (arith, c .before .before .before .before .before .pre .whole, c .before .before .before .before .before .pre .same))
-    (λ c. omega (arith, c .before .before .before .before .before .pre .whole, c .before .before .before .before .before .pre .same))
-    (λ c. omega (arith, c .before .before .before .before .before .pre .whole, c .before .before .before .before .before .pre .same))
-    (λ c. sum-fits (small-from (c .before .before .before .before .before .pre) _) (small-from (c .before .before .before .before .before .pre) _))
-    (λ c. all-fits (small-from (c .before .before .before .before .before .pre) _) (small-from (c .before .before .before .before .before .pre) _) (small-from (c .before .before .before .before .before .pre) _))
-    (λ c. omega (arith, c .before .before .before .before .before .pre .whole, c .before .before .before .before .before .pre .same))
-    (λ c. omega (arith, as-long (pos 0) (c .before .before .before .before .loop .inv)))
-    (λ c. less-fits (small-from (c .before .before .before .before .before .pre) _) (small-from (c .before .before .before .before .before .pre) _))
-    (λ c. omega (arith, c .before .before .before .before .before .pre .whole, c .before .before .before .before .before .pre .same))
-    (λ c. simp length-set (omega (arith, as-long (pos 0) (c .before .before .before .before .loop .inv))))
-    (λ c. scaled-fits _ (lit≤ tt) (small-from (c .before .before .before .before .before .pre) _))
-    (λ c. without-fits _ (lit≤ tt) (small-from (c .before .before .before .before .before .pre) _) (small-from (c .before .before .before .before .before .pre) _))
-    (λ c. third-fits _ (lit≤ tt) (small-from (c .before .before .before .before .before .pre) _) (small-from (c .before .before .before .before .before .pre) _) (small-from (c .before .before .before .before .before .pre) _))
-    (λ c. omega (arith, c .before .before .before .before .before .pre .whole, c .before .before .before .before .before .pre .same))
-    (λ c. simp length-set (omega (arith, as-long (pos 0) (c .before .before .before .before .loop .inv))))
+    (λ c.
+    let pre = c .before .before .pre in
+    omega (arith, pre .whole, pre .same))
+    (λ c.
+    let pre = c .before .before .pre in
+    omega (arith, pre .whole, pre .same))
+    (λ c.
+    let pre = c .before .before .pre in
+    omega (arith, pre .whole, pre .same))
+    (λ c.
+    let pre = c .before .before .before .pre in
+    omega (arith, pre .whole, pre .same))
+    (λ c.
+    let pre = c .before .before .before .pre in
+    omega (arith, pre .whole, pre .same))
+    (λ c.
+    let pre = c .before .before .before .pre in
+    omega (arith, pre .whole, pre .same))
+    (λ c.
+    let pre = c .before .before .before .before .pre in
+    omega (arith, pre .whole, pre .same))
+    (λ c.
+    let pre = c .before .before .before .before .pre in
+    omega (arith, pre .whole, pre .same))
+    (λ c.
+    let pre = c .before .before .before .before .pre in
+    omega (arith, pre .whole, pre .same))
+    (λ c.
+    let pre = c .before .before .before .before .before .pre in
+    omega (arith, pre .whole, pre .same))
+    (λ c.
+    let pre = c .before .before .before .before .before .pre in
+    omega (arith, pre .whole, pre .same))
+    (λ c.
+    let pre = c .before .before .before .before .before .pre in
+    omega (arith, pre .whole, pre .same))
+    (λ c.
+    let pre = c .before .before .before .before .before .pre in
+    sum-fits (small-from pre _) (small-from pre _))
+    (λ c.
+    let pre = c .before .before .before .before .before .pre in
+    all-fits (small-from pre _) (small-from pre _) (small-from pre _))
+    (λ c.
+    let pre = c .before .before .before .before .before .pre in
+    omega (arith, pre .whole, pre .same))
+    (λ c.
+    let inv = c .before .before .before .before .loop .inv in
+    omega (arith, as-long (pos 0) inv))
+    (λ c.
+    let pre = c .before .before .before .before .before .pre in
+    less-fits (small-from pre _) (small-from pre _))
+    (λ c.
+    let pre = c .before .before .before .before .before .pre in
+    omega (arith, pre .whole, pre .same))
+    (λ c.
+    let inv = c .before .before .before .before .loop .inv in
+    simp length-set (omega (arith, as-long (pos 0) inv)))
+    (λ c.
+    let pre = c .before .before .before .before .before .pre in
+    scaled-fits _ (lit≤ tt) (small-from pre _))
+    (λ c.
+    let pre = c .before .before .before .before .before .pre in
+    without-fits _ (lit≤ tt) (small-from pre _) (small-from pre _))
+    (λ c.
+    let pre = c .before .before .before .before .before .pre in
+    third-fits _ (lit≤ tt) (small-from pre _) (small-from pre _) (small-from pre _))
+    (λ c.
+    let pre = c .before .before .before .before .before .pre in
+    omega (arith, pre .whole, pre .same))
+    (λ c.
+    let inv = c .before .before .before .before .loop .inv in
+    simp length-set (omega (arith, as-long (pos 0) inv)))
     (λ c. omega arith)
     (λ c. omega arith)
-    (λ c. step-three (c .before .before .before .before .before .pre) (c .before .before .before .before .loop .inv) (c .before .before .before .loop-test .taken))
+    (λ c.
+    let pre = c .before .before .before .before .before .pre in
+    let inv = c .before .before .before .before .loop .inv in
+    let inside = c .before .before .before .loop-test .taken in
+    step-three pre inv inside)
     (λ c. as-long (pos 0) (c .before .loop .inv) ∙ sym (c .before .before .pre .same))
-    (λ c. step-ended (c .before .before .pre) (c .before .loop .inv) (c .loop-test .left) ∙ rw (c .before .before .pre .whole) refl))
+    (λ c.
+    let pre = c .before .before .pre in
+    step-ended pre (c .before .loop .inv) (c .loop-test .left) ∙ rw (pre .whole) refl))

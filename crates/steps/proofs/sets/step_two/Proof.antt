@@ -2,9 +2,9 @@ use mathlib.Core.Path.{refl, sym, _∙_}
 use Prim.Native.Nat.{_-_}
 use native.Mathlib.Omega.{arith}
 use lib.ListN.{length-set}
-use Rattle.algebra.specs.Spread.{as-long}
+use Rattle.algebra.specs.Laws.Spread.{as-long}
 use lib.IntN.{pos}
-use Rattle.contrasts.specs.Laws.Turns.{sum-fits, less-fits}
+use Rattle.contrasts.specs.Laws.Sets.{sum-fits, less-fits}
 use Rattle.steps.proofs.Worked.{Stepped, step-begun, step-ended, small-from, step-two}
 use Rattle.steps.proofs.sets.step_two.Statement.{statement}
 use Rattle.steps.proofs.sets.step_two.Tie as tie
@@ -22,21 +22,52 @@ step-two-spec =
     Inv-loop
     μ-loop
     (λ c. step-begun (c .pre))
-    (λ c. omega (arith, c .before .before .pre .whole, c .before .before .pre .same))
-    (λ c. omega (arith, c .before .before .pre .whole, c .before .before .pre .same))
-    (λ c. omega (arith, c .before .before .pre .whole, c .before .before .pre .same))
-    (λ c. omega (arith, c .before .before .before .pre .whole, c .before .before .before .pre .same))
-    (λ c. omega (arith, c .before .before .before .pre .whole, c .before .before .before .pre .same))
-    (λ c. omega (arith, c .before .before .before .pre .whole, c .before .before .before .pre .same))
-    (λ c. omega (arith, c .before .before .before .before .pre .whole, c .before .before .before .before .pre .same))
-    (λ c. sum-fits (small-from (c .before .before .before .before .pre) _) (small-from (c .before .before .before .before .pre) _))
-    (λ c. omega (arith, c .before .before .before .before .pre .whole, c .before .before .before .before .pre .same))
-    (λ c. omega (arith, as-long (pos 0) (c .before .before .before .loop .inv)))
-    (λ c. less-fits (small-from (c .before .before .before .before .pre) _) (small-from (c .before .before .before .before .pre) _))
-    (λ c. omega (arith, c .before .before .before .before .pre .whole, c .before .before .before .before .pre .same))
-    (λ c. simp length-set (omega (arith, as-long (pos 0) (c .before .before .before .loop .inv))))
+    (λ c.
+    let pre = c .before .before .pre in
+    omega (arith, pre .whole, pre .same))
+    (λ c.
+    let pre = c .before .before .pre in
+    omega (arith, pre .whole, pre .same))
+    (λ c.
+    let pre = c .before .before .pre in
+    omega (arith, pre .whole, pre .same))
+    (λ c.
+    let pre = c .before .before .before .pre in
+    omega (arith, pre .whole, pre .same))
+    (λ c.
+    let pre = c .before .before .before .pre in
+    omega (arith, pre .whole, pre .same))
+    (λ c.
+    let pre = c .before .before .before .pre in
+    omega (arith, pre .whole, pre .same))
+    (λ c.
+    let pre = c .before .before .before .before .pre in
+    omega (arith, pre .whole, pre .same))
+    (λ c.
+    let pre = c .before .before .before .before .pre in
+    sum-fits (small-from pre _) (small-from pre _))
+    (λ c.
+    let pre = c .before .before .before .before .pre in
+    omega (arith, pre .whole, pre .same))
+    (λ c.
+    let inv = c .before .before .before .loop .inv in
+    omega (arith, as-long (pos 0) inv))
+    (λ c.
+    let pre = c .before .before .before .before .pre in
+    less-fits (small-from pre _) (small-from pre _))
+    (λ c.
+    let pre = c .before .before .before .before .pre in
+    omega (arith, pre .whole, pre .same))
+    (λ c.
+    let inv = c .before .before .before .loop .inv in
+    simp length-set (omega (arith, as-long (pos 0) inv)))
     (λ c. omega arith)
     (λ c. omega arith)
-    (λ c. step-two (c .before .before .before .before .pre) (c .before .before .before .loop .inv) (c .before .before .loop-test .taken))
+    (λ c.
+    let pre = c .before .before .before .before .pre in
+    let inv = c .before .before .before .loop .inv in
+    step-two pre inv (c .before .before .loop-test .taken))
     (λ c. as-long (pos 0) (c .before .loop .inv) ∙ sym (c .before .before .pre .same))
-    (λ c. step-ended (c .before .before .pre) (c .before .loop .inv) (c .loop-test .left) ∙ rw (c .before .before .pre .whole) refl))
+    (λ c.
+    let pre = c .before .before .pre in
+    step-ended pre (c .before .loop .inv) (c .loop-test .left) ∙ rw (pre .whole) refl))

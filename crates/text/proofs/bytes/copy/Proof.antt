@@ -24,6 +24,9 @@ copy-spec =
     (λ c κs. tt)
     (λ c. omega arith)
     (λ c. omega arith)
-    (λ c. (part-more _ _ (c .before .before .before .before .before .loop-test .taken) (c .before .before .before .before .before .before .loop .inv .0) (c .before .before .put .ensures), omega arith))
+    (λ c.
+    let inv = c .before .before .before .before .before .before .loop .inv in
+    let inside = c .before .before .before .before .before .loop-test .taken in
+    (part-more _ _ inside (inv .0) (c .before .before .put .ensures), omega arith))
     (λ c. same-size (c .before .loop .inv .0))
     (λ c. retext (take-all _ _ (c .loop-test .left)) (c .before .loop .inv .0)))

@@ -22,6 +22,8 @@ letters-spec =
     (λ c κs. omega arith)
     (λ c. omega arith)
     (λ c. omega arith)
-    (λ c. (letter-more _ _ (c .before .before .before .before .before .loop .inv .0) (c .before .before .put-letter .ensures), omega arith))
+    (λ c.
+    let inv = c .before .before .before .before .before .loop .inv in
+    (letter-more _ _ (inv .0) (c .before .before .put-letter .ensures), omega arith))
     (λ c. same-size (c .before .loop .inv .0))
     (λ c. all-letters _ (omega arith) (c .before .loop .inv .0)))

@@ -1,6 +1,6 @@
 use native.Mathlib.Omega.{arith}
 use borrow.Author.Needs.{needs}
-use Rattle.algebra.specs.Tests.{is}
+use Rattle.algebra.specs.Laws.Tests.{is}
 use Rattle.text.specs.Laws.Writing.{with-letter, without-letter}
 use Rattle.text.proofs.bytes.put_letter.Statement.{statement}
 use Rattle.text.proofs.bytes.put_letter.Tie as tie
@@ -13,5 +13,8 @@ put-letter-spec =
     (λ c. omega arith)
     (λ c κs. tt)
     (λ c. search needs)
-    (λ c. with-letter _ _ (is (c .before .before .before .before .before .has-letter .ensures) (c .before .before .before .before .if1 .taken)) (c .before .before .put .ensures))
+    (λ c.
+    let has-letter-is = c .before .before .before .before .before .has-letter .ensures in
+    let if1-taken = c .before .before .before .before .if1 .taken in
+    with-letter _ _ (is has-letter-is if1-taken) (c .before .before .put .ensures))
     (λ c. without-letter _ _ _ _ (is (c .before .has-letter .ensures) (c .if1 .left))))

@@ -1,4 +1,4 @@
-use Rattle.algebra.specs.Signs.{turned-fits, turned-held, turned-sum, upright-held, size-below, size-above}
+use Rattle.algebra.specs.Laws.Signs.{turned-fits, turned-held, turned-sum, upright-held, size-below, size-above}
 use Rattle.text.proofs.numbers.size.Statement.{statement}
 use Rattle.text.proofs.numbers.size.Tie as tie
 

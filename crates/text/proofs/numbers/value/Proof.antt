@@ -12,7 +12,16 @@ value-spec =
     (λ c κs. tt)
     (λ c κs. tt)
     (λ c. search needs)
-    (λ c. signed-below (c .before .before .before .before .before .before .before .before .before .before .before .fits .x) (c .before .before .before .before .before .before .before .before .if1 .taken) (c .before .before .before .before .before .before .before .before .before .size .ensures) (then (c .before .before .before .before .before .before .put .ensures) (c .before .before .number .ensures)))
+    (λ c.
+    let x-fits = c .before .before .before .before .before .before .before .before .before .before .before .fits .x in
+    let size-is = c .before .before .before .before .before .before .before .before .before .size .ensures in
+    let if1-taken = c .before .before .before .before .before .before .before .before .if1 .taken in
+    let put-is = c .before .before .before .before .before .before .put .ensures in
+    signed-below x-fits if1-taken size-is (then put-is (c .before .before .number .ensures)))
     (λ c κs. tt)
     (λ c. search needs)
-    (λ c. signed-above (c .before .before .before .before .before .before .before .fits .x) (c .before .before .before .before .if1 .left) (c .before .before .before .before .before .size .ensures) (c .before .before .number2 .ensures)))
+    (λ c.
+    let x-fits = c .before .before .before .before .before .before .before .fits .x in
+    let size-is = c .before .before .before .before .before .size .ensures in
+    let if1-left = c .before .before .before .before .if1 .left in
+    signed-above x-fits if1-left size-is (c .before .before .number2 .ensures)))

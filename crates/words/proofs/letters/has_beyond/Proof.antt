@@ -9,7 +9,11 @@ pub has-beyond-spec : {M : Type 1} → statement M
 has-beyond-spec =
     tie.close
     (tie.spec
-    (λ c. sym (beyond-most (c .before .args .n) (c .before .args .word) (c .before .fits .word .fits) (c .if1 .taken)))
+    (λ c.
+    let args = c .before .args in
+    sym (beyond-most (args .n) (args .word) (c .before .fits .word .fits) (c .if1 .taken)))
     (λ c. search needs)
     (λ c. omega arith)
-    (λ c. beyond-shifted (c .before .args .n) (c .before .args .word) (c .before .fits .word .fits)))
+    (λ c.
+    let args = c .before .args in
+    beyond-shifted (args .n) (args .word) (c .before .fits .word .fits)))

@@ -1,6 +1,6 @@
 use mathlib.Core.Path.{refl}
 use borrow.Author.Needs.{needs}
-use Rattle.algebra.specs.Bits.{bit-none}
+use Rattle.algebra.specs.Laws.Bits.{bit-none}
 use Rattle.words.proofs.letters.has_letter.Statement.{statement}
 use Rattle.words.proofs.letters.has_letter.Tie as tie
 
@@ -8,7 +8,9 @@ pub has-letter-spec : {M : Type 1} → statement M
 has-letter-spec =
     tie.close
     (tie.spec
-    (λ c. rw (bit-none 16 (c .before .args .word) (c .before .args .i) (c .before .fits .word .fits) (c .if1 .taken)) refl)
+    (λ c.
+    let args = c .before .args in
+    rw (bit-none 16 (args .word) (args .i) (c .before .fits .word .fits) (c .if1 .taken)) refl)
     (λ c. search needs)
     (λ c. search needs)
     (λ c. search needs))

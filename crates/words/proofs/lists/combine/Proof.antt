@@ -24,5 +24,8 @@ combine-spec =
     (λ c κs. tt)
     (λ c. omega arith)
     (λ c. omega arith)
-    (λ c. combining-more (c .before .before .before .before .loop .inv) (c .before .before .before .loop-test .taken) _ (c .before .before .has-letter .ensures) (c .before .shared-slice-known2 .given _ .fits) (c .combine-if .ensures))
+    (λ c.
+    let inv = c .before .before .before .before .loop .inv in
+    let inside = c .before .before .before .loop-test .taken in
+    combining-more inv inside _ (c .before .before .has-letter .ensures) (c .before .shared-slice-known2 .given _ .fits) (c .combine-if .ensures))
     (λ c. combining-end (c .before .loop .inv) (c .loop-test .left)))

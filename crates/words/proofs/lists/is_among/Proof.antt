@@ -3,7 +3,7 @@ use native.Mathlib.Omega.{arith}
 use lib.Dec.{eqb}
 use lib.ListN.{length, getD}
 use borrow.Author.Tests.{eq-eqb, ne-eqb}
-use Rattle.algebra.specs.Search.{Unfound, unfound, onward, found, nowhere}
+use Rattle.algebra.specs.Laws.Searching.{Unfound, unfound, onward, found, nowhere}
 use Rattle.words.specs.Words.{any, among}
 use Rattle.words.proofs.lists.is_among.Statement.{statement}
 use Rattle.words.proofs.lists.is_among.Tie as tie
@@ -24,8 +24,12 @@ is-among-spec =
     (λ c. unfound _ _)
     (λ c. omega arith)
     (λ c. omega arith)
-    (λ c. found (c .before .before .before .loop .inv) (c .before .before .loop-test .taken) (eq-eqb _ _ (c .if1 .taken)))
+    (λ c.
+    let inv = c .before .before .before .loop .inv in
+    found inv (c .before .before .loop-test .taken) (eq-eqb _ _ (c .if1 .taken)))
     (λ c. omega arith)
     (λ c. omega arith)
-    (λ c. onward (c .before .before .before .loop .inv) (c .before .before .loop-test .taken) (ne-eqb _ _ (c .if1 .left)))
+    (λ c.
+    let inv = c .before .before .before .loop .inv in
+    onward inv (c .before .before .loop-test .taken) (ne-eqb _ _ (c .if1 .left)))
     (λ c. nowhere (c .before .loop .inv) (c .loop-test .left)))

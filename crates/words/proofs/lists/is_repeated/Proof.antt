@@ -3,9 +3,9 @@ use Prim.Native.Nat.{_-_}
 use native.Mathlib.Omega.{arith}
 use lib.Seq.{length-take-le}
 use lib.ListN.{length, getD, take}
-use Rattle.algebra.specs.Search.{Unfound, unfound, onward, found, nowhere}
+use Rattle.algebra.specs.Laws.Searching.{Unfound, unfound, onward, found, nowhere}
 use Rattle.words.specs.Words.{among, repeated}
-use Rattle.algebra.specs.Tests.{is}
+use Rattle.algebra.specs.Laws.Tests.{is}
 use Rattle.words.proofs.lists.is_repeated.Statement.{statement}
 use Rattle.words.proofs.lists.is_repeated.Tie as tie
 
@@ -27,8 +27,14 @@ is-repeated-spec =
     (λ c. omega arith)
     (λ c. sym (length-take-le _ _ (omega arith)))
     (λ c κs. tt)
-    (λ c. found (c .before .before .before .before .before .loop .inv) (c .before .before .before .before .loop-test .taken) (is (c .before .is-among .ensures) (c .if1 .taken)))
+    (λ c.
+    let inv = c .before .before .before .before .before .loop .inv in
+    let inside = c .before .before .before .before .loop-test .taken in
+    found inv inside (is (c .before .is-among .ensures) (c .if1 .taken)))
     (λ c. omega arith)
     (λ c. omega arith)
-    (λ c. onward (c .before .before .before .before .before .loop .inv) (c .before .before .before .before .loop-test .taken) (is (c .before .is-among .ensures) (c .if1 .left)))
+    (λ c.
+    let inv = c .before .before .before .before .before .loop .inv in
+    let inside = c .before .before .before .before .loop-test .taken in
+    onward inv inside (is (c .before .is-among .ensures) (c .if1 .left)))
     (λ c. nowhere (c .before .loop .inv) (c .loop-test .left)))

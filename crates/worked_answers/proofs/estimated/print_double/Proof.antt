@@ -8,7 +8,9 @@ print-double-spec =
     tie.close
     (tie.spec
     (λ c κs. search needs)
-    (λ c. no-nan (c .before .before .before .args .value) (c .if1 .taken))
+    (λ c.
+    let args = c .before .before .before .args in
+    no-nan (args .value) (c .if1 .taken))
     (λ c κs. search needs)
     (λ c. search needs)
     (λ c κs. search needs)

@@ -1,7 +1,7 @@
 use native.Mathlib.Omega.{arith}
 use Prim.Native.Nat.{_-_, _≤_}
 use lib.ListN.{length}
-use Rattle.algebra.specs.Size.{widened-fits}
+use Rattle.algebra.specs.Laws.Machine.{widened-fits}
 use Rattle.contrasts.specs.Columns.{read}
 use Rattle.worked_sheets.proofs.lent.count_values.Statement.{statement}
 use Rattle.worked_sheets.proofs.lent.count_values.Tie as tie
@@ -21,7 +21,9 @@ count-values-spec =
     (λ c. omega arith)
     (λ c. omega arith)
     (λ c. omega arith)
-    (λ c. widened-fits (read (c .before .before .before .args .values .now) (c .before .before .loop .i)) (c .counted-arg .given))
+    (λ c.
+    let args = c .before .before .before .args in
+    widened-fits (read (args .values .now) (c .before .before .loop .i)) (c .counted-arg .given))
     (λ c κs. tt)
     (λ c. omega arith)
     (λ c. omega arith)

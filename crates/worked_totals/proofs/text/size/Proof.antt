@@ -1,4 +1,4 @@
-use Rattle.algebra.specs.Signs.{turned-fits, turned-held, turned-sum, upright-held}
+use Rattle.algebra.specs.Laws.Signs.{turned-fits, turned-held, turned-sum, upright-held}
 use Rattle.worked_totals.proofs.text.size.Statement.{statement}
 use Rattle.worked_totals.proofs.text.size.Tie as tie
 

@@ -25,7 +25,9 @@ copy-spec =
     (λ c. omega (arith, ltb-true))
     (λ c. omega arith)
     (λ c. omega arith)
-    (λ c. simp length-set (c .before .before .before .loop .inv))
+    (λ c.
+    let inv = c .before .before .before .loop .inv in
+    simp length-set inv)
     (λ c. omega arith)
     (λ c. tt)
     (λ c. omega arith)

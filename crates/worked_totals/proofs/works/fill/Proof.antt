@@ -3,7 +3,7 @@ use Prim.Native.Nat.{_-_}
 use lib.IntN.{pos}
 use lib.ListN.{length, getD, length-set}
 use borrow.Author.Tests.{ltb-true}
-use Rattle.algebra.specs.Size.{widened-fits}
+use Rattle.algebra.specs.Laws.Machine.{widened-fits}
 use mathlib.Core.Path.{_≡_}
 use Rattle.worked_totals.proofs.works.fill.Statement.{statement}
 use Rattle.worked_totals.proofs.works.fill.Tie as tie
@@ -23,12 +23,17 @@ fill-spec =
     (λ c. omega arith)
     (λ c. omega arith)
     (λ c. omega arith)
-    (λ c. widened-fits (getD (c .before .before .before .before .args .readings .now) (c .before .before .before .loop .i) (pos 0)) (c .column .given))
+    (λ c.
+    let args = c .before .before .before .before .args in
+    let i-now = c .before .before .before .loop .i in
+    widened-fits (getD (args .readings .now) i-now (pos 0)) (c .column .given))
     (λ c. omega arith)
     (λ c. omega (arith, ltb-true))
     (λ c. omega arith)
     (λ c. omega arith)
-    (λ c. simp length-set (c .before .before .before .loop .inv))
+    (λ c.
+    let inv = c .before .before .before .loop .inv in
+    simp length-set inv)
     (λ c. omega arith)
     (λ c. tt)
     (λ c. omega arith)

@@ -14,9 +14,16 @@ pass-spec =
     (tie.spec
     (λ c κs. tt)
     (λ c. search needs)
-    (λ c. stopped tt _ _ (c .before .pass-number .ensures) (c .if1 .taken))
+    (λ c. stopped tt _ _ (c .before .pass-refused .ensures) (c .if1 .taken))
     (λ c. search needs)
     (λ c κs. tt)
-    (λ c κs. pass-ready (pass-admitted _ _ _ (sym (c .before .before .before .before .pass-number .ensures) ∙ c .before .before .before .if1 .left)) (c .before .spacing .ensures))
+    (λ c κs.
+    let pass-refused-is = c .before .before .before .before .pass-refused .ensures in
+    let if1-left = c .before .before .before .if1 .left in
+    pass-ready (pass-admitted _ _ _ (sym pass-refused-is ∙ if1-left)) (c .before .spacing .ensures))
     (λ c. search needs)
-    (λ c. let z = sym (c .before .before .before .before .before .before .pass-number .ensures) ∙ c .before .before .before .before .before .if1 .left in completed tt _ _ z (pass-made (pass-admitted _ _ _ z) (c .before .before .before .spacing .ensures) (c .before .pass-over .ensures))))
+    (λ c.
+    let pass-refused-is = c .before .before .before .before .before .before .pass-refused .ensures in
+    let if1-left = c .before .before .before .before .before .if1 .left in
+    let spacing-is = c .before .before .before .spacing .ensures in
+    let z = sym pass-refused-is ∙ if1-left in completed tt _ _ z (pass-made (pass-admitted _ _ _ z) spacing-is (c .before .pass-over .ensures))))

@@ -17,10 +17,20 @@ all-passes-spec =
     Inv-loop
     μ-loop
     (λ c. all-none (c .pre))
-    (λ c κs. all-ready (c .before .before .before .pre) (c .before .before .loop .inv) (c .before .loop-test .taken))
-    (λ c. omega (arith, spacing-fits (c .before .before .before .before .before .pre) (c .before .before .before .before .loop .inv) (c .before .before .before .loop-test .taken)))
+    (λ c κs.
+    let pre = c .before .before .before .pre in
+    all-ready pre (c .before .before .loop .inv) (c .before .loop-test .taken))
+    (λ c.
+    let pre = c .before .before .before .before .before .pre in
+    let inv = c .before .before .before .before .loop .inv in
+    let inside = c .before .before .before .loop-test .taken in
+    omega (arith, spacing-fits pre inv inside))
     (λ c. omega arith)
     (λ c. omega arith)
-    (λ c. all-more (c .before .before .before .before .before .pre) (c .before .before .before .before .loop .inv) (c .before .before .before .loop-test .taken) (c .before .pass-over .ensures))
+    (λ c.
+    let pre = c .before .before .before .before .before .pre in
+    let inv = c .before .before .before .before .loop .inv in
+    let inside = c .before .before .before .loop-test .taken in
+    all-more pre inv inside (c .before .pass-over .ensures))
     (λ c. all-long (c .before .before .pre) (c .before .loop .inv))
     (λ c. all-done (c .before .before .pre) (c .before .loop .inv) (c .loop-test .left)))

@@ -15,10 +15,18 @@ totals-spec =
     (tie.spec
     (λ c κs. tt)
     (λ c. search needs)
-    (λ c. stopped tt _ _ (c .before .readings-number .ensures) (c .if1 .taken))
+    (λ c. stopped tt _ _ (c .before .readings-refused .ensures) (c .if1 .taken))
     (λ c κs. tt)
     (λ c. search needs)
     (λ c. search needs)
-    (λ c κs. let a = admitted _ _ _ _ (sym (c .before .before .before .before .before .before .before .readings-number .ensures) ∙ c .before .before .before .before .before .before .if1 .left) in rw (copied-over a (c .before .before .before .before .copy .ensures)) (totals-ready a))
+    (λ c κs.
+    let readings-refused-is = c .before .before .before .before .before .before .before .readings-refused .ensures in
+    let if1-left = c .before .before .before .before .before .before .if1 .left in
+    let copy-is = c .before .before .before .before .copy .ensures in
+    let a = admitted _ _ _ _ (sym readings-refused-is ∙ if1-left) in rw (copied-over a copy-is) (totals-ready a))
     (λ c. search needs)
-    (λ c. let z = sym (c .before .before .before .before .before .before .before .before .before .readings-number .ensures) ∙ c .before .before .before .before .before .before .before .before .if1 .left in completed tt _ _ z (c .before .all-passes .ensures ∙ rw (copied-over (admitted _ _ _ _ z) (c .before .before .before .before .before .before .copy .ensures)) refl)))
+    (λ c.
+    let readings-refused-is = c .before .before .before .before .before .before .before .before .before .readings-refused .ensures in
+    let if1-left = c .before .before .before .before .before .before .before .before .if1 .left in
+    let copy-is = c .before .before .before .before .before .before .copy .ensures in
+    let z = sym readings-refused-is ∙ if1-left in completed tt _ _ z (c .before .all-passes .ensures ∙ rw (copied-over (admitted _ _ _ _ z) copy-is) refl)))

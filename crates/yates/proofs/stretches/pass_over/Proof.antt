@@ -19,14 +19,35 @@ pass-over-spec =
     μ-loop
     (λ c. omega (arith, width-fits (c .pre)))
     (λ c. passing-none (c .pre))
-    (λ c. omega (arith, room (c .before .loop .inv) (c .loop-test .taken), room-now (c .before .loop .inv) (c .loop-test .taken)))
-    (λ c. omega (arith, room (c .before .loop .inv) (c .loop-test .taken), room-now (c .before .loop .inv) (c .loop-test .taken)))
-    (λ c. omega (arith, room (c .before .loop .inv) (c .loop-test .taken), room-now (c .before .loop .inv) (c .loop-test .taken)))
-    (λ c. omega (arith, room (c .before .loop .inv) (c .loop-test .taken), room-now (c .before .loop .inv) (c .loop-test .taken)))
+    (λ c.
+    let inv = c .before .loop .inv in
+    omega (arith, room inv (c .loop-test .taken), room-now inv (c .loop-test .taken)))
+    (λ c.
+    let inv = c .before .loop .inv in
+    omega (arith, room inv (c .loop-test .taken), room-now inv (c .loop-test .taken)))
+    (λ c.
+    let inv = c .before .loop .inv in
+    omega (arith, room inv (c .loop-test .taken), room-now inv (c .loop-test .taken)))
+    (λ c.
+    let inv = c .before .loop .inv in
+    omega (arith, room inv (c .loop-test .taken), room-now inv (c .loop-test .taken)))
     (λ c. room-now (c .before .loop .inv) (c .loop-test .taken))
-    (λ c κs. next-stretch (c .before .before .loop .inv) (c .before .loop-test .taken) (c .before .before .before .pre))
-    (λ c. omega (arith, room (c .before .before .before .before .loop .inv) (c .before .before .before .loop-test .taken)))
-    (λ c. shorter (c .before .before .before .before .loop .inv) (c .before .before .before .loop-test .taken) (c .before .before .before .before .before .pre))
-    (λ c. passing-more (c .before .before .before .before .loop .inv) (c .before .before .before .loop-test .taken) (c .before .before .before .before .before .pre) _ (c .before .stretch .ensures))
+    (λ c κs.
+    let pre = c .before .before .before .pre in
+    next-stretch (c .before .before .loop .inv) (c .before .loop-test .taken) pre)
+    (λ c.
+    let inv = c .before .before .before .before .loop .inv in
+    let inside = c .before .before .before .loop-test .taken in
+    omega (arith, room inv inside))
+    (λ c.
+    let pre = c .before .before .before .before .before .pre in
+    let inv = c .before .before .before .before .loop .inv in
+    let inside = c .before .before .before .loop-test .taken in
+    shorter inv inside pre)
+    (λ c.
+    let pre = c .before .before .before .before .before .pre in
+    let inv = c .before .before .before .before .loop .inv in
+    let inside = c .before .before .before .loop-test .taken in
+    passing-more inv inside pre _ (c .before .stretch .ensures))
     (λ c. as-long (c .before .loop .inv))
     (λ c. passing-all (c .before .loop .inv) (c .loop-test .left)))

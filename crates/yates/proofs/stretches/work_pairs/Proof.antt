@@ -2,9 +2,9 @@ use mathlib.Core.Path.{sym, _∙_}
 use Prim.Native.Nat.{_-_}
 use native.Mathlib.Omega.{arith}
 use lib.ListN.{length-set}
-use Rattle.algebra.specs.Spread.{as-long}
+use Rattle.algebra.specs.Laws.Spread.{as-long}
 use lib.IntN.{pos}
-use Rattle.contrasts.specs.Laws.Turns.{sum-fits, less-fits}
+use Rattle.contrasts.specs.Laws.Sets.{sum-fits, less-fits}
 use Rattle.yates.proofs.Worked.{Stretched, stretch-begun, stretch-ended, pair, stretch-two}
 use Rattle.yates.proofs.stretches.work_pairs.Statement.{statement}
 use Rattle.yates.proofs.stretches.work_pairs.Tie as tie
@@ -25,16 +25,35 @@ work-pairs-spec =
     (λ c. omega (arith, c .before .before .pre .whole))
     (λ c. omega (arith, c .before .before .pre .whole))
     (λ c. omega (arith, as-long (pos 0) (c .before .loop .inv)))
-    (λ c. omega (arith, c .before .before .before .pre .whole))
+    (λ c.
+    let pre = c .before .before .before .pre in
+    omega (arith, pre .whole))
     (λ c. omega (arith, as-long (pos 0) (c .before .before .loop .inv)))
-    (λ c. let s = pair (c .before .before .before .before .pre) (c .before .before .before .loop .inv) (c .before .before .loop-test .taken) in sum-fits (s .0) (s .1))
-    (λ c. omega (arith, c .before .before .before .before .pre .whole))
-    (λ c. omega (arith, as-long (pos 0) (c .before .before .before .loop .inv)))
-    (λ c. let s = pair (c .before .before .before .before .pre) (c .before .before .before .loop .inv) (c .before .before .loop-test .taken) in search (less-fits, s .0, s .1))
-    (λ c. omega (arith, c .before .before .before .before .pre .whole))
-    (λ c. simp length-set (omega (arith, as-long (pos 0) (c .before .before .before .loop .inv))))
+    (λ c.
+    let pre = c .before .before .before .before .pre in
+    let inv = c .before .before .before .loop .inv in
+    let s = pair pre inv (c .before .before .loop-test .taken) in sum-fits (s .0) (s .1))
+    (λ c.
+    let pre = c .before .before .before .before .pre in
+    omega (arith, pre .whole))
+    (λ c.
+    let inv = c .before .before .before .loop .inv in
+    omega (arith, as-long (pos 0) inv))
+    (λ c.
+    let pre = c .before .before .before .before .pre in
+    let inv = c .before .before .before .loop .inv in
+    let s = pair pre inv (c .before .before .loop-test .taken) in search (less-fits, s .0, s .1))
+    (λ c.
+    let pre = c .before .before .before .before .pre in
+    omega (arith, pre .whole))
+    (λ c.
+    let inv = c .before .before .before .loop .inv in
+    simp length-set (omega (arith, as-long (pos 0) inv)))
     (λ c. omega arith)
     (λ c. omega arith)
-    (λ c. stretch-two (c .before .before .before .before .pre) (c .before .before .before .loop .inv) (c .before .before .loop-test .taken))
+    (λ c.
+    let pre = c .before .before .before .before .pre in
+    let inv = c .before .before .before .loop .inv in
+    stretch-two pre inv (c .before .before .loop-test .taken))
     (λ c. as-long (pos 0) (c .before .loop .inv) ∙ sym (c .before .before .pre .whole))
     (λ c. stretch-ended (c .before .before .pre) (c .before .loop .inv) (c .loop-test .left)))

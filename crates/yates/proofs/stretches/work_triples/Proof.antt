@@ -3,9 +3,9 @@ use mathlib.Core.Path.{sym, _∙_}
 use Prim.Native.Nat.{_-_}
 use native.Mathlib.Omega.{arith}
 use lib.ListN.{length-set}
-use Rattle.algebra.specs.Spread.{as-long}
+use Rattle.algebra.specs.Laws.Spread.{as-long}
 use lib.IntN.{pos}
-use Rattle.contrasts.specs.Laws.Turns.{sum-fits, less-fits, all-fits, scaled-fits, without-fits, third-fits}
+use Rattle.contrasts.specs.Laws.Sets.{sum-fits, less-fits, all-fits, scaled-fits, without-fits, third-fits}
 use Rattle.yates.proofs.Worked.{Stretched, stretch-begun, stretch-ended, triple, stretch-three}
 use Rattle.yates.proofs.stretches.work_triples.Statement.{statement}
 use Rattle.yates.proofs.stretches.work_triples.Tie as tie
@@ -28,24 +28,70 @@ work-triples-spec =
     (λ c. omega (arith, c .before .before .pre .whole))
     (λ c. omega (arith, c .before .before .pre .whole))
     (λ c. omega (arith, as-long (pos 0) (c .before .loop .inv)))
-    (λ c. omega (arith, c .before .before .before .pre .whole))
+    (λ c.
+    let pre = c .before .before .before .pre in
+    omega (arith, pre .whole))
     (λ c. omega (arith, as-long (pos 0) (c .before .before .loop .inv)))
-    (λ c. omega (arith, c .before .before .before .before .pre .whole))
-    (λ c. omega (arith, as-long (pos 0) (c .before .before .before .loop .inv)))
-    (λ c. let s = triple (c .before .before .before .before .before .pre) (c .before .before .before .before .loop .inv) (c .before .before .before .loop-test .taken) in sum-fits (s .0) (s .1))
-    (λ c. let s = triple (c .before .before .before .before .before .pre) (c .before .before .before .before .loop .inv) (c .before .before .before .loop-test .taken) in all-fits (s .0) (s .1) (s .2))
-    (λ c. omega (arith, c .before .before .before .before .before .pre .whole))
-    (λ c. omega (arith, as-long (pos 0) (c .before .before .before .before .loop .inv)))
-    (λ c. let s = triple (c .before .before .before .before .before .pre) (c .before .before .before .before .loop .inv) (c .before .before .before .loop-test .taken) in less-fits (s .0) (s .2))
-    (λ c. omega (arith, c .before .before .before .before .before .pre .whole))
-    (λ c. simp length-set (omega (arith, as-long (pos 0) (c .before .before .before .before .loop .inv))))
-    (λ c. let s = triple (c .before .before .before .before .before .pre) (c .before .before .before .before .loop .inv) (c .before .before .before .loop-test .taken) in scaled-fits _ (lit≤ tt) (s .1))
-    (λ c. let s = triple (c .before .before .before .before .before .pre) (c .before .before .before .before .loop .inv) (c .before .before .before .loop-test .taken) in without-fits _ (lit≤ tt) (s .0) (s .1))
-    (λ c. let s = triple (c .before .before .before .before .before .pre) (c .before .before .before .before .loop .inv) (c .before .before .before .loop-test .taken) in third-fits _ (lit≤ tt) (s .0) (s .1) (s .2))
-    (λ c. omega (arith, c .before .before .before .before .before .pre .whole))
-    (λ c. simp length-set (omega (arith, as-long (pos 0) (c .before .before .before .before .loop .inv))))
+    (λ c.
+    let pre = c .before .before .before .before .pre in
+    omega (arith, pre .whole))
+    (λ c.
+    let inv = c .before .before .before .loop .inv in
+    omega (arith, as-long (pos 0) inv))
+    (λ c.
+    let pre = c .before .before .before .before .before .pre in
+    let inv = c .before .before .before .before .loop .inv in
+    let inside = c .before .before .before .loop-test .taken in
+    let s = triple pre inv inside in sum-fits (s .0) (s .1))
+    (λ c.
+    let pre = c .before .before .before .before .before .pre in
+    let inv = c .before .before .before .before .loop .inv in
+    let inside = c .before .before .before .loop-test .taken in
+    let s = triple pre inv inside in all-fits (s .0) (s .1) (s .2))
+    (λ c.
+    let pre = c .before .before .before .before .before .pre in
+    omega (arith, pre .whole))
+    (λ c.
+    let inv = c .before .before .before .before .loop .inv in
+    omega (arith, as-long (pos 0) inv))
+    (λ c.
+    let pre = c .before .before .before .before .before .pre in
+    let inv = c .before .before .before .before .loop .inv in
+    let inside = c .before .before .before .loop-test .taken in
+    let s = triple pre inv inside in less-fits (s .0) (s .2))
+    (λ c.
+    let pre = c .before .before .before .before .before .pre in
+    omega (arith, pre .whole))
+    (λ c.
+    let inv = c .before .before .before .before .loop .inv in
+    simp length-set (omega (arith, as-long (pos 0) inv)))
+    (λ c.
+    let pre = c .before .before .before .before .before .pre in
+    let inv = c .before .before .before .before .loop .inv in
+    let inside = c .before .before .before .loop-test .taken in
+    let s = triple pre inv inside in scaled-fits _ (lit≤ tt) (s .1))
+    (λ c.
+    let pre = c .before .before .before .before .before .pre in
+    let inv = c .before .before .before .before .loop .inv in
+    let inside = c .before .before .before .loop-test .taken in
+    let s = triple pre inv inside in without-fits _ (lit≤ tt) (s .0) (s .1))
+    (λ c.
+    let pre = c .before .before .before .before .before .pre in
+    let inv = c .before .before .before .before .loop .inv in
+    let inside = c .before .before .before .loop-test .taken in
+    let s = triple pre inv inside in third-fits _ (lit≤ tt) (s .0) (s .1) (s .2))
+    (λ c.
+    let pre = c .before .before .before .before .before .pre in
+    omega (arith, pre .whole))
+    (λ c.
+    let inv = c .before .before .before .before .loop .inv in
+    simp length-set (omega (arith, as-long (pos 0) inv)))
     (λ c. omega arith)
     (λ c. omega arith)
-    (λ c. stretch-three (c .before .before .before .before .before .pre) (c .before .before .before .before .loop .inv) (c .before .before .before .loop-test .taken))
+    (λ c.
+    let pre = c .before .before .before .before .before .pre in
+    let inv = c .before .before .before .before .loop .inv in
+    let inside = c .before .before .before .loop-test .taken in
+    stretch-three pre inv inside)
     (λ c. as-long (pos 0) (c .before .loop .inv) ∙ sym (c .before .before .pre .whole))
     (λ c. stretch-ended (c .before .before .pre) (c .before .loop .inv) (c .loop-test .left)))

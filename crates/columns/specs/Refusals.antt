@@ -1,0 +1,44 @@
+-- Refusals 11 and 12 of the table of refusals, of a column; and what a call that writes a column answers.
+--
+--   wrongLength p n               refusal 11: a column of n places is not N long
+--   isBeyond, anyBeyond limit xs  refusal 12: a value beyond a limit, and a column that has one
+--   columnsRefusals limit p xs ys    the refusals, besides those of the plan, of a call that reads the column xs and writes the column ys
+--   columnsRefused limit p xs ys   its lowest number that applies, 0 where it is done
+--   answerOutcome                 the cases of the answer
+use mathlib.Core.Bool.{Bool, not, _||_}
+use mathlib.Core.List.{List, [], _∷_}
+use Prim.Native.Nat.{ℕ}
+use lib.Dec.{eqb, ltb}
+use lib.IntN.{ℤ, natAbs}
+use lib.ListN.{length}
+use Rattle.algebra.specs.Search.{some}
+use Rattle.contrasts.specs.Columns.{read}
+use Rattle.plan.specs.declared.types.Plan.{Plan}
+use Rattle.plan.specs.Check.{withPlan}
+use Rattle.plan.specs.Outcome.{Refusal, refusal, Outcome, given, refused}
+use Rattle.plan.specs.Plan.{runsOf}
+use Rattle.columns.specs.declared.types.Answer.{Answer}
+use Rattle.columns.specs.declared.types.Answer.the-variants.{Done, Refused}
+
+-- 11: "readings, totals [..] not N [..] long; pass or step column not N"
+unfoldable pub wrongLength : Plan → ℕ → Bool
+wrongLength p n = not (eqb n (runsOf p))
+
+-- 12: "reading beyond 100,000 either way; [..] pass or step value beyond 409,600,000 either way"
+unfoldable pub isBeyond : ℕ → ℤ → Bool
+isBeyond limit z = ltb limit (natAbs z)
+
+unfoldable pub anyBeyond : ℕ → List ℤ → Bool
+anyBeyond limit xs = some (length xs) (λ i. isBeyond limit (read xs i))
+
+-- a call that reads one column and writes another goes by their lengths, and by the values that it reads; the column that it writes may hold any
+abbrev pub columnsRefusals : ℕ → Plan → List ℤ → List ℤ → List Refusal
+columnsRefusals limit p xs ys = refusal 11 (wrongLength p (length xs) || wrongLength p (length ys)) ∷ refusal 12 (anyBeyond limit xs) ∷ []
+
+unfoldable pub columnsRefused : ℕ → Plan → List ℤ → List ℤ → ℕ
+columnsRefused limit p xs ys = withPlan p (columnsRefusals limit p xs ys)
+
+-- what a call makes is in the column, so the answer has no values
+abbrev pub answerOutcome : Answer → Outcome Unit
+answerOutcome Done = given tt
+answerOutcome (Refused n) = refused n

@@ -1,0 +1,135 @@
+-- The text of a table, and of what the table call answers.
+--
+--   table-lines                  the lines of a table, one after the other
+--   refused-text, given-text     what is printed with a number, and with none
+--   rows-ready                   the rows that the table call writes
+--   made-text, stopped-text      the text of a table that is made, and of one that is refused
+--   few-runs, readings-long, few-rows    the parts that are lent to the table call
+--   lent-text                    the text of an accepted sheet's table
+use mathlib.Core.Path.{_≡_, refl, sym, ap, ap₂, _∙_}
+use mathlib.Core.List.{List}
+use Prim.Native.Nat.{ℕ, _^_, _<_, _≤_}
+use native.Mathlib.Omega.{arith}
+use borrow.Author.Tests.{eq-eqb, ne-eqb}
+use lib.IntN.{ℤ}
+use lib.ListN.{length, take}
+use lib.Seq.{length-take-le}
+use lib.Signed.{mag}
+use Rattle.algebra.specs.Laws.Machine.{wrap, kept}
+use Rattle.algebra.specs.Laws.Tab.{length-tab}
+use Rattle.contrasts.specs.Columns.{read}
+use Rattle.contrasts.specs.Rows.{rowNumerator}
+use Rattle.plan.specs.declared.types.Plan.{Plan}
+use Rattle.plan.specs.Outcome.{outcome}
+use Rattle.plan.specs.Check.{runCount}
+use Rattle.plan.specs.Plan.{factorsOf, runsOf}
+use Rattle.plan.specs.Laws.Answers.{written-new, given-is, refused-is}
+use Rattle.plan.specs.Laws.Sizes.{run-count, runs-few}
+use Rattle.rows.specs.Kinds.{rowsIn, rowCount}
+use Rattle.rows.specs.Laws.Rows.{row-count, rows-few}
+use Rattle.text.specs.Text.{ascii, Wrote}
+use Rattle.text.specs.Laws.Writing.{then, retext}
+use Rattle.lines.specs.Lines.{namedLine, sourceLine, checkLine}
+use Rattle.anova.specs.declared.types.Figures.{Figures}
+use Rattle.anova.specs.declared.types.Table.{Table}
+use Rattle.anova.specs.declared.types.Table.the-variants.{Made, Refused}
+use Rattle.anova.specs.Table.{tableRefused, tableFigures, tableRows, tableOutcome, rowsOf}
+use Rattle.anova.specs.Laws.Admitted.{table-admitted, table-admits}
+use Rattle.printing.specs.Inner.Ready.{RowsReady, SheetReady}
+use Rattle.printing.specs.Printed.{rowLines, tableText, printed}
+
+-- ---- the lines
+
+module _ {a b c d e g h : List ℕ} {at p1 p2 p3 p4 p5 p6 : ℕ} where
+  pub table-lines : {p : Plan} {rows : List ℕ} → RowsReady p rows → (marks : List ℕ) (f : Figures)
+      → Wrote a at (namedLine (ascii "over") (f .denominator)) b p1
+      → Wrote b p1 (rowLines p marks rows (length rows)) c p2
+      → Wrote c p2 (sourceLine (ascii "blocks") (f .blocks .degrees) (f .blocks .numerator)) d p3
+      → Wrote d p3 (sourceLine (ascii "error") (f .error .degrees) (f .error .numerator)) e p4
+      → Wrote e p4 (sourceLine (ascii "total") (f .total .degrees) (f .total .numerator)) g p5
+      → mag (f .checks .totals) < 2 ^ 63 → mag (f .checks .readings) < 2 ^ 63
+      → Wrote g p5 (checkLine (wrap (f .checks .totals)) (wrap (f .checks .readings))) h p6
+      → Wrote a at (tableText p marks f rows) h p6
+  unfolding tableText
+  table-lines {p} {rows} ready marks f u v w x y m n z =
+      let both = ap₂ checkLine (kept (f .checks .totals) m) (kept (f .checks .readings) n) in
+      then u (then (retext (ap (rowLines p marks rows) (ready .long)) v) (then w (then x (then y (retext both z)))))
+
+-- ---- with a number, or with none
+
+module _ {a b : List ℕ} {at next n : ℕ} (t : List ℕ) where
+  pub given-text : n ≡ 0 → Wrote a at t b next → Wrote a at (printed n t) b next
+  unfolding printed
+  given-text z w = rw (eq-eqb n 0 z) w
+
+  pub refused-text : {m : ℕ} → m ≡ n → (n ≡ 0 → ⊥) → Wrote a at (namedLine (ascii "refused") m) b next → Wrote a at (printed n t) b next
+  unfolding printed
+  refused-text e h w = rw (ne-eqb n 0 h) (retext (ap (namedLine (ascii "refused")) e) w)
+
+-- ---- what the table call answers
+
+module _ (p : Plan) (readings : List ℤ) (marks : List ℕ) (totals : List ℤ) (rows : List ℕ) where
+  abbrev number : ℕ
+  number = tableRefused p readings marks totals rows
+
+  module _ {r : Table} (told : tableOutcome r ≡ outcome number (tableFigures p readings marks)) where
+    module _ {f : Figures} (is : r ≡ Made f) where
+      made : (number ≡ 0) × (f ≡ tableFigures p readings marks)
+      made = given-is number (tableFigures p readings marks) (ap tableOutcome (sym is) ∙ told)
+
+      module _ {after : List ℕ} (leaves : after ≡ tableRows p readings marks totals rows) where
+        rows-are : after ≡ rowsOf p readings
+        unfolding tableRows
+        rows-are = leaves ∙ sym (written-new number (rowsOf p readings) rows (made .0))
+
+        pub rows-ready : RowsReady p after
+        unfolding rowsOf
+        rows-ready =
+            record {
+              plan = table-admitted p readings marks totals rows (made .0) .plan;
+              long = ap length rows-are ∙ length-tab (rowsIn p) (rowNumerator (factorsOf p) (read readings));
+            }
+
+        pub made-text : {a b : List ℕ} {at next : ℕ} → Wrote a at (tableText p marks f after) b next
+            → Wrote a at (printed number (tableText p marks (tableFigures p readings marks) (rowsOf p readings))) b next
+        made-text w =
+            given-text (tableText p marks (tableFigures p readings marks) (rowsOf p readings)) (made .0)
+            (retext (ap (λ g. tableText p marks g after) (made .1) ∙ ap (tableText p marks (tableFigures p readings marks)) rows-are) w)
+
+    pub stopped-text : {n : ℕ} → r ≡ Refused n → {a b : List ℕ} {at next : ℕ} (t : List ℕ) → Wrote a at (namedLine (ascii "refused") n) b next
+        → Wrote a at (printed number t) b next
+    stopped-text is t w =
+        let s = refused-is number (tableFigures p readings marks) (ap tableOutcome (sym is) ∙ told) in
+        refused-text t (s .0) (s .1) w
+
+-- ---- an accepted sheet
+
+module _ {p : Plan} {column : List ℤ} {marks : List ℕ} (ready : SheetReady p column marks) where
+  module _ {n : ℕ} (is : n ≡ runCount p) where
+    runs-are : n ≡ runsOf p
+    runs-are = is ∙ run-count p (ready .plan)
+
+    pub few-runs : n ≤ 1024
+    few-runs = rw runs-are (runs-few p (ready .plan))
+
+    pub readings-long : length (take n column) ≡ n
+    readings-long = length-take-le n column (omega (arith, few-runs, ready .wide))
+
+  module _ {r : ℕ} (is : r ≡ rowCount p) where
+    rows-count : r ≡ rowsIn p
+    rows-count = is ∙ row-count p (ready .plan)
+
+    pub few-rows : r ≤ 1024
+    few-rows = rw rows-count (rows-few p (ready .plan))
+
+  pub lent-text : {n r : ℕ} → n ≡ runCount p → r ≡ rowCount p → (totals : List ℤ) (rows : List ℕ) {a b : List ℕ} {at next : ℕ}
+      → Wrote a at (printed (tableRefused p (take n column) marks totals rows) (tableText p marks (tableFigures p (take n column) marks) (rowsOf p (take n column)))) b next
+      → length totals ≡ n → length rows ≡ r
+      → Wrote a at (tableText p marks (tableFigures p (take (runsOf p) column) marks) (rowsOf p (take (runsOf p) column))) b next
+  unfolding printed
+  lent-text {n} {r} d e totals rows w l m =
+      let long = runs-are d in
+      let z =
+      table-admits p (take n column) marks totals rows (ready .plan) (readings-long d ∙ long) (l ∙ long) (m ∙ rows-count e) (ready .marks-long)
+      (rw long (ready .within)) (ready .lawful) in
+      retext (rw (z, long) refl) w

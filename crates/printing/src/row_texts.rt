@@ -1,0 +1,37 @@
+// The lines of all rows.
+ghost use mathlib.Core.Path.{_≡_};
+ghost use lib.ListN.{length};
+use lines::row_line;
+use plan::Plan;
+use rows::kinds;
+use words::count_letters;
+ghost use Rattle.text.specs.Text.{Wrote};
+ghost use Rattle.printing.specs.Inner.Ready.{RowsReady};
+ghost use Rattle.printing.specs.Printed.{rowLines};
+ghost use Rattle.printing.specs.Inner.Written.{degreesBy};
+
+// 1 at two levels, and at three 2 for each letter multiplied.
+fn degrees(levels: u8, row: u16) -> u64
+    ensures { λ r. ⌜ r ≡ degreesBy levels row ⌝ }
+{
+    if levels == 2 {
+        return 1;
+    }
+    1u64 << count_letters(row)
+}
+
+pub fn row_lines(text: &mut [u8], at: usize, p: Plan, marks: &[u8], rows: &[u64]) -> usize
+    requires { ⌜ RowsReady p (now rows) ⌝ }
+    ensures { λ r. ⌜ Wrote (now (text .entry)) at (rowLines p (now (marks .entry)) (now (rows .entry)) (length (now (rows .entry)))) (now (text .exit)) r ⌝ }
+{
+    let levels = p.levels;
+    let kinds = kinds(p, marks);
+    let mut next = at;
+    let mut i = 0;
+    while i < rows.len() {
+        let row = i as u16;
+        next = row_line(text, next, row, degrees(levels, row), rows[i], kinds[i]);
+        i += 1;
+    }
+    next
+}

@@ -1,0 +1,16 @@
+-- What is written is read back.
+--
+--   Bytes        the bytes of numbers give the numbers
+--   Back         the bytes of fields give the fields
+--   Each         fields of one tag, one after the other
+--   Plans        the plan that is read back
+--   Readings     the readings that are read back
+--   Plain        what is written are bytes
+--   RoundTrip    the law on the whole sheet
+pub mod Bytes
+pub mod Back
+pub mod Each
+pub mod Plans
+pub mod Readings
+pub mod Plain
+pub mod RoundTrip

@@ -1,0 +1,156 @@
+-- The plan that is read back.
+--
+--   Shaped p         the plan's arrays have their places, and its words 16 letters
+--   settled-alike    a plan and the same with 0 beyond its counts are alike
+--   Clean p, settled-same    a plan that has 0 there stays as it is
+--   plan-back        what is read of the fields that are written
+--   Bodies, the-bodies    the bodies of these fields
+use mathlib.Core.Path.{_≡_, refl, sym, ap, _∙_}
+use mathlib.Core.Bool.{cond}
+use mathlib.Core.List.{List, [], _∷_, _++_}
+use Prim.Native.Nat.{ℕ, _+_, _-_, _≤_, _<_}
+use native.Mathlib.Decide.{decLt}
+use native.Mathlib.Nat.{add-zero}
+use native.Mathlib.Omega.{arith}
+use borrow.Author.Tests.{lt-ltb, le-ltb}
+use lib.Dec.{ltb}
+use lib.IntN.{ℤ}
+use lib.ListN.{length, getD, take}
+use lib.Seq.{length-take-le, getD-take}
+use Rattle.algebra.specs.Tab.{tab}
+use Rattle.algebra.specs.Laws.Tab.{length-tab, getD-tab, is-tab, tab-cong}
+use Rattle.plan.specs.declared.types.Plan.{Plan}
+use Rattle.plan.specs.Laws.Alike.{Alike}
+use Rattle.numerals.specs.Numbers.{big}
+use Rattle.fields.specs.Fields.{Fields, end, field, bodies, bodyAt}
+use Rattle.contents.specs.Contents.{byteAt, wordIn, planIn}
+use Rattle.writing.specs.Writer.{bytes, each, readingBytes, addedBody, blockBody, sheetFields, settled}
+use Rattle.writing.specs.Laws.Bytes.{two-back}
+use Rattle.writing.specs.Laws.Each.{each-other, each-count, each-at, each-past}
+
+-- "A word is a 16-bit set of base letters"; 6 places for added factors, 4 for block words
+pub record Shaped (p : Plan) : Type 0 where
+  pub words-long : length (p .words) ≡ 6
+  pub signs-long : length (p .signs) ≡ 6
+  pub blockwords-long : length (p .blockwords) ≡ 4
+  pub words-fit : (i : ℕ) → getD (p .words) i 0 < 65536
+  pub blockwords-fit : (i : ℕ) → getD (p .blockwords) i 0 < 65536
+
+-- ---- 0 beyond the counts
+
+front : (m n : ℕ) (ws : List ℕ) → length ws ≡ m → n ≤ m → take n (tab m (λ i. cond (ltb i n) (getD ws i 0) 0)) ≡ take n ws
+front m n ws l h =
+    is-tab 0 (take n (tab m upto)) n (λ i. getD ws i 0) (length-take-le n (tab m upto) (rw (length-tab m upto) h)) so
+    ∙ sym (is-tab 0 (take n ws) n (λ i. getD ws i 0) (length-take-le n ws (rw l h)) (λ i k. getD-take n ws i 0 k))
+  where
+    upto : ℕ → ℕ
+    upto i = cond (ltb i n) (getD ws i 0) 0
+
+    so : (i : ℕ) → i < n → getD (take n (tab m upto)) i 0 ≡ getD ws i 0
+    so i k = getD-take n (tab m upto) i 0 k ∙ getD-tab 0 m upto i (omega arith) ∙ rw (lt-ltb i n k) refl
+
+pub settled-alike : (p : Plan) → Shaped p → p .added ≤ 6 → p .blocks ≤ 4 → Alike (settled p) p
+unfolding settled
+settled-alike p s h k = record {
+  levels = refl;
+  k = refl;
+  added = refl;
+  words = front 6 (p .added) (p .words) (s .words-long) h;
+  signs = front 6 (p .added) (p .signs) (s .signs-long) h;
+  blocks = refl;
+  blockwords = front 4 (p .blocks) (p .blockwords) (s .blockwords-long) k;
+}
+
+pub record Clean (p : Plan) : Type 0 where
+  pub words : (i : ℕ) → p .added ≤ i → getD (p .words) i 0 ≡ 0
+  pub signs : (i : ℕ) → p .added ≤ i → getD (p .signs) i 0 ≡ 0
+  pub blockwords : (i : ℕ) → p .blocks ≤ i → getD (p .blockwords) i 0 ≡ 0
+
+stays : (m n : ℕ) (ws : List ℕ) → length ws ≡ m → ((i : ℕ) → n ≤ i → getD ws i 0 ≡ 0) → tab m (λ i. cond (ltb i n) (getD ws i 0) 0) ≡ ws
+stays m n ws l h = sym (is-tab 0 ws m (λ i. cond (ltb i n) (getD ws i 0) 0) l (λ i k. by i (decLt i n)))
+  where
+    by : (i : ℕ) → Dec (i < n) → getD ws i 0 ≡ cond (ltb i n) (getD ws i 0) 0
+    by i (yes k) = rw (lt-ltb i n k) refl
+    by i (no k) = rw (le-ltb i n (omega arith)) (h i (omega arith))
+
+pub settled-same : (p : Plan) → Shaped p → Clean p → settled p ≡ p
+unfolding settled
+settled-same p s c = λ i. record {
+  levels = p .levels;
+  k = p .k;
+  added = p .added;
+  words = stays 6 (p .added) (p .words) (s .words-long) (c .words) i;
+  signs = stays 6 (p .added) (p .signs) (s .signs-long) (c .signs) i;
+  blocks = p .blocks;
+  blockwords = stays 4 (p .blocks) (p .blockwords) (s .blockwords-long) (c .blockwords) i;
+}
+
+-- ---- the bodies of the fields that are written
+
+module _ (p : Plan) (xs : List ℤ) (marks : List ℕ) where
+  abbrev after-blocks : Fields
+  after-blocks = field 4 (readingBytes xs) (field 5 marks end)
+
+  abbrev after-added : Fields
+  after-added = each 3 (p .blocks) (blockBody p) after-blocks
+
+  pub record Bodies : Type 0 where
+    pub ones : bodies 1 (sheetFields p xs marks) ≡ (p .levels ∷ p .k ∷ []) ∷ []
+    pub twos : bodies 2 (sheetFields p xs marks) ≡ bodies 2 (each 2 (p .added) (addedBody p) after-added)
+    pub no-twos : bodies 2 after-added ≡ []
+    pub threes : bodies 3 (sheetFields p xs marks) ≡ bodies 3 after-added
+    pub no-threes : bodies 3 after-blocks ≡ []
+    pub fours : bodies 4 (sheetFields p xs marks) ≡ readingBytes xs ∷ []
+    pub fives : bodies 5 (sheetFields p xs marks) ≡ marks ∷ []
+
+  pub the-bodies : Bodies
+  unfolding sheetFields bodies
+  the-bodies = record {
+    ones = ap (λ bs. (p .levels ∷ p .k ∷ []) ∷ bs) (each-other 2 (p .added) (addedBody p) after-added 1 (λ e. omega (arith, e)) ∙ each-other 3 (p .blocks) (blockBody p) after-blocks 1 (λ e. omega (arith, e)));
+    twos = refl;
+    no-twos = each-other 3 (p .blocks) (blockBody p) after-blocks 2 (λ e. omega (arith, e));
+    threes = each-other 2 (p .added) (addedBody p) after-added 3 (λ e. omega (arith, e));
+    no-threes = refl;
+    fours = each-other 2 (p .added) (addedBody p) after-added 4 (λ e. omega (arith, e)) ∙ each-other 3 (p .blocks) (blockBody p) after-blocks 4 (λ e. omega (arith, e));
+    fives = each-other 2 (p .added) (addedBody p) after-added 5 (λ e. omega (arith, e)) ∙ each-other 3 (p .blocks) (blockBody p) after-blocks 5 (λ e. omega (arith, e));
+  }
+
+-- what is taken of each body, for m places
+placed : (t n m : ℕ) (body : ℕ → List ℕ) (rest : Fields) (g : List ℕ → ℕ) (v : ℕ → ℕ) → bodies t rest ≡ [] → g [] ≡ 0 → ((i : ℕ) → g (body i) ≡ v i)
+    → tab m (λ i. g (getD (bodies t (each t n body rest)) i [])) ≡ tab m (λ i. cond (ltb i n) (v i) 0)
+placed t n m body rest g v none zero-of is = tab-cong 0 m _ _ (λ i k. by i (decLt i n))
+  where
+    by : (i : ℕ) → Dec (i < n) → g (getD (bodies t (each t n body rest)) i []) ≡ cond (ltb i n) (v i) 0
+    by i (yes h) = rw (lt-ltb i n h, each-at t n body rest i h) (is i)
+    by i (no h) = rw (le-ltb i n (omega arith), each-past t n body rest i (omega arith), none) zero-of
+
+word-of : (w : ℕ) (more : List ℕ) → w < 65536 → wordIn (bytes 2 w ++ more) ≡ w
+unfolding bytes
+word-of w more h = two-back w h
+
+block-of : (w : ℕ) → w < 65536 → wordIn (bytes 2 w) ≡ w
+unfolding bytes
+block-of w h = two-back w h
+
+sign-of : (w s : ℕ) → byteAt 2 (bytes 2 w ++ (s ∷ [])) ≡ s
+unfolding bytes
+sign-of w s = refl
+
+no-word : wordIn [] ≡ 0
+unfolding big
+no-word = refl
+
+pub plan-back : (p : Plan) (xs : List ℤ) (marks : List ℕ) → Shaped p → planIn (sheetFields p xs marks) ≡ settled p
+unfolding planIn settled bodyAt
+plan-back p xs marks s = λ i. record {
+  levels = ap (λ bs. byteAt 0 (getD bs 0 [])) (b .ones) i;
+  k = ap (λ bs. byteAt 1 (getD bs 0 [])) (b .ones) i;
+  added = (ap length (b .twos) ∙ each-count 2 (p .added) (addedBody p) (after-added p xs marks) ∙ ap (λ bs. p .added + length bs) (b .no-twos) ∙ add-zero (p .added)) i;
+  words = (ap (λ bs. tab 6 (λ j. wordIn (getD bs j []))) (b .twos) ∙ placed 2 (p .added) 6 (addedBody p) (after-added p xs marks) wordIn (λ j. getD (p .words) j 0) (b .no-twos) no-word (λ j. word-of (getD (p .words) j 0) _ (s .words-fit j))) i;
+  signs = (ap (λ bs. tab 6 (λ j. byteAt 2 (getD bs j []))) (b .twos) ∙ placed 2 (p .added) 6 (addedBody p) (after-added p xs marks) (byteAt 2) (λ j. getD (p .signs) j 0) (b .no-twos) refl (λ j. sign-of (getD (p .words) j 0) (getD (p .signs) j 0))) i;
+  blocks = (ap length (b .threes) ∙ each-count 3 (p .blocks) (blockBody p) (after-blocks p xs marks) ∙ ap (λ bs. p .blocks + length bs) (b .no-threes) ∙ add-zero (p .blocks)) i;
+  blockwords = (ap (λ bs. tab 4 (λ j. wordIn (getD bs j []))) (b .threes) ∙ placed 3 (p .blocks) 4 (blockBody p) (after-blocks p xs marks) wordIn (λ j. getD (p .blockwords) j 0) (b .no-threes) no-word (λ j. block-of (getD (p .blockwords) j 0) (s .blockwords-fit j))) i;
+}
+  where
+    b : Bodies p xs marks
+    b = the-bodies p xs marks

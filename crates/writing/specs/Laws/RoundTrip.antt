@@ -1,0 +1,195 @@
+-- A sheet that is written from a plan, readings and marks is read back as the same.
+--
+--   Sheetable p xs marks    an accepted plan, readings within the limit and lawful marks
+--   ReadBack                what both calls give of the sheet that is written from them
+--   round-trip              they give the plan with 0 beyond its counts, the readings and the marks
+--   same-back               and the plan itself where it has 0 there
+--   all-bytes               the sheet that is written has bytes only
+use mathlib.Core.Path.{_≡_, refl, sym, ap, _∙_}
+use mathlib.Core.Bool.{Bool, false, not}
+use mathlib.Core.List.{List, [], _∷_, _++_}
+use mathlib.Core.Logic.{_⊎_, inl, inr}
+use Prim.Native.Nat.{ℕ, _*_, _%_, _^_, _≤_, _<_}
+use native.Mathlib.Omega.{arith}
+use borrow.Author.Tests.{eq-eqb, le-ltb}
+use lib.Dec.{ltb}
+use lib.IntN.{ℤ, natAbs}
+use lib.ListN.{length, getD, drop}
+use lib.Seq.{length-take-le, getD-take}
+use Rattle.algebra.specs.Laws.Tests.{none}
+use Rattle.contrasts.specs.Columns.{read}
+use Rattle.contrasts.specs.Limits.{readingLimit}
+use Rattle.plan.specs.declared.types.Plan.{Plan}
+use Rattle.plan.specs.Check.{planRefused}
+use Rattle.plan.specs.Plan.{addedSigns, factorsOf, runsOf}
+use Rattle.plan.specs.Laws.Accepted.{accepted as accepted-plan, sizes}
+use Rattle.plan.specs.Laws.Alike.{Alike, same-refused, same-factors}
+use Rattle.plan.specs.Laws.Answers.{written-new}
+use Rattle.plan.specs.Laws.Sizes.{runs-few}
+use Rattle.columns.specs.Refusals.{wrongLength, anyBeyond}
+use Rattle.columns.specs.Laws.Admitted.{all-within}
+use Rattle.rows.specs.Kinds.{rowsIn, wrongRows, badMarks}
+use Rattle.rows.specs.Laws.Rows.{rows-few, same-marks}
+use Rattle.fields.specs.Fields.{Fields, end, field, fieldsOf, bodyAt}
+use Rattle.fields.specs.Rules.{rules, badFrom, anyNotOnce, badFields}
+use Rattle.contents.specs.Contents.{planIn, readingsOf, readingsIn, marksIn}
+use Rattle.sheet.specs.Sheet.{sheetRefused, readRefused, noPlan, readPlan, readColumn, marksRefused, marksOf}
+use Rattle.sheet.specs.Laws.Admitted.{Admitted, admits}
+use Rattle.sheet.specs.Laws.Marks.{small-marks, accepted-without}
+use Rattle.writing.specs.Writer.{bytes, readingBytes, addedBody, blockBody, sheetFields, sheetOf, settled}
+use Rattle.writing.specs.Laws.Back.{read-back}
+use Rattle.writing.specs.Laws.Each.{each-whole, each-fine}
+use Rattle.writing.specs.Laws.Plans.{Shaped, settled-alike, Clean, settled-same, Bodies, the-bodies, plan-back}
+use Rattle.writing.specs.Laws.Plain.{AllBytes, plain-append, plain-list, plain-bytes, plain-readings, plain-fields, plain-each}
+use Rattle.writing.specs.Laws.Readings.{reading-bytes-length, readings-back}
+
+pub record Sheetable (p : Plan) (xs : List ℤ) (marks : List ℕ) : Type 0 where
+  pub shaped : Shaped p
+  pub accepted : planRefused p ≡ 0
+  pub whole : length xs ≡ runsOf p
+  pub within : anyBeyond readingLimit xs ≡ false
+  pub rows : length marks ≡ rowsIn p
+  pub lawful : badMarks p marks ≡ false
+
+pub record ReadBack (p : Plan) (xs : List ℤ) (marks : List ℕ) (column : List ℤ) : Type 0 where
+  pub accepted : readRefused (sheetOf p xs marks) (length column) ≡ 0
+  pub plan-read : readPlan (sheetOf p xs marks) (length column) ≡ settled p
+  pub readings-read : readColumn (sheetOf p xs marks) column ≡ xs ++ drop (length xs) column
+  pub marks-read : marksOf (sheetOf p xs marks) ≡ marks
+
+module _ {p : Plan} {xs : List ℤ} {marks : List ℕ} (g : Sheetable p xs marks) where
+  abbrev fs : Fields
+  fs = sheetFields p xs marks
+
+  b : Bodies p xs marks
+  b = the-bodies p xs marks
+
+  alike : Alike (settled p) p
+  alike = let s = sizes p (g .accepted) in settled-alike p (g .shaped) (s .1) (s .2)
+
+  -- ---- the fields
+
+  fields-back : fieldsOf (sheetOf p xs marks) ≡ fs
+  unfolding sheetOf sheetFields bytes
+  fields-back =
+      read-back fs (
+        omega arith,
+        each-whole 2 (p .added) (addedBody p) _ (λ i. omega arith)
+            (each-whole 3 (p .blocks) (blockBody p) _ (λ i. omega arith)
+            (omega (arith, reading-bytes-length xs, g .whole, runs-few p (g .accepted)), (omega (arith, g .rows, rows-few p (g .accepted)), tt))),
+      )
+
+  last-two : (last : ℕ) → last ≤ 4 → badFrom last (field 4 (readingBytes xs) (field 5 marks end)) ≡ false
+  unfolding badFrom
+  last-two last h =
+      let e : (4 * length xs) % 4 ≡ 0 = omega arith in
+      rw (le-ltb 4 last h, reading-bytes-length xs, e) refl
+
+  no-bad : badFrom 0 fs ≡ false
+  unfolding badFrom sheetFields bytes
+  no-bad =
+      each-fine 2 (p .added) (addedBody p) _ (λ i. refl) (λ m h. each-fine 3 (p .blocks) (blockBody p) _ (λ i. refl) (λ l k. last-two l (omega arith)) m (omega arith)) 1 (omega arith)
+
+  once : anyNotOnce rules fs ≡ false
+  once = rw (b .ones, b .fours, b .fives) refl
+
+  fine : badFields fs ≡ false
+  unfolding badFields
+  fine = none no-bad once
+
+  -- ---- what they say
+
+  plan-is : planIn fs ≡ settled p
+  plan-is = plan-back p xs marks (g .shaped)
+
+  small : (j : ℕ) → natAbs (read xs j) < 2 ^ 31
+  unfolding readingLimit
+  small j = omega (arith, all-within 100_000 xs (g .within) j)
+
+  readings-are : readingsIn fs ≡ xs
+  unfolding bodyAt
+  readings-are = ap (λ bs. readingsOf (getD bs 0 [])) (b .fours) ∙ readings-back xs small
+
+  marks-are : marksIn fs ≡ marks
+  unfolding bodyAt
+  marks-are = ap (λ bs. getD bs 0 []) (b .fives)
+
+  -- ---- that they are accepted
+
+  readings-right : wrongLength (settled p) (length xs) ≡ false
+  unfolding wrongLength settled factorsOf
+  readings-right = ap not (eq-eqb (length xs) (runsOf p) (g .whole))
+
+  rows-right : wrongRows (settled p) (length marks) ≡ false
+  unfolding wrongRows settled
+  rows-right = ap not (eq-eqb (length marks) (rowsIn p) (g .rows))
+
+  asked : (narrow : Bool) → narrow ≡ false → Admitted fs (planIn fs) narrow
+  asked narrow w = record {
+    fields = fine;
+    plan = rw plan-is (same-refused alike ∙ g .accepted);
+    wide = w;
+    readings = rw (readings-are, plan-is) readings-right;
+    marks = rw (marks-are, plan-is) rows-right;
+    within = rw readings-are (g .within);
+    lawful = rw (marks-are, plan-is) (same-marks alike marks ∙ g .lawful);
+  }
+
+  refused-back : (room : ℕ) → readRefused (sheetOf p xs marks) room ≡ sheetRefused fs (ltb room (runsOf (planIn fs)))
+  unfolding readRefused
+  refused-back room = ap (λ f. sheetRefused f (ltb room (runsOf (planIn f)))) fields-back
+
+  pub round-trip : (column : List ℤ) → runsOf p ≤ length column → ReadBack p xs marks column
+  unfolding readPlan readColumn marksOf
+  round-trip column room =
+      record {
+        accepted = accepted;
+        plan-read = sym (written-new number (planIn (fieldsOf sheet)) noPlan accepted) ∙ ap planIn fields-back ∙ plan-is;
+        readings-read =
+            sym (written-new number (readingsIn (fieldsOf sheet) ++ drop (length (readingsIn (fieldsOf sheet))) column) column accepted)
+            ∙ rw (fields-back, readings-are) refl;
+        marks-read = sym (written-new (marksRefused sheet) (marksIn (fieldsOf sheet)) [] (accepted-without sheet (length column) accepted)) ∙ ap marksIn fields-back ∙ marks-are;
+      }
+    where
+      sheet : List ℕ
+      sheet = sheetOf p xs marks
+
+      number : ℕ
+      number = readRefused sheet (length column)
+
+      wide : ltb (length column) (runsOf (planIn fs)) ≡ false
+      wide = rw plan-is (le-ltb (length column) (runsOf (settled p)) (rw (same-factors alike) room))
+
+      accepted : number ≡ 0
+      accepted = refused-back (length column) ∙ admits fs (planIn fs) (ltb (length column) (runsOf (planIn fs))) (asked (ltb (length column) (runsOf (planIn fs))) wide)
+
+  pub same-back : Clean p → (column : List ℤ) → runsOf p ≤ length column → readPlan (sheetOf p xs marks) (length column) ≡ p
+  same-back c column room = round-trip column room .plan-read ∙ settled-same p (g .shaped) c
+
+  -- ---- bytes only
+
+  sign-small : (i : ℕ) → i < p .added → getD (p .signs) i 0 < 256
+  sign-small i h =
+      let s = sizes p (g .accepted) in
+      let l : length (addedSigns p) ≡ p .added = length-take-le (p .added) (p .signs) (rw (g .shaped .signs-long) (s .1)) in
+      let e : getD (addedSigns p) i 0 ≡ getD (p .signs) i 0 = getD-take (p .added) (p .signs) i 0 h in
+      omega (arith, e, accepted-plan p (g .accepted) .signs i (rw l h))
+
+  levels-small : p .levels < 256
+  levels-small = by (accepted-plan p (g .accepted) .levels)
+    where
+      by : (p .levels ≡ 2) ⊎ (p .levels ≡ 3) → p .levels < 256
+      by (inl e) = omega (arith, e)
+      by (inr e) = omega (arith, e)
+
+  pub all-bytes : AllBytes (sheetOf p xs marks)
+  unfolding sheetOf sheetFields
+  all-bytes =
+      plain-fields fs (
+        omega arith,
+        (levels-small, (omega (arith, sizes p (g .accepted) .0), tt)),
+        plain-each 2 (p .added) (addedBody p) _ (omega arith)
+            (λ i h. plain-append (bytes 2 (getD (p .words) i 0)) (getD (p .signs) i 0 ∷ []) (plain-bytes 2 (getD (p .words) i 0)) (sign-small i h, tt))
+            (plain-each 3 (p .blocks) (blockBody p) _ (omega arith) (λ i h. plain-bytes 2 (getD (p .blockwords) i 0))
+            (omega arith, plain-readings xs, (omega arith, plain-list marks (λ w h. omega (arith, small-marks p marks (g .lawful) w h)), tt))),
+      )
