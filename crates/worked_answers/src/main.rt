@@ -1,5 +1,5 @@
 // Tries the table call on plans, readings and marks that it refuses, and the estimate call, by the records of its input.
-// `reference/answers.py` makes the input and the text that this program must write, and says how both are laid out.
+// `reference/cases/answers.py` makes the input and the text that this program must write, and says how both are laid out.
 mod estimated;
 mod refused;
 mod text;

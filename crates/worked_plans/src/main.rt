@@ -1,5 +1,5 @@
 // Prints the blocks of the plans of AMCP 706-112, Table 12-3, and the runs and aliases of those of its Table 12-4, by the run and alias
-// calls. `reference/amcp.py` has the figures that the tables print, and makes of them the text that this program must write.
+// calls. `reference/published/amcp.py` has the figures that the tables print, and makes of them the text that this program must write.
 mod blocked;
 mod fractional;
 mod text;

@@ -1,5 +1,5 @@
-// Tries the two calls that take a sheet, on the records of its input. `reference/sheets.py` makes the input and the text that this program must
-// write, and says how both are laid out.
+// Tries the two calls that take a sheet, on the records of its input. `reference/cases/sheet_cases.py` makes the input and the text that this
+// program must write, and says how both are laid out.
 mod lent;
 mod parts;
 mod text;

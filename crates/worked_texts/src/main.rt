@@ -1,5 +1,5 @@
-// Makes the texts of many sheets, which are the records of its input. `reference/cases/text_cases.py` makes the input and the text that this program must
-// write, and says how both are laid out.
+// Makes the texts of many sheets, which are the records of its input. `reference/cases/text_cases.py` makes the input and the text that this
+// program must write, and says how both are laid out.
 use libc::STDIN_FILENO;
 use libc::STDOUT_FILENO;
 use numerals::pair;

@@ -1,5 +1,5 @@
-// Works published examples by the step, totals and pass calls. `reference/published.py` has the figures that the sources print, and makes
-// of the readings the text that this program must write.
+// Works published examples by the step, totals and pass calls. `reference/published/examples.py` has the figures that the sources print, and
+// makes of the readings the text that this program must write.
 mod calls;
 mod readings;
 mod text;

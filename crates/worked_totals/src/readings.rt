@@ -1,4 +1,5 @@
-// The readings of the examples, in standard order, as whole numbers. `reference/published.py` has the figures that the sources print.
+// The readings of the examples, in standard order, as whole numbers. `reference/published/examples.py` has the figures that the sources
+// print.
 //
 //   report   J. M. Cameron, Computing the analysis of variance of factorial experiments on automatic computers, NBS Report 3950, 1955
 //   AMCP     Engineering Design Handbook, Experimental Statistics, Section 3, AMCP 706-112, 1969, chapter 12

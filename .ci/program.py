@@ -1,14 +1,15 @@
-# Runs the program factab as it was linked, beside report.py: which bytes it reads and writes by way of the system, no
-# contract can say. It is a stage of the gate, and a command:
+# A stage of the gate: runs the program factab as it was linked, beside reference/rules/text.py: which bytes it reads and
+# writes by way of the system, no contract can say. As a command:
 #
-#   python3 reference/program.py PROGRAM
+#   python3 .ci/program.py PROGRAM
 #
-# PROGRAM is the path of the program. Of each run the text must be that of report.py; on standard error there must be
+# PROGRAM is the path of the program. Of each run the text must be that of rules/text.py; on standard error there must be
 # nothing, or the line that tells that a read or a write failed; and the run must end within a time limit and not by a
 # signal. Every difference is printed; the last line says how many there are, and the exit is 1 if there is one.
 #
 # The runs: sheets of no byte to a megabyte, most of about 5,187; the sheets of examples/; inputs that come in parts or
-# late; inputs and outputs that are closed or fail; and 500 sheets of compare.py from a seed that is always the same.
+# late; inputs and outputs that are closed or fail; and 500 sheets of cases/compare.py from a seed that is always the
+# same.
 #
 # Defined here:
 #   Run                              a run: its name, what the program is given, and what must be seen
@@ -24,21 +25,25 @@ import sys
 import tempfile
 import time
 from collections import namedtuple
+from pathlib import Path
 from shlex import quote
 from threading import Timer
 
-import compare
-import csv_sheet
-import report
-import sheet
-from compare import difference
-from factab import Plan
-from sheets import Numbers
+sys.path.insert(0, str(Path(__file__).resolve().parent.parent))
+
+from reference.cases import compare
+from reference.cases.compare import difference
+from reference.cases.csv_cases import EXAMPLES, FOLDER
+from reference.cases.sheet_cases import Numbers
+from reference.cases.text_cases import RULES_SHEET, RULES_TEXT
+from reference.rules import sheet_bytes
+from reference.rules import text as text_rules
+from reference.rules.totals import Plan
 
 COUNT, SEED = 500, 5187
 TIME_LIMIT = 20
 MEGABYTE = 1_000_000
-MOST = report.MOST_SHEET
+MOST = text_rules.MOST_SHEET
 
 # In seconds: between two bytes, and before an end or a beginning that is late.
 SHORT, LATE = 0.002, 0.2
@@ -59,7 +64,7 @@ Run = namedtuple("Run", "name parts how text error")
 
 def in_parts(name, parts):
     """A run whose input comes in parts."""
-    return Run(name, parts, "", report.text(b"".join(part for part in parts if isinstance(part, bytes))), b"")
+    return Run(name, parts, "", text_rules.text(b"".join(part for part in parts if isinstance(part, bytes))), b"")
 
 
 def of_sheet(name, own_sheet):
@@ -69,7 +74,7 @@ def of_sheet(name, own_sheet):
 
 def of_four_levels(added, blocks):
     """A sheet of four runs at four levels, which is refused with 2 unless it is too long, with so many words."""
-    return sheet.write(Plan(4, 2, ((3, 0),) * added, (3,) * blocks), [3, 5, 4, 8], [0, 0, 0, 1])
+    return sheet_bytes.write(Plan(4, 2, ((3, 0),) * added, (3,) * blocks), [3, 5, 4, 8], [0, 0, 0, 1])
 
 
 def fewer_words(contents):
@@ -79,21 +84,21 @@ def fewer_words(contents):
 
 def sized(contents):
     """Runs on sheets by their length; the contents are those of a longest sheet."""
-    longest = sheet.write(*contents)
-    runs = [of_sheet("no byte", b""), of_sheet("one byte", bytes([sheet.PLAN]))]
-    runs += [of_sheet("lawful, with a word less", sheet.write(*fewer_words(contents)))]
+    longest = sheet_bytes.write(*contents)
+    runs = [of_sheet("no byte", b""), of_sheet("one byte", bytes([sheet_bytes.PLAN]))]
+    runs += [of_sheet("lawful, with a word less", sheet_bytes.write(*fewer_words(contents)))]
     runs += [of_sheet("lawful", longest), of_sheet("lawful, without the last byte", longest[:-1])]
     runs += [of_sheet("lawful, and a byte more", longest + bytes([last])) for last in (0, 1, 255)]
     runs += [of_sheet("four levels", of_four_levels(*words)) for words in ((0, 1031), (1, 1030), (2, 1029))]
     runs += [of_sheet("zeros", bytes(length)) for length in (MOST - 1, MOST, MOST + 1, MEGABYTE)]
-    runs += [of_sheet("lawful, and zeros", own.ljust(MEGABYTE, b"\0")) for own in (longest, report.RULES_SHEET)]
+    runs += [of_sheet("lawful, and zeros", own.ljust(MEGABYTE, b"\0")) for own in (longest, RULES_SHEET)]
     return runs
 
 
 def stored():
     """Runs on the sheets of examples/, each a file that is the input."""
-    paths = [csv_sheet.FOLDER / (name + ".sheet") for name in csv_sheet.EXAMPLES]
-    return [Run(path.name, [], "<" + quote(str(path)), report.text(path.read_bytes()), b"") for path in paths]
+    paths = [FOLDER / (name + ".sheet") for name in EXAMPLES]
+    return [Run(path.name, [], "<" + quote(str(path)), text_rules.text(path.read_bytes()), b"") for path in paths]
 
 
 def chunks(numbers, own_sheet, most):
@@ -108,7 +113,7 @@ def chunks(numbers, own_sheet, most):
 
 def parted(numbers, longest):
     """Runs on inputs that come byte by byte, in other parts, or late."""
-    small = report.RULES_SHEET
+    small = RULES_SHEET
     runs = [in_parts("byte by byte", [part for byte in small for part in (bytes([byte]), SHORT)])]
     runs += [in_parts("bytes of 5,187", chunks(numbers, longest, 1))]
     runs += [in_parts("parts of 5,187, up to %d" % most, chunks(numbers, longest, most)) for most in (7, 100, 2000)]
@@ -122,11 +127,11 @@ def parted(numbers, longest):
 
 def failing():
     """Runs with an input or an output that is closed or fails, and with standard error closed."""
-    own, meant = [report.RULES_SHEET], report.RULES_TEXT
+    own, meant = [RULES_SHEET], RULES_TEXT
     return [
         Run("a closed input", [], "<&-", b"", NOT_READ),
         Run("a directory as input", [], "</", b"", NOT_READ),
-        Run("an empty file as input", [], "</dev/null", report.text(b""), b""),
+        Run("an empty file as input", [], "</dev/null", text_rules.text(b""), b""),
         Run("a closed output", own, ">&-", b"", NOT_WRITTEN),
         Run("an output that is full", own, ">/dev/full", b"", NOT_WRITTEN),
         Run("a closed input and a closed output", [], "<&- >&-", b"", NOT_READ),
@@ -202,7 +207,7 @@ def part_taken(program, own_sheet):
             return [ending(0, TIME_LIMIT)]
         finally:
             os.close(end)
-        complaints = [difference(report.text(own_sheet)[:PIPE], output.read()), ending(found.returncode, 0)]
+        complaints = [difference(text_rules.text(own_sheet)[:PIPE], output.read()), ending(found.returncode, 0)]
     if found.stderr != NOT_WRITTEN:
         complaints.append("standard error: meant %r, found %r" % (NOT_WRITTEN, found.stderr))
     return [complaint for complaint in complaints if complaint]
@@ -211,11 +216,11 @@ def part_taken(program, own_sheet):
 # ---- the command ----
 
 def all_runs(program):
-    """All runs but those of compare.py: name and complaints of each."""
+    """All runs but those of cases/compare.py: name and complaints of each."""
     numbers = Numbers(SEED)
     contents = compare.longest(numbers)
-    longest = sheet.write(*contents)
-    if report.answer(longest) or len(longest) != MOST:
+    longest = sheet_bytes.write(*contents)
+    if text_rules.answer(longest) or len(longest) != MOST:
         sys.exit("the longest sheet is not lawful or not of %d bytes" % MOST)
     for run in sized(contents) + stored() + parted(numbers, longest) + failing():
         yield run.name, complaints_of(program, run)

@@ -1,22 +1,23 @@
-# Worked tables: readings, block words and marks with the published figures of their analysis of variance, and extreme
-# readings at the largest plans.
+# Published analyses of variance: readings, block words and marks with the figures that are printed for their tables; and
+# tables of extreme readings at the largest plans.
 #
-# Sources are named as in published.py, whose readings are used where it has them. Readings of six more tables are here:
+# Sources are named as in examples.py, whose readings are used where it has them. Readings of six more tables are here:
 # Yates's squares that interlace and his hay; Daniel's mangolds in pounds, half of the beans, lettuce and air pollution.
 #
-# Signs, units, question marks and points in printed figures are as in published.py. In a printed text "94.22+216.84" is the
+# Signs, units, question marks and points in printed figures are as in examples.py. In a printed text "94.22+216.84" is the
 # sum of two printed figures, and "9>-9" a damaged figure with its mend.
 #
 # Closeness: a printed figure is the computed one within half a unit of its last decimal, a sum of figures within half a unit
 # for each. Figures that are further off are listed (OFF), with by how many units and what we take for the cause: the figure
 # is cut off after its last decimal and not rounded, or it is made from other printed figures, which are rounded. Either is
 # tested, and a figure that is not further off may not stand in that list. Degrees, totals and numerators, and the figures of
-# the report's two-level example, are compared exactly. Damaged figures have mends as in published.py (MENDS).
+# the report's two-level example, are compared exactly. Damaged figures have mends as in examples.py (MENDS).
 #
 # Marks: a row has mark 1 if the source pools it as error, or leaves it out of the effects that it adds up.
 #
 # Defined here:
 #   TABLES                 the worked tables, numbered from 1 in this order
+#   FOUR_BLOCKS, SIX_ADDED, TEN, TEN_BLOCKED   words and plans of ten factors
 #   MENDS, OFF             damaged figures; figures further off than half a unit
 #   POOLED                 the report's columns in which rows of three levels are pooled, as far as they can be read
 #   KNOWN                  numerators of the extreme tables that are known without adding up
@@ -28,12 +29,11 @@ from collections import namedtuple
 from fractions import Fraction
 from itertools import product
 
-import anova
-import factab
-import published
-from anova import row_number
-from answers import FOUR_BLOCKS, SIX_ADDED, TEN, TEN_BLOCKED
-from factab import Plan
+from reference.published import examples
+from reference.rules import table as table_rules
+from reference.rules import totals as totals_rules
+from reference.rules.table import row_number
+from reference.rules.totals import Plan, block_of
 
 # places: decimals of the readings in print. plots: how many plots one reading adds up. marked: the rows with mark 1.
 WorkedTable = namedtuple("WorkedTable", "title plan readings marked places plots printed")
@@ -46,7 +46,7 @@ Mend = namedtuple("Mend", "title where measure place printed meant reason")
 Off = namedtuple("Off", "title where measure place units cause")
 
 EXACT = 0
-LACKING, NOT_PRINTED = published.LACKING, published.NOT_PRINTED
+LACKING, NOT_PRINTED = examples.LACKING, examples.NOT_PRINTED
 
 MOST_NUMERATOR = 340_122_240_000_000_000
 
@@ -64,26 +64,27 @@ def rows_of(labels):
 
 def of_letters(plan, least):
     """The rows of so many letters or more that are not confounded."""
-    lost = factab.confounded(plan.blocks)
-    return [row for row in range(anova.row_count(plan.k)) if factab.letter_count(row) >= least and row not in lost]
+    lost = totals_rules.confounded(plan.blocks)
+    rows = range(table_rules.row_count(plan.k))
+    return [row for row in rows if totals_rules.letter_count(row) >= least and row not in lost]
 
 
 def worked(example, marked, printed):
-    """The table of an example of published.py. marked: labels, or the least number of letters of rows that are pooled."""
-    plan = published.plan(example)
+    """The table of an example of examples.py. marked: labels, or the least number of letters of rows that are pooled."""
+    plan = examples.plan(example)
     rows = of_letters(plan, marked) if isinstance(marked, int) else rows_of(marked)
-    return WorkedTable(example.title, plan, published.whole_readings(example), rows, example.places, example.plots, printed)
+    return WorkedTable(example.title, plan, examples.whole_readings(example), rows, example.places, example.plots, printed)
 
 
 def new_example(title, source, where, levels, k, readings, **values):
-    """An example that published.py does not have."""
-    return published.worked(title, source, where, levels, k, readings, [], **values)
+    """An example that examples.py does not have."""
+    return examples.worked(title, source, where, levels, k, readings, [], **values)
 
 
 # ---- the report and AMCP ----
 
 # The totals squared are the numerators, since every divisor of two levels is the denominator.
-REPORT_TWO_LEVELS = worked(published.REPORT_TWO_LEVELS, "", [
+REPORT_TWO_LEVELS = worked(examples.REPORT_TWO_LEVELS, "", [
     Printed("analysis of variance", "sum of squares", "rows",
             "34875.5625 770.0625 2232.5625 7.5625 18.0625 410.0625 588.0625 855.5625 3.0625 315.0625 1463.0625 27.5625 "
             "1701.5625 2889.0625 826.5625 27.5625", EXACT),
@@ -96,7 +97,7 @@ REPORT_TWO_LEVELS = worked(published.REPORT_TWO_LEVELS, "", [
     Printed("check 2", "sum of squares", "total", "47001", EXACT),
 ])
 
-AMCP_WHOLE = worked(published.AMCP_WHOLE, 3, [
+AMCP_WHOLE = worked(examples.AMCP_WHOLE, 3, [
     Printed("12-2.2.2, step 2", "numerator", "error", "5.17", EXACT),
     Printed("12-2.2.2, step 3", "degrees", "error", "5", EXACT),
     Printed("12-2.2.2, step 3", "mean square", "error", ".0646"),
@@ -108,14 +109,14 @@ AMCP_WHOLE = worked(published.AMCP_WHOLE, 3, [
 
 # The same readings in the blocks of Table 12-3, four factors (ii), pooled as paragraph 12-3.2.2 says: interactions of three
 # or more factors but those that are confounded. AMCP works no example of blocks.
-AMCP_BLOCKED = worked(published.AMCP_WHOLE._replace(
+AMCP_BLOCKED = worked(examples.AMCP_WHOLE._replace(
     title="AMCP, Data Sample 12-2 in four blocks", blocks=(row_number("AD"), row_number("ABC"))), 3, [
     Printed("Table 12-3, number of confounded effects", "degrees", "blocks", "3", EXACT),
     Printed("Table 12-2", "numerator", "total", "3506.40", EXACT),
 ])
 
 # AMCP pools nothing here; its estimate of error comes from elsewhere.
-AMCP_HALF = worked(published.AMCP_HALF, "", [
+AMCP_HALF = worked(examples.AMCP_HALF, "", [
     Printed("Table 12-6", "numerator", "total", "882.72", EXACT),
     Printed("Table 12-6", "sum of squares", "total", "110.34", EXACT),
 ])
@@ -123,7 +124,7 @@ AMCP_HALF = worked(published.AMCP_HALF, "", [
 
 # ---- Yates, two levels ----
 
-YATES_POTATOES = worked(published.YATES_POTATOES, "", [
+YATES_POTATOES = worked(examples.YATES_POTATOES, "", [
     Printed("Table 8", "sum of squares", "mean, kept", "2720861.3 458718.0"),
     Printed("Table 8", "degrees", "kept", "7", EXACT),
     Printed("Table 8", "mean square", "kept", "65531.1"),
@@ -133,7 +134,7 @@ YATES_POTATOES = worked(published.YATES_POTATOES, "", [
 ])
 
 # Factors s, d, n, p, k; block words s d p and s n k; d n p k is confounded with them.
-YATES_BEANS = worked(published.YATES_BEANS, 3, [
+YATES_BEANS = worked(examples.YATES_BEANS, 3, [
     Printed("Table 21", "block total", "0, 1, 2, 3", "555.2 436.7 481.0 412.3", EXACT),
     Printed("Table 23", "sum of squares", "blocks, kept, error, corrected", "1476.43 4921.20 1066.64 7464.27"),
     Printed("Table 23", "degrees", "blocks, kept, error, corrected", "3 15 13 31", EXACT),
@@ -143,7 +144,7 @@ YATES_BEANS = worked(published.YATES_BEANS, 3, [
 ])
 
 # P K and N P K are lost to rows and columns. As block words they would be refused, since N is their combination.
-YATES_SUGAR_BEET = worked(published.YATES_SUGAR_BEET, "BC ABC", [
+YATES_SUGAR_BEET = worked(examples.YATES_SUGAR_BEET, "BC ABC", [
     Printed("Table 29", "sum of squares", "kept", "1145.7"),
     Printed("Table 29", "degrees", "kept", "5", EXACT),
     Printed("Table 29", "mean square", "kept", "229.1"),
@@ -173,7 +174,7 @@ INTERLACED = worked(new_example(
     Printed("Table 30", "mean square", "blocks, kept", "442.5 449.2"),
 ])
 
-YATES_TABLE_38 = worked(published.YATES_TABLE_38[3], "", [
+YATES_TABLE_38 = worked(examples.YATES_TABLE_38[3], "", [
     Printed("Table 39", "sum of squares", "mean, A, B, AB", "1191372.2 3117.4 17292.2 103.4"),
     Printed("Table 39", "degrees", "A, B, AB", "1 1 1", EXACT),
 ])
@@ -181,19 +182,19 @@ YATES_TABLE_38 = worked(published.YATES_TABLE_38[3], "", [
 
 # ---- Daniel, two levels ----
 
-DANIEL_CEMENT_FOUR = worked(published.DANIEL_CEMENT._replace(
+DANIEL_CEMENT_FOUR = worked(examples.DANIEL_CEMENT._replace(
     title="Daniel, 2^3 on cement, four rows pooled"), "A AB AC ABC", [
     Printed("Section 5.11", "mean square", "error", "216"),
     Printed("Section 5.11", "degrees", "error", "4", EXACT),
 ])
 
-DANIEL_CEMENT_TWO = worked(published.DANIEL_CEMENT._replace(
+DANIEL_CEMENT_TWO = worked(examples.DANIEL_CEMENT._replace(
     title="Daniel, 2^3 on cement, two rows pooled"), "AC ABC", [
     Printed("Section 5.11", "mean square", "error", "8.5", EXACT),
     Printed("Section 5.11", "degrees", "error", "2", EXACT),
 ])
 
-DANIEL_DRILL = worked(published.DANIEL_DRILL, "A AB AC ABC AD BD ABD ACD BCD ABCD", [
+DANIEL_DRILL = worked(examples.DANIEL_DRILL, "A AB AC ABC AD BD ABD ACD BCD ABCD", [
     Printed("Section 6.2", "sum of squares", "corrected, kept, error, error", "262.68 249.15 13.52 13.53"),
     Printed("Section 6.2", "degrees", "kept, error", "5 10", EXACT),
     Printed("Section 6.2", "mean square", "kept, error", "49.83 1.35"),
@@ -206,7 +207,7 @@ DANIEL_POUNDS = new_example(
     "Daniel, 2^5 on mangolds, in pounds", "Daniel", "Tables 7.8 and 7.9; factors S, P, K, N, D", 2, 5,
     "74.0 110.8 88.8 100.8 78.4 115.6 69.2 98.4 78.0 118.4 96.4 131.2 100.0 137.6 86.0 129.2 "
     "124.8 117.6 100.8 128.4 89.6 132.8 84.4 135.6 110.4 137.6 99.6 132.4 100.8 146.8 110.0 150.6",
-    places=1, blocks=published.DANIEL_MANGOLDS.blocks)
+    places=1, blocks=examples.DANIEL_MANGOLDS.blocks)
 MANGOLD_BLOCKS = "3 4 1 2 2 1 4 3 4 3 2 1 1 2 3 4 2 1 4 3 3 4 1 2 1 2 3 4 4 3 2 1"
 
 DANIEL_MANGOLDS = worked(DANIEL_POUNDS, 3, [
@@ -230,13 +231,13 @@ DANIEL_HALF = worked(new_example(
 
 # ---- three levels ----
 
-REPORT_THREE_LEVELS = worked(published.REPORT_THREE_LEVELS, "", [
+REPORT_THREE_LEVELS = worked(examples.REPORT_THREE_LEVELS, "", [
     Printed("Section 2, powers of the couple (1, 2)", "degrees", "rows", "1 2 2 4 2 4 4 8 2 4 4 8 4 8 8 16", EXACT),
     Printed("worksheet", "mean square", "CD, ACD, BCD", "10.3457 4.8556 6.5031"),
     Printed("worksheet, check", "sum of squares", "total", "254?", EXACT),
 ])
 
-YATES_TWO_OF_THREE = worked(published.YATES_TWO_OF_THREE, "", [
+YATES_TWO_OF_THREE = worked(examples.YATES_TWO_OF_THREE, "", [
     Printed("Table 47", "sum of squares", "mean, A+B+AB, A, B", "86584.10 341.52 94.47 107.80"),
     Printed("Table 48", "sum of squares", "A, B, AB", "94.47 107.80 139.25"),
     Printed("Table 48", "degrees", "A, B, AB", "2 2 4", EXACT),
@@ -246,7 +247,7 @@ YATES_TWO_OF_THREE = worked(published.YATES_TWO_OF_THREE, "", [
 ])
 
 # The arrangement in blocks confounds a part of D S N, which Yates therefore gives in two figures; its row is marked.
-YATES_FIRST_REPLICATION = worked(published.YATES_FIRST_REPLICATION, "ABC", [
+YATES_FIRST_REPLICATION = worked(examples.YATES_FIRST_REPLICATION, "ABC", [
     Printed("Table 56", "sum of squares", "A+B+AB, A+C+AC, B+C+BC", "262.05 333.49 250.82"),
     Printed("Table 58", "sum of squares", "A+B+C, corrected", "301.12+51.42 999.23"),
     Printed("Table 58", "degrees", "A+B+C, corrected", "3+3 26", EXACT),
@@ -255,7 +256,7 @@ YATES_FIRST_REPLICATION = worked(published.YATES_FIRST_REPLICATION, "ABC", [
     Printed("report, Section 2, powers of the couple (1, 2)", "degrees", "rows", "1 2 2 4 2 4 4 8", EXACT),
 ])
 
-YATES_BOTH_REPLICATIONS = worked(published.YATES_BOTH_REPLICATIONS, "ABC", [
+YATES_BOTH_REPLICATIONS = worked(examples.YATES_BOTH_REPLICATIONS, "ABC", [
     Printed("Table 47", "sum of squares", "mean, A+B+AB, A+C+AC, B+C+BC, A, B, C, error, corrected",
             "86584.10 341.52 275.13 329.77 94.47 107.80 150.14 94.22+216.84 905.06"),
     Printed("Table 48", "sum of squares", "A, B, C, AB, AC, BC", "94.47 107.80 150.14 139.25 30.52 71.83"),
@@ -294,39 +295,39 @@ DANIEL_AIR = worked(new_example(
 
 # ---- the rules' own runs ----
 
-RULES_TWO_FACTORS = worked(published.RULES_TWO_FACTORS, "AB", [
+RULES_TWO_FACTORS = worked(examples.RULES_TWO_FACTORS, "AB", [
     Printed("Reference runs", "effect total", "rows", "20 -6 -4 2", EXACT),
     Printed("Reference runs", "numerator", "rows", "400 36 16 4", EXACT),
     Printed("Reference runs", "numerator", "total", "456", EXACT),
     Printed("Reference runs", "sum of totals", "total", "12", EXACT),
 ])
 
-RULES_THREE_LEVELS = worked(published.RULES_THREE_LEVELS, "", [
+RULES_THREE_LEVELS = worked(examples.RULES_THREE_LEVELS, "", [
     Printed("Reference runs", "effect total", "mean, A1, A2", "10 -1 -5", EXACT),
     Printed("Reference runs", "numerator", "mean, A1, A2, A", "200 3 25 28", EXACT),
     Printed("Reference runs", "degrees", "A", "2", EXACT),
     Printed("Reference runs", "sum of totals", "total", "4", EXACT),
 ])
 
-RULES_BLOCKS = worked(published.RULES_BLOCKS, "", [
+RULES_BLOCKS = worked(examples.RULES_BLOCKS, "", [
     Printed("Reference runs", "effect total", "rows", "36 -4 -8 0 -16 0 0 0", EXACT),
     Printed("Reference runs, number of blocks rows", "degrees", "blocks", "1", EXACT),
 ])
 
-RULES_LIMITS = worked(published.RULES_LIMITS, "A", [
+RULES_LIMITS = worked(examples.RULES_LIMITS, "A", [
     Printed("Reference runs", "effect total", "rows", "0 -200000", EXACT),
 ])
 
 
 # ---- extreme readings ----
 
-TOP = factab.MOST_READING
+TOP = totals_rules.MOST_READING
 
 
 def by_signs(plan, effect, top, at_zero):
     """For each run top where the effect's coefficient is above 0, minus top where it is below, else the number at_zero."""
-    coefficients = [factab.coefficient(plan.levels, plan.k, effect, run)
-                    for run in range(factab.run_count(plan.levels, plan.k))]
+    coefficients = [totals_rules.coefficient(plan.levels, plan.k, effect, run)
+                    for run in range(totals_rules.run_count(plan.levels, plan.k))]
     return [top if own > 0 else -top if own < 0 else at_zero for own in coefficients]
 
 
@@ -334,7 +335,7 @@ def by_spreading(plan):
     """Numbers less 100000: the first is 0, and each next is the one before times 9973 plus 12345, modulo 200001. No total
     is 0."""
     readings, number = [], 0
-    for _ in range(factab.run_count(plan.levels, plan.k)):
+    for _ in range(totals_rules.run_count(plan.levels, plan.k)):
         readings.append(number - TOP)
         number = (number * 9973 + 12345) % 200001
     return readings
@@ -345,7 +346,12 @@ def extreme(title, plan, readings, marked):
     return WorkedTable(title, plan, readings, rows_of(marked), 0, 1, [])
 
 
-SIX = Plan(3, 6)
+# All four block words combine to the row of all ten letters.
+FOUR_BLOCKS = tuple(row_number(label) for label in "ABC DEF GH IJ".split())
+SIX_ADDED = tuple((row_number(label), sign) for label, sign in (
+    ("AB", 0), ("BCD", 1), ("ADG", 0), ("CEHJ", 1), ("ABCDEFGHI", 0), ("ABCDEFGHJ", 1)))
+
+SIX, TEN, TEN_BLOCKED = Plan(3, 6), Plan(2, 10), Plan(2, 10, (), FOUR_BLOCKS)
 ALL_TEN = "ABCDEFGHIJ"
 TEN_ADDED = Plan(2, 10, SIX_ADDED, FOUR_BLOCKS)
 EXTREMES = [
@@ -375,8 +381,8 @@ KNOWN = {
     "six factors at three levels, all 100000": {"mean": MOST_NUMERATOR},
     "six factors at three levels, all -100000": {"mean": MOST_NUMERATOR},
     "six factors at three levels, signs of effect 728":
-        {anova.row_label(row): 16 ** letters * 2 ** (6 - letters) * 10 ** 10
-         for row in range(64) for letters in [factab.letter_count(row)]},
+        {table_rules.row_label(row): 16 ** letters * 2 ** (6 - letters) * 10 ** 10
+         for row in range(64) for letters in [totals_rules.letter_count(row)]},
     "six factors at three levels, signs of effect 364, 0 at 0": {"ABCDEF": 29_859_840_000_000_000},
     "six factors at three levels, signs of effect 1, 100000 at 0":
         {"mean": 37_791_360_000_000_000, "A": 302_330_880_000_000_000},
@@ -465,7 +471,7 @@ POOLED = [
 ]
 
 
-# ---- readings that published.py does not have: sums that are printed beside them ----
+# ---- readings that examples.py does not have: sums that are printed beside them ----
 
 DOWN, ACROSS = [(0, 3, 6), (1, 4, 7), (2, 5, 8)], [(0, 1, 2), (3, 4, 5), (6, 7, 8)]
 DIAGONALS = [(0, 4, 8), (1, 5, 6), (2, 3, 7), (0, 5, 7), (1, 3, 8), (2, 4, 6)]
@@ -489,28 +495,28 @@ def quick_totals(levels, k, readings):
     """The totals, found for each level of the highest factor by themselves and then combined by its coefficient rows."""
     if k == 0:
         return list(readings)
-    size = factab.run_count(levels, k - 1)
+    size = totals_rules.run_count(levels, k - 1)
     parts = [quick_totals(levels, k - 1, readings[start:start + size]) for start in range(0, len(readings), size)]
     return [sum(factor * part[effect] for factor, part in zip(row, parts))
-            for row in factab.COEFFICIENTS[levels] for effect in range(size)]
+            for row in totals_rules.COEFFICIENTS[levels] for effect in range(size)]
 
 
 def marks_of(own):
     """The marks of all rows."""
-    return [1 if row in own.marked else 0 for row in range(anova.row_count(own.plan.k))]
+    return [1 if row in own.marked else 0 for row in range(table_rules.row_count(own.plan.k))]
 
 
 def table_of(own):
     """The table, with totals by the quicker way; check_table() compares them with the definition."""
     totals = quick_totals(own.plan.levels, own.plan.k, own.readings)
-    return anova.table_of_totals(own.plan, own.readings, marks_of(own), totals)
+    return table_rules.table_of_totals(own.plan, own.readings, marks_of(own), totals)
 
 
 # ---- what the printed figures must be ----
 
 def effect_number(levels, label):
     """The effect of a label: mean, or letters; at three levels with a digit after each letter, such as A1B2."""
-    if label == anova.MEAN or levels == 2:
+    if label == table_rules.MEAN or levels == 2:
         return row_number(label)
     return sum(int(digit) * levels ** (ord(letter) - ord("A")) for letter, digit in zip(label[::2], label[1::2]))
 
@@ -519,25 +525,20 @@ def part_of(own, table, name):
     """The part of a table that a printed figure belongs to: mean, kept, blocks, error or total; corrected, which is the
     total but the mean; a row by its label; an effect by letters and digits; or parts added up, with plus signs."""
     if "+" in name:
-        return anova.added_up([part_of(own, table, piece) for piece in name.split("+")])
-    if name in anova.KINDS or name == "total":
+        return table_rules.added_up([part_of(own, table, piece) for piece in name.split("+")])
+    if name in table_rules.KINDS or name == "total":
         return getattr(table, name)
     if name == "corrected":
-        return anova.Part(table.total.degrees - 1, table.total.numerator - table.mean.numerator)
+        return table_rules.Part(table.total.degrees - 1, table.total.numerator - table.mean.numerator)
     if name.isalpha():
         return table.rows[row_number(name)]
     effect = effect_number(own.plan.levels, name)
-    return anova.Part(1, factab.numerator(own.plan.levels, own.plan.k, effect, table.totals[effect]))
+    return table_rules.Part(1, totals_rules.numerator(own.plan.levels, own.plan.k, effect, table.totals[effect]))
 
 
 def block_total(own, number):
     """The sum of the readings of a block, by its number."""
     return sum(reading for run, reading in enumerate(own.readings) if block_of(own.plan, run) == number)
-
-
-def block_of(plan, run):
-    """The block number of a run: bit j is set when an odd number of the letters of block word j are high."""
-    return sum(factab.letter_count(word & run) % 2 << place for place, word in enumerate(plan.blocks))
 
 
 def effect_total(own, table, name):
@@ -547,7 +548,7 @@ def effect_total(own, table, name):
 
 def turned_total(own, table, name):
     """The total of a two-level effect with differences last minus first."""
-    return effect_total(own, table, name) * (-1) ** factab.letter_count(row_number(name))
+    return effect_total(own, table, name) * (-1) ** totals_rules.letter_count(row_number(name))
 
 
 def unit(own):
@@ -585,7 +586,7 @@ MEASURES = {
 def names_of(own, printed):
     """What each figure of a printed text belongs to."""
     if printed.parts == "rows":
-        return [anova.row_label(row) for row in range(anova.row_count(own.plan.k))]
+        return [table_rules.row_label(row) for row in range(table_rules.row_count(own.plan.k))]
     return printed.parts.split(", ")
 
 
@@ -681,12 +682,12 @@ def pooled_once(column):
 def check_rows(own, table):
     """Rows and their degrees in another way: at two levels the effects themselves, at three the report's pooling."""
     levels, k = own.plan.levels, own.plan.k
-    column = [factab.numerator(levels, k, effect, total) for effect, total in enumerate(table.totals)]
+    column = [totals_rules.numerator(levels, k, effect, total) for effect, total in enumerate(table.totals)]
     if levels == 3:
         for _ in range(k):
             column = pooled_once(column)
     degrees = [1] * len(column) if levels == 2 else degrees_of_report(k)
-    return [] if table.rows == [anova.Part(*pair) for pair in zip(degrees, column)] else ["rows"]
+    return [] if table.rows == [table_rules.Part(*pair) for pair in zip(degrees, column)] else ["rows"]
 
 
 def check_blocks(own, table):
@@ -694,13 +695,13 @@ def check_blocks(own, table):
     numbers = range(2 ** len(own.plan.blocks))
     runs = Fraction(len(own.readings), len(numbers))
     squares = sum(block_total(own, number) ** 2 for number in numbers)
-    meant = anova.Part(len(numbers), squares / runs * table.denominator)
-    return [] if anova.added_up([table.mean, table.blocks]) == meant else ["blocks"]
+    meant = table_rules.Part(len(numbers), squares / runs * table.denominator)
+    return [] if table_rules.added_up([table.mean, table.blocks]) == meant else ["blocks"]
 
 
 def spot_effects(own):
     """Effects whose totals are compared with the definition: all of them, of large plans a few."""
-    count = factab.run_count(own.plan.levels, own.plan.k)
+    count = totals_rules.run_count(own.plan.levels, own.plan.k)
     return range(count) if count <= 81 else (0, 1, 2, 364, 511, count - 1)
 
 
@@ -708,18 +709,19 @@ def check_table(own, table):
     """Complaints of the rules about one table."""
     levels, k = own.plan.levels, own.plan.k
     complaints = []
-    if anova.table_answer(own.plan, own.readings, marks_of(own), len(table.totals), len(table.rows)) != factab.DONE:
+    lengths = len(table.totals), len(table.rows)
+    if table_rules.table_answer(own.plan, own.readings, marks_of(own), *lengths) != totals_rules.DONE:
         complaints.append("not accepted")
-    if any(table.totals[effect] != factab.total(levels, k, own.readings, effect) for effect in spot_effects(own)):
+    if any(table.totals[effect] != totals_rules.total(levels, k, own.readings, effect) for effect in spot_effects(own)):
         complaints.append("totals")
-    parts = [getattr(table, kind) for kind in anova.KINDS]
-    if anova.added_up(parts) != table.total or anova.added_up(table.rows) != table.total:
+    parts = [getattr(table, kind) for kind in table_rules.KINDS]
+    if table_rules.added_up(parts) != table.total or table_rules.added_up(table.rows) != table.total:
         complaints.append("mean, kept, blocks and error do not add up to the total")
     if table.sum_of_totals != table.check_number:
         complaints.append("check numbers")
-    if table.total.numerator > MOST_NUMERATOR or any(abs(total) > factab.MOST_VALUE for total in table.totals):
+    if table.total.numerator > MOST_NUMERATOR or any(abs(total) > totals_rules.MOST_VALUE for total in table.totals):
         complaints.append("beyond the limits")
-    if table.error.degrees != sum(anova.row_degrees(levels, row) for row in own.marked):
+    if table.error.degrees != sum(table_rules.row_degrees(levels, row) for row in own.marked):
         complaints.append("degrees of error")
     return complaints + check_rows(own, table) + check_blocks(own, table)
 
@@ -729,7 +731,7 @@ def check_known(own, table):
     known = KNOWN.get(own.title)
     if known is None:
         return []
-    meant = [known.get(anova.row_label(row), 0) for row in range(len(table.rows))]
+    meant = [known.get(table_rules.row_label(row), 0) for row in range(len(table.rows))]
     return [] if [part.numerator for part in table.rows] == meant else ["known rows"]
 
 
@@ -762,7 +764,7 @@ def check_pooled():
     """The report's pooled columns, from parts rounded to four decimals."""
     own = REPORT_THREE_LEVELS
     levels, k = own.plan.levels, own.plan.k
-    column = [round(Fraction(total ** 2 * 10 ** 4, factab.divisor(levels, k, effect)))
+    column = [round(Fraction(total ** 2 * 10 ** 4, totals_rules.divisor(levels, k, effect)))
               for effect, total in enumerate(table_of(own).totals)]
     columns = [column]
     for _ in range(k):
@@ -777,7 +779,7 @@ def check_pooled():
 
 
 def check_sums():
-    """The sums printed beside readings that published.py does not have."""
+    """The sums printed beside readings that examples.py does not have."""
     complaints = []
     for own, groups, less, text in SUMS:
         sums = [Fraction(sum(own.readings[run] - less for run in runs), unit(own)) for runs in groups]
@@ -793,8 +795,8 @@ def check_sums():
 
 def check_pounds():
     """The mangolds in pounds round to those in tens of pounds, and their blocks are those of the block words."""
-    pounds = published.whole_readings(DANIEL_POUNDS)
-    tens = [reading + 110 for reading in published.whole_readings(published.DANIEL_MANGOLDS)]
+    pounds = examples.whole_readings(DANIEL_POUNDS)
+    tens = [reading + 110 for reading in examples.whole_readings(examples.DANIEL_MANGOLDS)]
     complaints = []
     if any(abs(pound - 10 * ten) > 5 for pound, ten in zip(pounds, tens)):
         complaints.append("Daniel, mangolds: pounds and tens of pounds")
@@ -807,9 +809,9 @@ def check_pounds():
 def check_half():
     """The readings of half of the beans are the yields less 59, rounded."""
     complaints = []
-    yields = published.whole_readings(published.YATES_BEANS)
+    yields = examples.whole_readings(examples.YATES_BEANS)
     for run, reading in enumerate(DANIEL_HALF.readings):
-        whole_run = run | factab.letter_count(run & row_number("BCD")) % 2 << 4
+        whole_run = run | totals_rules.letter_count(run & row_number("BCD")) % 2 << 4
         if abs(10 * (reading + 59) - yields[whole_run]) > 5:
             complaints.append("Daniel, half of the beans: reading of run %d" % run)
     return complaints

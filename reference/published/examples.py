@@ -6,7 +6,7 @@
 #   AMCP     Engineering Design Handbook, Experimental Statistics, Section 3, AMCP 706-112, 1969, chapter 12
 #   Yates    F. Yates, The design and analysis of factorial experiments, Technical Communication 35, 1937
 #   Daniel   C. Daniel, Applications of statistics to industrial experimentation, 1976
-#   rules    the specification's own reference runs
+#   rules    the rules' own reference runs
 #
 # Figures are given as printed, in the order of the print, with the figures that a scan shows wrongly left as they
 # stand. Left out are stray points and spaces of the scan and the commas of thousands; a decimal comma is a point, and
@@ -40,8 +40,11 @@
 import sys
 from collections import namedtuple
 from fractions import Fraction
+from os.path import abspath, dirname
 
-import factab
+sys.path.insert(0, dirname(dirname(dirname(abspath(__file__)))))
+
+from reference.rules import totals as totals_rules
 
 # places: decimals of the readings. turned: differences last minus first. plots: how many plots one reading adds up.
 # added, blocks: the plan's added factors (word, sign) and block words. readings: as meant, in standard order.
@@ -157,9 +160,9 @@ YATES_BEANS = worked(
                 "121.6 139.8 -62.0 -24.2 69.6 -98.6 36.0 -32.6 -6.6 -55.6 -27.8 -59.6 -77.4 -101.6 49.8 76.4"),
         Printed("Table 23, blocks", "added parts", "1476.43", (0b01011, 0b10101, 0b11110)),
         Printed("Table 23, one and two letters", "added parts", "4921.20",
-                [effect for effect in range(1, 32) if factab.letter_count(effect) <= 2]),
+                [effect for effect in range(1, 32) if totals_rules.letter_count(effect) <= 2]),
         Printed("Table 23, remainder", "added parts", "1066.64",
-                [effect for effect in range(1, 32) if factab.letter_count(effect) >= 3
+                [effect for effect in range(1, 32) if totals_rules.letter_count(effect) >= 3
                  and effect not in (0b01011, 0b10101, 0b11110)]),
         Printed("Table 23, total", "added parts", "7464.27", range(1, 32)),
     ], places=1, turned=True, blocks=(0b01011, 0b10101))
@@ -466,20 +469,20 @@ def whole_readings(example):
 
 def plan(example):
     """The plan of an example."""
-    return factab.Plan(example.levels, example.k, example.added, example.blocks)
+    return totals_rules.Plan(example.levels, example.k, example.added, example.blocks)
 
 
 def columns(example):
     """The readings and the columns after 1 to k steps, in whole numbers."""
     readings = whole_readings(example)
-    return [readings] + factab.steps(example.levels, example.k, readings)
+    return [readings] + totals_rules.steps(example.levels, example.k, readings)
 
 
 def sign(example, step, place):
     """-1 where the source's figure has the other sign: it holds an odd number of differences, taken last minus first."""
     if not example.turned:
         return 1
-    done = factab.digits(example.levels, example.k, place)[example.k - step:]
+    done = totals_rules.digits(example.levels, example.k, place)[example.k - step:]
     return -1 if done.count(1) % 2 else 1
 
 
@@ -496,7 +499,7 @@ def column_in_print(example, step):
 
 def parts_in_print(example):
     """For each effect its total squared, over its divisor and the plots of a reading."""
-    return [total ** 2 / (factab.divisor(example.levels, example.k, effect) * example.plots)
+    return [total ** 2 / (totals_rules.divisor(example.levels, example.k, effect) * example.plots)
             for effect, total in enumerate(column_in_print(example, example.k))]
 
 
@@ -543,16 +546,16 @@ def mends_of(example, printed):
 def check_rules(example):
     """Complaints of the rules: plan and readings accepted, totals by the definition after k steps, both checks."""
     levels, k, readings = example.levels, example.k, whole_readings(example)
-    found = factab.totals(levels, k, readings)
+    found = totals_rules.totals(levels, k, readings)
     complaints = []
-    if factab.totals_answer(plan(example), readings, found) != factab.DONE:
+    if totals_rules.totals_answer(plan(example), readings, found) != totals_rules.DONE:
         complaints.append("not accepted")
     if columns(example)[k] != found:
         complaints.append("k steps do not give the totals by the definition")
-    numerators = [factab.numerator(levels, k, effect, total) for effect, total in enumerate(found)]
-    if sum(numerators) != factab.denominator(levels, k) * sum(reading ** 2 for reading in readings):
+    numerators = [totals_rules.numerator(levels, k, effect, total) for effect, total in enumerate(found)]
+    if sum(numerators) != totals_rules.denominator(levels, k) * sum(reading ** 2 for reading in readings):
         complaints.append("sum of squares")
-    if sum(found) != factab.check_number(levels, k, readings):
+    if sum(found) != totals_rules.check_number(levels, k, readings):
         complaints.append("check sum")
     return complaints
 
@@ -591,11 +594,11 @@ def whole_figures(example):
 
 def equations(example):
     """For each step and place the coefficients of the readings in the figure there."""
-    count = factab.run_count(example.levels, example.k)
+    count = totals_rules.run_count(example.levels, example.k)
     found = {}
     for run in range(count):
         alone = [1 if other == run else 0 for other in range(count)]
-        for step, column in enumerate([alone] + factab.steps(example.levels, example.k, alone)):
+        for step, column in enumerate([alone] + totals_rules.steps(example.levels, example.k, alone)):
             for place, value in enumerate(column):
                 found.setdefault((step, place), []).append(value)
     return found
@@ -628,7 +631,7 @@ def check_settled(example):
 
     Full rank modulo a prime is full rank. Beside each equation stands which figure it came from, so what is left of
     the equations beyond the rank are the relations between figures; a figure that is in one of them follows from others."""
-    count = factab.run_count(example.levels, example.k)
+    count = totals_rules.run_count(example.levels, example.k)
     known = equations(example)
     whole = whole_figures(example)
     marked = [known[figure] + [1 if other == number else 0 for other in range(len(whole))]
@@ -645,7 +648,7 @@ def check_doubtful():
     example = REPORT_THREE_LEVELS
     known = equations(example)
     sure = [known[figure] for figure in whole_figures(example) if figure[1] not in DOUBTFUL]
-    count = factab.run_count(example.levels, example.k)
+    count = totals_rules.run_count(example.levels, example.k)
     return [] if eliminate(sure, count)[1] == count else [example.title + ": readings need figures at doubtful places"]
 
 
@@ -692,13 +695,13 @@ def pass_orders(k):
 def example_lines(number, example):
     """The lines of one example: its steps, its totals, and the totals again for every order of passes."""
     readings = whole_readings(example)
-    totals = values_text(factab.totals(example.levels, example.k, readings))
+    totals = values_text(totals_rules.totals(example.levels, example.k, readings))
     lines = ["example %d: %d levels, %d factors" % (number, example.levels, example.k)]
-    for step, column in enumerate(factab.steps(example.levels, example.k, readings), 1):
+    for step, column in enumerate(totals_rules.steps(example.levels, example.k, readings), 1):
         lines.append("step %d:%s" % (step, values_text(column)))
     lines.append("totals:" + totals)
     for calls in pass_orders(example.k):
-        answers = [factab.pass_answer(plan(example), call, readings) for call in calls]
+        answers = [totals_rules.pass_answer(plan(example), call, readings) for call in calls]
         lines.append("calls%s, answers%s:%s" % (values_text(calls), values_text(answers), totals))
     return lines
 

@@ -1,9 +1,9 @@
-# Reference program for factorial tables: the rules of the specification, computed straight from their wording.
+# Reference program for factorial tables, first part: plans, totals and words, straight from the wording of the rules.
 #
 # It is written apart from the proved program and shares nothing with it. Where that program works by passes in one
 # column, this one adds up reading times coefficient over all runs, so that an error of a pass cannot be in both.
 #
-# The table and the estimate are in anova.py.
+# The other parts: table.py has the table and the estimate, sheet_bytes.py the sheet, text.py the printed text.
 #
 # Names: a plan has levels (2 or 3), k base factors, added factors (word, sign) and block words. N is levels to the
 # power k. A run or an effect is a number below N whose digits, lowest first, belong to the factors A, B, C and so on;
@@ -19,8 +19,9 @@
 #   divisor, denominator, numerator       an effect's part of the sum of squares, in whole numbers
 #   check_number                          what the totals must add up to, from the readings
 #   letter_count, combine, confounded     words of a plan
+#   block_of                              the block of a run
 #   plan_answer                           the plan check: 0, or the lowest of 2 to 8 that applies
-#   pass_answer, step_answer, totals_answer   the answers of these calls: 0, or the lowest number that applies (columns_answer)
+#   pass_answer, step_answer, totals_answer   the answers of these calls: 0, or the lowest number that applies
 
 from collections import namedtuple
 from itertools import combinations
@@ -142,16 +143,21 @@ def confounded(blocks):
     return [combine(chosen) for count in range(1, len(blocks) + 1) for chosen in combinations(blocks, count)]
 
 
+def block_of(plan, run):
+    """The block number of a run: bit j is set when an odd number of the letters of block word j are high."""
+    return sum(letter_count(word & run) % 2 << place for place, word in enumerate(plan.blocks))
+
+
 # ---- the plan check ----
 
 def too_many(plan):
-    """Number 4: over 6 added factors, over 4 block words, or either at three levels."""
+    """Refusal 4: over 6 added factors, over 4 block words, or either at three levels."""
     return (len(plan.added) > MOST_ADDED or len(plan.blocks) > MOST_BLOCK_WORDS
             or plan.levels == 3 and bool(plan.added or plan.blocks))
 
 
 def bad_word(plan):
-    """Number 5: a letter beyond k, an added word under two letters, a sign over 1, an empty block word."""
+    """Refusal 5: a letter beyond k, an added word under two letters, a sign over 1, an empty block word."""
     words = [word for word, _ in plan.added] + list(plan.blocks)
     return (any(word >> plan.k for word in words)
             or any(letter_count(word) < 2 or sign > 1 for word, sign in plan.added)
@@ -159,18 +165,18 @@ def bad_word(plan):
 
 
 def equal_added(plan):
-    """Number 6: two added factors with one word."""
+    """Refusal 6: two added factors with one word."""
     words = [word for word, _ in plan.added]
     return len(set(words)) < len(words)
 
 
 def dependent_blocks(plan):
-    """Number 7: some one or more block words combine to the empty word."""
+    """Refusal 7: some one or more block words combine to the empty word."""
     return 0 in confounded(plan.blocks)
 
 
 def lost_factor(plan):
-    """Number 8: a confounded effect is one letter or an added factor's word."""
+    """Refusal 8: a confounded effect is one letter or an added factor's word."""
     added = [word for word, _ in plan.added]
     return any(letter_count(word) == 1 or word in added for word in confounded(plan.blocks))
 
@@ -190,12 +196,12 @@ def plan_answer(plan):
 # ---- the answers of the calls ----
 
 def wrong_length(plan, columns):
-    """Number 11: a column that does not have N places."""
+    """Refusal 11: a column that does not have N places."""
     return any(len(column) != run_count(plan.levels, plan.k) for column in columns)
 
 
 def beyond(column, limit):
-    """Number 12: a value beyond the limit either way."""
+    """Refusal 12: a value beyond the limit either way."""
     return any(abs(value) > limit for value in column)
 
 

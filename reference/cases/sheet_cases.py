@@ -1,5 +1,6 @@
-# Sheets for the two calls that take one, and the expected text of the program that tries them: sheets with a name, whose
-# numbers are listed here, and 600 sheets that are made and damaged by numbers from a fixed seed. sheet.py answers them.
+# Sheets for the two calls that take one, and the expected text of the program worked_sheets, which tries them: sheets with
+# a name, whose numbers are listed here, and 600 sheets that are made and damaged by numbers from a fixed seed.
+# rules/sheet_bytes.py answers them.
 #
 # The program reads records, one for each sheet in this order: room, the number of places of the column that it lends, and
 # length, two bytes each and big-endian; then so many bytes of a sheet. Before each call every place of the column holds a
@@ -18,20 +19,24 @@
 #   check                list of complaints, empty if all is well
 #   counted              a number by which every value of a list counts
 #   expected_text        the expected text
-#   inputs               the input of the program (sheets.py inputs)
-#   list_text            a line for each sheet, with its number, answer and name (sheets.py list)
+#   inputs               the input of the program (sheet_cases.py inputs)
+#   list_text            a line for each sheet, with its number, answer and name (sheet_cases.py list)
 
 import sys
 from collections import Counter, namedtuple
+from os.path import abspath, dirname
 
-import anova
-import answers
-import factab
-import sheet
-from anova import row_number
-from answers import AB, ABC, BC, EIGHT, FOUR, FOUR_BLOCKS, SIX_ADDED, TEN
-from factab import DONE, Plan
-from sheet import ADDED, BLOCK, MARKS, PLAN, READINGS, field
+sys.path.insert(0, dirname(dirname(dirname(abspath(__file__)))))
+
+from reference.cases import answers
+from reference.cases.answers import AB, ABC, BC, EIGHT, FOUR
+from reference.published.analyses import FOUR_BLOCKS, SIX_ADDED, TEN
+from reference.rules import sheet_bytes
+from reference.rules import table as table_rules
+from reference.rules import totals as totals_rules
+from reference.rules.sheet_bytes import ADDED, BLOCK, MARKS, PLAN, READINGS, field
+from reference.rules.table import row_number
+from reference.rules.totals import DONE, Plan
 
 # contents: what the sheet was made from, where nothing is damaged.
 Case = namedtuple("Case", "number why sheet room contents", defaults=(None,))
@@ -49,13 +54,13 @@ ANSWERS = (DONE, 1, 2, 3, 4, 5, 6, 7, 8, 11, 12, 13)
 TWO, THREE, ONE = Plan(2, 2), Plan(2, 3), Plan(2, 1)
 LAST = [0, 0, 0, 1]
 SPREAD = (0, 1, -1, 127, -128, 128, 255, -256, 256, 32767, -32768, 65535, 65536, -65537, 99999, -99999)
-RULES = sheet.write(TWO, FOUR, LAST)
+RULES = sheet_bytes.write(TWO, FOUR, LAST)
 
 
 def lent(number, why, plan, readings, marks=None, room=None):
     """The sheet of a plan; what is not said: marks 0, and a column as long as the readings."""
-    rows = [0] * anova.row_count(plan.k) if marks is None else marks
-    return Case(number, why, sheet.write(plan, readings, rows), len(readings) if room is None else room)
+    rows = [0] * table_rules.row_count(plan.k) if marks is None else marks
+    return Case(number, why, sheet_bytes.write(plan, readings, rows), len(readings) if room is None else room)
 
 
 def spread(count):
@@ -65,8 +70,8 @@ def spread(count):
 
 def every_third(plan):
     """Marks of an accepted plan: 1 on every third row that may have it."""
-    kinds = anova.row_kinds(plan, [0] * anova.row_count(plan.k))
-    return [int(row % 3 == 1 and kind == anova.KEPT) for row, kind in enumerate(kinds)]
+    kinds = table_rules.row_kinds(plan, [0] * table_rules.row_count(plan.k))
+    return [int(row % 3 == 1 and kind == table_rules.KEPT) for row, kind in enumerate(kinds)]
 
 
 MOST = Plan(2, 10, SIX_ADDED, FOUR_BLOCKS)
@@ -92,10 +97,10 @@ ACCEPTED = [
 ]
 
 
-# ---- line 1 ----
+# ---- refusal 1 ----
 
 # The fields 1, 4 and 5 of the rules' example, and a field 2 and a field 3.
-P, R, M = sheet.fields_written(TWO, FOUR, LAST)
+P, R, M = sheet_bytes.fields_written(TWO, FOUR, LAST)
 A, B = field(ADDED, bytes([0, 3, 0])), field(BLOCK, bytes([0, 3]))
 NOTHING = b""
 
@@ -105,7 +110,7 @@ def bare(why, *parts, number=1, room=4):
     return Case(number, why, b"".join(parts), room)
 
 
-LINE_1 = [bare("cut after %d bytes" % count, RULES[:count]) for count in range(len(RULES))] + [
+REFUSAL_1 = [bare("cut after %d bytes" % count, RULES[:count]) for count in range(len(RULES))] + [
     bare("one byte more", RULES, bytes([5])),
     bare("two bytes more", RULES, bytes([5, 0])),
     bare("a zero byte more", RULES, bytes([0])),
@@ -153,12 +158,12 @@ LINE_1 = [bare("cut after %d bytes" % count, RULES[:count]) for count in range(l
 ]
 
 
-# ---- the other lines ----
+# ---- the other refusals ----
 
 def shown_by_sheet(own):
     """Whether the number of a refused table comes from plan, readings and marks, and not from how long totals and rows are."""
-    runs, rows = factab.run_count(own.plan.levels, own.plan.k), anova.row_count(own.plan.k)
-    return anova.table_answer(own.plan, own.readings, own.marks, runs, rows) == own.number
+    runs, rows = totals_rules.run_count(own.plan.levels, own.plan.k), table_rules.row_count(own.plan.k)
+    return table_rules.table_answer(own.plan, own.readings, own.marks, runs, rows) == own.number
 
 
 LOW, HIGH = -2 ** 31, 2 ** 31 - 1
@@ -181,7 +186,7 @@ REFUSED = [
     lent(5, "the sixth added word alone has a letter beyond k", MOST._replace(k=9, blocks=()), FOUR, LAST),
     lent(6, "the fifth and sixth of six added words", TEN._replace(added=SIX_ADDED[:5] + SIX_ADDED[4:5]), FOUR, LAST),
     lent(7, "the fourth block word is the combination of the first three",
-         TEN._replace(blocks=FOUR_BLOCKS[:3] + (factab.combine(FOUR_BLOCKS[:3]),)), FOUR, LAST),
+         TEN._replace(blocks=FOUR_BLOCKS[:3] + (totals_rules.combine(FOUR_BLOCKS[:3]),)), FOUR, LAST),
     lent(8, "the sixth added word is the combination of the four block words",
          MOST._replace(added=SIX_ADDED[:5] + ((1023, 0),)), FOUR, LAST),
     lent(11, "column one place short", TWO, FOUR, LAST, 3),
@@ -208,7 +213,7 @@ REFUSED = [
 ]
 
 
-# ---- two lines at once, of which the lower counts; TABLE_REFUSALS has others ----
+# ---- two refusals at once, of which the lower counts; TABLE_REFUSALS has others ----
 
 def cut(own, why, count=1):
     """The sheet without its last bytes, and so refused with 1."""
@@ -216,7 +221,7 @@ def cut(own, why, count=1):
 
 
 SEVEN = Plan(2, 2, ((1, 9),) * 7)
-TWO_LINES = [
+TWO_REFUSALS = [
     cut(lent(2, "", Plan(4, 2), FOUR, LAST), "1 and 2: levels 4, last byte cut"),
     cut(lent(3, "", Plan(2, 11), FOUR, LAST), "1 and 3: k = 11, last byte cut"),
     cut(lent(4, "", Plan(2, 2, ((AB, 0),) * 300), FOUR, LAST), "1 and 4: 300 added factors, last byte cut"),
@@ -255,7 +260,7 @@ TWO_LINES = [
     lent(12, "12 and 13: three levels, the least i32, mark 2", Plan(3, 1), [LOW, 5, 3], [0, 2]),
 ]
 
-CASES = ACCEPTED + LINE_1 + TABLE_REFUSALS + REFUSED + TWO_LINES
+CASES = ACCEPTED + REFUSAL_1 + TABLE_REFUSALS + REFUSED + TWO_REFUSALS
 
 
 # ---- sheets that are made ----
@@ -286,11 +291,11 @@ def made_plan(numbers):
     if numbers.below(6) == 0:
         return Plan(3, 1 + numbers.below(2))
     k = 1 + numbers.below(4)
-    words = [word for word in range(2 ** k) if factab.letter_count(word) > 1]
+    words = [word for word in range(2 ** k) if totals_rules.letter_count(word) > 1]
     while True:
         added = tuple((numbers.choose(words), numbers.below(2)) for _ in range(numbers.below(5))) if words else ()
         blocks = tuple(numbers.choose(words) for _ in range(numbers.below(3))) if words else ()
-        if factab.plan_answer(Plan(2, k, added, blocks)) == DONE:
+        if totals_rules.plan_answer(Plan(2, k, added, blocks)) == DONE:
             return Plan(2, k, added, blocks)
 
 
@@ -298,9 +303,9 @@ def made_contents(numbers):
     """A plan, readings and marks that are accepted."""
     plan = made_plan(numbers)
     readings = [numbers.choose(LIMITS) if numbers.below(3) == 0 else numbers.below(200001) - 100000
-                for _ in range(factab.run_count(plan.levels, plan.k))]
-    kinds = anova.row_kinds(plan, [0] * anova.row_count(plan.k))
-    return sheet.Contents(plan, readings, bytes(numbers.below(2) if kind == anova.KEPT else 0 for kind in kinds))
+                for _ in range(totals_rules.run_count(plan.levels, plan.k))]
+    kinds = table_rules.row_kinds(plan, [0] * table_rules.row_count(plan.k))
+    return sheet_bytes.Contents(plan, readings, bytes(numbers.below(2) if kind == table_rules.KEPT else 0 for kind in kinds))
 
 
 def made_room(numbers, runs):
@@ -359,14 +364,14 @@ def damage_drop(numbers, parts):
 def damage_length(numbers, parts):
     """The length of a field is off by one, and its body as it was."""
     at = numbers.below(len(parts))
-    length = sheet.number_of(parts[at][1:3]) + numbers.choose((-1, 1))
+    length = sheet_bytes.number_of(parts[at][1:3]) + numbers.choose((-1, 1))
     changed = parts[at][:1] + (length % 2 ** 16).to_bytes(2, "big") + parts[at][3:]
     return parts[:at] + [changed] + parts[at + 1:]
 
 
 def damage_count(numbers, parts):
     """A reading or a mark too many or too few; the length of the field says so."""
-    tag, size = numbers.choose(((READINGS, sheet.READING_LENGTH), (MARKS, 1)))
+    tag, size = numbers.choose(((READINGS, sheet_bytes.READING_LENGTH), (MARKS, 1)))
     more = numbers.below(2)
     return [field(tag, part[3:] + part[3:3 + size] if more else part[3:-size]) if part[0] == tag else part for part in parts]
 
@@ -374,7 +379,7 @@ def damage_count(numbers, parts):
 def damage_words(numbers, parts):
     """One, two or seven fields 2 or 3 more, before the fields of higher tags."""
     tag, count = numbers.choose((ADDED, BLOCK)), numbers.choose((1, 1, 2, 7))
-    bodies = [bytes([0, numbers.below(8), numbers.below(2)])[:sheet.BODY_LENGTHS[tag]] for _ in range(count)]
+    bodies = [bytes([0, numbers.below(8), numbers.below(2)])[:sheet_bytes.BODY_LENGTHS[tag]] for _ in range(count)]
     at = next((place for place, part in enumerate(parts) if part[0] > tag), len(parts))
     return parts[:at] + [field(tag, body) for body in bodies] + parts[at:]
 
@@ -405,7 +410,7 @@ DAMAGES = {
     "byte of a body changed": damage_body,
 }
 
-# Most ways lead to line 1; the last is chosen more often than others.
+# Most ways lead to refusal 1; the last is chosen more often than others.
 WAYS = list(DAMAGES) + ["byte of a body changed"] * 6
 UNDAMAGED = "undamaged"
 
@@ -419,7 +424,7 @@ def made(numbers):
     """A sheet that is made: a fifth of all undamaged, a sixth of the others damaged twice."""
     contents = made_contents(numbers)
     room = made_room(numbers, len(contents.readings))
-    parts = sheet.fields_written(*contents)
+    parts = sheet_bytes.fields_written(*contents)
     if numbers.below(5) == 0:
         return Case(None, UNDAMAGED, b"".join(parts), room, contents)
     ways = [numbers.choose(WAYS) for _ in range(2 if numbers.below(6) == 0 else 1)]
@@ -438,41 +443,43 @@ SHEETS = CASES + MADE
 def check_case(own):
     """Complaints about a sheet with a name: the number that is listed, and marks as the number without the column says."""
     complaints = []
-    number = sheet.read(own.sheet, own.room).number
+    number = sheet_bytes.read(own.sheet, own.room).refused
     if number != own.number:
         complaints.append("%d, listed %d" % (number, own.number))
-    if bool(sheet.marks_part(own.sheet)) != (sheet.sheet_answer(own.sheet, MOST_ROOM) == DONE):
+    if bool(sheet_bytes.marks_part(own.sheet)) != (sheet_bytes.sheet_answer(own.sheet, MOST_ROOM) == DONE):
         complaints.append("marks")
     return ["%s: %s" % (own.why, complaint) for complaint in complaints]
 
 
 def check_table(own):
-    """The column aside, a sheet to which number 1 does not apply is refused as the table of what it holds would be."""
-    fields = sheet.fields_of(own.sheet)
-    if fields is None or sheet.bad_fields(fields):
+    """The column aside, a sheet to which refusal 1 does not apply is refused as the table of what it holds would be."""
+    fields = sheet_bytes.fields_of(own.sheet)
+    if fields is None or sheet_bytes.bad_fields(fields):
         return []
-    plan, readings, marks = sheet.contents_of(fields)
-    lengths = factab.run_count(plan.levels, plan.k), anova.row_count(plan.k)
-    same = anova.table_answer(plan, readings, marks, *lengths) == sheet.sheet_answer(own.sheet)
+    plan, readings, marks = sheet_bytes.contents_of(fields)
+    lengths = totals_rules.run_count(plan.levels, plan.k), table_rules.row_count(plan.k)
+    same = table_rules.table_answer(plan, readings, marks, *lengths) == sheet_bytes.sheet_answer(own.sheet)
     return [] if same else ["%s: another number than of the table" % own.why]
 
 
 def check_longest():
     """The longest sheet that is accepted has the length that the rules give."""
-    longest = max(len(own.sheet) for own in SHEETS if sheet.read(own.sheet, own.room).number == DONE)
+    longest = max(len(own.sheet) for own in SHEETS if sheet_bytes.read(own.sheet, own.room).refused == DONE)
     return [] if longest == MOST_SHEET else ["longest sheet: %d bytes" % longest]
 
 
 def check_undamaged(own):
     """Complaints about a sheet that is made and not damaged: it is read as what it was made from, if the column has room."""
     plan, readings, marks = own.contents
-    meant = sheet.Sheet(DONE, plan, readings) if own.room >= len(readings) else sheet.Sheet(11, sheet.NO_PLAN, [])
-    return [] if (sheet.read(own.sheet, own.room), sheet.marks_part(own.sheet)) == (meant, marks) else ["undamaged sheet"]
+    fits = own.room >= len(readings)
+    meant = sheet_bytes.Sheet(DONE, plan, readings) if fits else sheet_bytes.Sheet(11, sheet_bytes.NO_PLAN, [])
+    found = sheet_bytes.read(own.sheet, own.room), sheet_bytes.marks_part(own.sheet)
+    return [] if found == (meant, marks) else ["undamaged sheet"]
 
 
 def check_spread():
     """Every answer, every way of damage and every kind of plan occurs among the sheets that are made."""
-    numbers = Counter(sheet.read(own.sheet, own.room).number for own in MADE)
+    numbers = Counter(sheet_bytes.read(own.sheet, own.room).refused for own in MADE)
     ways = Counter(way for own in MADE for way in own.why.split(", "))
     sizes = Counter((own.contents.plan.levels, own.contents.plan.k) for own in MADE if own.contents)
     complaints = ["made sheets: answer %d %d times" % (number, numbers[number]) for number in ANSWERS if numbers[number] < 4]
@@ -528,12 +535,12 @@ def marks_of(marks):
 
 def sheet_line(number, own):
     """The line of a sheet."""
-    found = sheet.read(own.sheet, own.room)
+    found = sheet_bytes.read(own.sheet, own.room)
     plan = found.plan
     return "%d: %s, plan %d %d, added%s, blocks%s, readings%s, kept %d, marks%s" % (
-        number, "refused %d" % found.number if found.number else "done", plan.levels, plan.k,
+        number, "refused %d" % found.refused if found.refused else "done", plan.levels, plan.k,
         list_of(["%d/%d" % pair for pair in plan.added]), list_of([str(word) for word in plan.blocks]),
-        values_of(found.readings), own.room - len(found.readings), marks_of(sheet.marks_part(own.sheet)))
+        values_of(found.readings), own.room - len(found.readings), marks_of(sheet_bytes.marks_part(own.sheet)))
 
 
 def expected_text():
@@ -548,7 +555,7 @@ def inputs():
 
 def list_text():
     """A line for each sheet: its number, what the reader answers, and its name or how it is damaged."""
-    return "".join("%d: %d, %s\n" % (number, sheet.read(own.sheet, own.room).number, own.why)
+    return "".join("%d: %d, %s\n" % (number, sheet_bytes.read(own.sheet, own.room).refused, own.why)
                    for number, own in enumerate(SHEETS, 1))
 
 

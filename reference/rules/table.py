@@ -1,7 +1,8 @@
-# Reference program for factorial tables, second part: the table and the estimate, straight from the wording of the rules.
+# Reference program for factorial tables, second part: the table and the estimate, straight from the wording of the
+# rules.
 #
-# Plans, totals, numerators and words are those of factab.py. Like it, this file is written apart from the proved program
-# and shares nothing with it.
+# Plans, totals, numerators and words are those of totals.py. Like it, this file is written apart from the proved
+# program and shares nothing with it.
 #
 # Names: a row is a set of base letters, bit 0 for A. There are R rows, 2 to the power k. An effect uses the letters whose
 # digits in its number are not 0. Each row has a mark, 0 or 1, and is of one kind: mean, blocks, error or kept.
@@ -22,7 +23,7 @@ import struct
 from collections import namedtuple
 from fractions import Fraction
 
-import factab
+from reference.rules import totals as totals_rules
 
 MEAN, KEPT, BLOCKS, ERROR = "mean", "kept", "blocks", "error"
 KINDS = (MEAN, KEPT, BLOCKS, ERROR)
@@ -53,21 +54,21 @@ def row_number(label):
 
 def letters_used(levels, k, effect):
     """The set of the letters whose digits in the effect's number are not 0."""
-    return sum(1 << letter for letter, digit in enumerate(factab.digits(levels, k, effect)) if digit)
+    return sum(1 << letter for letter, digit in enumerate(totals_rules.digits(levels, k, effect)) if digit)
 
 
 def row_degrees(levels, row):
     """1 at two levels. At three levels 2 for each letter multiplied; row 0 has 1."""
     if levels == 2:
         return 1
-    return 2 ** factab.letter_count(row)
+    return 2 ** totals_rules.letter_count(row)
 
 
 def row_numerators(levels, k, totals):
     """For each row the sum of the numerators of every effect using exactly its letters."""
     sums = [0] * row_count(k)
     for effect, total in enumerate(totals):
-        sums[letters_used(levels, k, effect)] += factab.numerator(levels, k, effect, total)
+        sums[letters_used(levels, k, effect)] += totals_rules.numerator(levels, k, effect, total)
     return sums
 
 
@@ -75,7 +76,7 @@ def row_kind(plan, row, mark):
     """Row 0 is the mean, confounded rows are blocks, rows with mark 1 are error, and mark 0 keeps any other row."""
     if row == 0:
         return MEAN
-    if row in factab.confounded(plan.blocks):
+    if row in totals_rules.confounded(plan.blocks):
         return BLOCKS
     return ERROR if mark == 1 else KEPT
 
@@ -95,43 +96,43 @@ def added_up(parts):
 def table_of_totals(plan, readings, marks, totals):
     """The table of an accepted plan, its readings and marks, where the totals are already there."""
     levels, k = plan.levels, plan.k
-    over = factab.denominator(levels, k)
+    over = totals_rules.denominator(levels, k)
     rows = [Part(row_degrees(levels, row), numerator)
             for row, numerator in enumerate(row_numerators(levels, k, totals))]
     kinds = row_kinds(plan, marks)
     of_kind = {kind: added_up([part for part, own in zip(rows, kinds) if own == kind]) for kind in KINDS}
-    total = Part(factab.run_count(levels, k), over * sum(reading ** 2 for reading in readings))
+    total = Part(totals_rules.run_count(levels, k), over * sum(reading ** 2 for reading in readings))
     return Table(over, of_kind[MEAN], of_kind[KEPT], of_kind[BLOCKS], of_kind[ERROR], total,
-                 sum(totals), factab.check_number(levels, k, readings), totals, rows, kinds)
+                 sum(totals), totals_rules.check_number(levels, k, readings), totals, rows, kinds)
 
 
 def table(plan, readings, marks):
     """The table of an accepted plan, its readings and marks, with totals by the definition."""
-    return table_of_totals(plan, readings, marks, factab.totals(plan.levels, plan.k, readings))
+    return table_of_totals(plan, readings, marks, totals_rules.totals(plan.levels, plan.k, readings))
 
 
 def wrong_lengths(plan, readings, marks, totals_length, rows_length):
-    """Number 11: readings, totals, rows or marks not N, N, R, R long."""
-    runs, rows = factab.run_count(plan.levels, plan.k), row_count(plan.k)
+    """Refusal 11: readings, totals, rows or marks not N, N, R, R long."""
+    runs, rows = totals_rules.run_count(plan.levels, plan.k), row_count(plan.k)
     return (len(readings), totals_length, rows_length, len(marks)) != (runs, runs, rows, rows)
 
 
 def bad_mark(plan, marks):
-    """Number 13: a mark over 1, or mark 1 on the mean or a blocks row."""
+    """Refusal 13: a mark over 1, or mark 1 on the mean or a blocks row."""
     kinds = row_kinds(plan, [0] * len(marks))
     return any(mark > 1 or mark == 1 and kind in (MEAN, BLOCKS) for mark, kind in zip(marks, kinds))
 
 
 def table_answer(plan, readings, marks, totals_length, rows_length):
     """The table call: 2 to 8, 11, 12, 13, or 0."""
-    refused = factab.plan_answer(plan)
+    refused = totals_rules.plan_answer(plan)
     if refused:
         return refused
     if wrong_lengths(plan, readings, marks, totals_length, rows_length):
         return 11
-    if factab.beyond(readings, factab.MOST_READING):
+    if totals_rules.beyond(readings, totals_rules.MOST_READING):
         return 12
-    return 13 if bad_mark(plan, marks) else factab.DONE
+    return 13 if bad_mark(plan, marks) else totals_rules.DONE
 
 
 # ---- the estimate ----
@@ -141,7 +142,7 @@ LOST, DIFFERENCE = "lost", "difference"
 
 def estimate(plan, effect, total):
     """The outcome for an effect of an accepted two-level plan, with the exact quotient; None where it is lost."""
-    if effect in factab.confounded(plan.blocks):
+    if effect in totals_rules.confounded(plan.blocks):
         return LOST, None
     if effect == 0:
         return MEAN, Fraction(total, 2 ** plan.k)
@@ -150,14 +151,14 @@ def estimate(plan, effect, total):
 
 def estimate_answer(plan, effect, total):
     """The estimate call: 2 to 8, 9, 10, 12, or 0."""
-    refused = factab.plan_answer(plan)
+    refused = totals_rules.plan_answer(plan)
     if refused:
         return refused
     if plan.levels == 3:
         return 9
     if effect >> plan.k:
         return 10
-    return 12 if abs(total) > 2 ** plan.k * factab.MOST_READING else factab.DONE
+    return 12 if abs(total) > 2 ** plan.k * totals_rules.MOST_READING else totals_rules.DONE
 
 
 def exact_double(quotient):

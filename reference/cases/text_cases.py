@@ -1,99 +1,120 @@
 # Sheets for the program factab, and the text that it must print for each: sheets with a name, whose numbers are listed
-# here, and 400 that are made by numbers from a fixed seed. report.py makes the texts.
+# here, and 400 that are made by numbers from a fixed seed. rules/text.py makes the texts.
 #
-# The program worked_reports reads records, one for each sheet in this order: length, two bytes and big-endian, then so
+# The program worked_texts reads records, one for each sheet in this order: length, two bytes and big-endian, then so
 # many bytes of a sheet. It writes for each record the text of its sheet, and nothing between these texts.
 #
 # A sheet that is made is lawful, spoiled or damaged, about a third each. It is spoiled before it is written: what it
-# holds is changed so that a line of the rules applies, and no lower one. Where it is spoiled for several lines, the
-# lowest of their numbers is the answer. It is damaged after it is written, in a way of sheets.py, and then its number
-# is not listed.
+# holds is changed so that a refusal of the rules applies, and no lower one. Where it is spoiled for several refusals,
+# the lowest of their numbers is the answer. It is damaged after it is written, in a way of sheet_cases.py, and then its
+# number is not listed.
 #
 # Defined here:
+#   RULES_SHEET, RULES_TEXT   the example of the rules: its sheet, and the text that they print
+#   SIZES                   levels and factors of all sizes of plans
 #   Case                    a sheet with a name; number is the answer that the rules give, None if it is not listed
 #   CASES                   the sheets with a name
 #   plan_with, made_plan, made_readings, made_marks, made_contents   lawful plans, readings and marks
-#   SPOILS, spoiled         ways to spoil these, by line, and what is spoiled in one to three of them
+#   SPOILS, spoiled         ways to spoil these, by refusal, and what is spoiled in one to three of them
 #   made, MADE              a sheet that is made, of one of some sizes of plans; the 400 of them
 #   Printed, printed        the figures of a text, as they are printed
 #   check                   list of complaints, empty if all is well
 #   expected_text           the expected text
-#   inputs                  the input of the program (reports.py inputs)
-#   list_text               a line for each sheet, with its number, answer and name (reports.py list)
+#   inputs                  the input of the program (text_cases.py inputs)
+#   list_text               a line for each sheet, with its number, answer and name (text_cases.py list)
 
 import re
 import sys
 from collections import Counter, namedtuple
 from functools import lru_cache
+from os.path import abspath, dirname
 
-import anova
-import factab
-import report
-import sheet
-import sheets
-import tables
-from anova import BLOCKS, ERROR, KEPT, MEAN, row_number
-from factab import DONE, Plan
-from sheet import Contents
+sys.path.insert(0, dirname(dirname(dirname(abspath(__file__)))))
 
-# table: the table of tables.py that the sheet is of, if it is of one. alone: what the reader answers if that is another
-# number, because the sheet is too long.
+from reference.cases import sheet_cases
+from reference.published import analyses
+from reference.rules import sheet_bytes
+from reference.rules import table as table_rules
+from reference.rules import text as text_rules
+from reference.rules import totals as totals_rules
+from reference.rules.sheet_bytes import Contents
+from reference.rules.table import BLOCKS, ERROR, KEPT, MEAN, row_number
+from reference.rules.totals import DONE, Plan
+
+# table: the table of published/analyses.py that the sheet is of, if it is of one. alone: what the reader answers if that
+# is another number, because the sheet is too long.
 Case = namedtuple("Case", "number name sheet table alone", defaults=(None, None))
 
 MOST_INPUT, MOST_TEXT = 150_000, 450_000
-TOP = factab.MOST_READING
+TOP = totals_rules.MOST_READING
+
+SIZES = [(levels, k) for levels, most in totals_rules.MOST_FACTORS.items() for k in range(1, most + 1)]
+
+# The program's text for 3, 5, 4, 8 with marks 0, 0, 0, 1, as the rules print it.
+RULES_SHEET = sheet_bytes.write(Plan(2, 2), [3, 5, 4, 8], [0, 0, 0, 1])
+RULES_TEXT = b"""\
+over 4
+mean 1 400
+A 1 36
+B 1 16
+AB 1 4 error
+blocks 0 0
+error 1 4
+total 4 456
+check 12 12
+"""
 
 
 # ---- sheets with a name: tables ----
 
 def of_table(own):
     """The sheet of a worked table."""
-    return Case(DONE, own.title, sheet.write(own.plan, own.readings, tables.marks_of(own)), own)
+    return Case(DONE, own.title, sheet_bytes.write(own.plan, own.readings, analyses.marks_of(own)), own)
 
 
 def lawful(name, plan, readings, marks):
     """A sheet that is accepted."""
-    return Case(DONE, name, sheet.write(plan, readings, marks))
+    return Case(DONE, name, sheet_bytes.write(plan, readings, marks))
 
 
 def no_marks(plan):
     """Mark 0 on every row."""
-    return [0] * anova.row_count(plan.k)
+    return [0] * table_rules.row_count(plan.k)
 
 
 def all_marks(plan):
     """Mark 1 on every row that may have it."""
-    return [int(kind == KEPT) for kind in anova.row_kinds(plan, no_marks(plan))]
+    return [int(kind == KEPT) for kind in table_rules.row_kinds(plan, no_marks(plan))]
 
 
 def one_reading(plan, run, reading):
     """A reading for one run, and 0 for the others."""
-    return [reading if own == run else 0 for own in range(factab.run_count(plan.levels, plan.k))]
+    return [reading if own == run else 0 for own in range(totals_rules.run_count(plan.levels, plan.k))]
 
 
 def alternating(plan, first):
     """A reading and its opposite in turn. At three levels the sum of totals is then as far from 0 as it can be."""
-    return [-first if run % 2 else first for run in range(factab.run_count(plan.levels, plan.k))]
+    return [-first if run % 2 else first for run in range(totals_rules.run_count(plan.levels, plan.k))]
 
 
 def of_size(levels, k):
     """A sheet of so many levels and factors, with readings spread out and every third row marked."""
     plan = Plan(levels, k)
-    readings = sheets.spread(factab.run_count(levels, k))
-    return lawful("%d levels, %d factors, spread" % (levels, k), plan, readings, sheets.every_third(plan))
+    readings = sheet_cases.spread(totals_rules.run_count(levels, k))
+    return lawful("%d levels, %d factors, spread" % (levels, k), plan, readings, sheet_cases.every_third(plan))
 
 
 # The example of the rules comes first.
-WORKED = ([of_table(tables.RULES_TWO_FACTORS)]
-          + [of_table(own) for own in tables.TABLES if own is not tables.RULES_TWO_FACTORS])
+WORKED = ([of_table(analyses.RULES_TWO_FACTORS)]
+          + [of_table(own) for own in analyses.TABLES if own is not analyses.RULES_TWO_FACTORS])
 
 # The largest plans are among the worked tables.
-EVERY_SIZE = [of_size(levels, k) for levels, k in report.SIZES if k < factab.MOST_FACTORS[levels]]
+EVERY_SIZE = [of_size(levels, k) for levels, k in SIZES if k < totals_rules.MOST_FACTORS[levels]]
 
 ONE, TWO, THREE, EIGHT_FACTORS, SIX = Plan(2, 1), Plan(2, 2), Plan(2, 3), Plan(2, 8), Plan(3, 6)
 FOUR, EIGHT = [3, 5, 4, 8], [1, 2, 3, 4, 5, 6, 7, 8]
 IN_BLOCKS = Plan(2, 4, (), (row_number("AD"), row_number("ABC")))
-LONGEST = sheets.MOST
+LONGEST = sheet_cases.MOST
 
 LAWFUL = [
     lawful("readings 0, marks on all rows", THREE, [0] * 8, all_marks(THREE)),
@@ -105,7 +126,7 @@ LAWFUL = [
     lawful("first reading 0, check numbers 0", TWO, [0, 5, -4, 8], no_marks(TWO)),
     lawful("marks on all rows, one factor", ONE, [-100000, 100000], all_marks(ONE)),
     lawful("marks on all rows, blocks AD, ABC, BCD", IN_BLOCKS, range(16), all_marks(IN_BLOCKS)),
-    lawful("marks on all rows, three levels", Plan(3, 3), sheets.spread(27), all_marks(Plan(3, 3))),
+    lawful("marks on all rows, three levels", Plan(3, 3), sheet_cases.spread(27), all_marks(Plan(3, 3))),
     lawful("no kept row: k = 2, block word AB, marks on A and B", Plan(2, 2, (), (3,)), FOUR, [0, 1, 1, 0]),
     lawful("eight factors, the first reading -100000, others 0", EIGHT_FACTORS, one_reading(EIGHT_FACTORS, 0, -TOP),
            no_marks(EIGHT_FACTORS)),
@@ -122,14 +143,14 @@ LAWFUL = [
 
 def refused(number, name, plan, readings, marks=None):
     """A sheet that is refused; marks 0 where they are not said."""
-    return Case(number, name, sheet.write(plan, readings, no_marks(plan) if marks is None else marks))
+    return Case(number, name, sheet_bytes.write(plan, readings, no_marks(plan) if marks is None else marks))
 
 
 AB, ABC, C = row_number("AB"), row_number("ABC"), row_number("C")
 
 
 def small(number, name, plan, readings, marks=None):
-    """The small input of a line."""
+    """The small input of a refusal."""
     return refused(number, "small input of %d: %s" % (number, name), plan, readings, marks)
 
 
@@ -152,17 +173,17 @@ MOST_BYTES_TAKEN = 200
 
 
 def taken(own):
-    """Whether a sheet of sheets.py is used here: it is short, and its number has nothing to do with the column."""
+    """Whether a sheet of sheet_cases.py is used here: it is short, and its number has nothing to do with the column."""
     return len(own.sheet) <= MOST_BYTES_TAKEN and "column" not in own.why
 
 
 EARLIER = {own.sheet for own in WORKED + SMALL}
-TAKEN = [Case(own.number, own.why, own.sheet) for own in sheets.CASES if taken(own) and own.sheet not in EARLIER]
+TAKEN = [Case(own.number, own.why, own.sheet) for own in sheet_cases.CASES if taken(own) and own.sheet not in EARLIER]
 
 
 # ---- sheets with a name: 5,187 bytes and more ----
 
-SPREAD = sheets.spread(1024)
+SPREAD = sheet_cases.spread(1024)
 NO_MARKS, TOO_MANY_MARKS = [0] * 1024, [0] * 1025
 FITTING = [
     refused(12, "5,187 bytes, the last reading 100,001", LONGEST, SPREAD[:1023] + [100001]),
@@ -176,10 +197,10 @@ def too_long(alone, name, own_sheet):
 
 
 TOO_LONG = [
-    too_long(1, "the longest sheet and a byte more", sheet.write(LONGEST, SPREAD, NO_MARKS) + b"\0"),
-    too_long(11, "the longest sheet with a mark more", sheet.write(LONGEST, SPREAD, TOO_MANY_MARKS)),
-    too_long(2, "the same with levels 4", sheet.write(LONGEST._replace(levels=4), SPREAD, TOO_MANY_MARKS)),
-    too_long(4, "k = 2 and 1,000 added factors", sheet.write(Plan(2, 2, ((AB, 0),) * 1000), FOUR, [0] * 4)),
+    too_long(1, "the longest sheet and a byte more", sheet_bytes.write(LONGEST, SPREAD, NO_MARKS) + b"\0"),
+    too_long(11, "the longest sheet with a mark more", sheet_bytes.write(LONGEST, SPREAD, TOO_MANY_MARKS)),
+    too_long(2, "the same with levels 4", sheet_bytes.write(LONGEST._replace(levels=4), SPREAD, TOO_MANY_MARKS)),
+    too_long(4, "k = 2 and 1,000 added factors", sheet_bytes.write(Plan(2, 2, ((AB, 0),) * 1000), FOUR, [0] * 4)),
 ]
 
 CASES = WORKED + EVERY_SIZE + LAWFUL + SMALL + TAKEN + FITTING + TOO_LONG
@@ -197,7 +218,7 @@ FEW_RUNS = ([(2, 1), (2, 2), (2, 3), (2, 4), (3, 1), (3, 2)] * 6 + [(2, 2), (2, 
 
 def long_words(k):
     """The words of two or more of k letters."""
-    return [word for word in range(2 ** k) if factab.letter_count(word) > 1]
+    return [word for word in range(2 ** k) if totals_rules.letter_count(word) > 1]
 
 
 def plan_with(numbers, k, added_count, block_count):
@@ -212,8 +233,9 @@ def made_plan(numbers, levels, k):
     if levels == 3 or k == 1:
         return Plan(levels, k)
     while True:
-        plan = plan_with(numbers, k, numbers.below(factab.MOST_ADDED + 1), numbers.below(factab.MOST_BLOCK_WORDS + 1))
-        if factab.plan_answer(plan) == DONE:
+        added_count = numbers.below(totals_rules.MOST_ADDED + 1)
+        plan = plan_with(numbers, k, added_count, numbers.below(totals_rules.MOST_BLOCK_WORDS + 1))
+        if totals_rules.plan_answer(plan) == DONE:
             return plan
 
 
@@ -224,8 +246,8 @@ def made_readings(numbers, count):
         most = numbers.choose((9, 999, TOP))
         return [numbers.below(2 * most + 1) - most for _ in range(count)]
     if way < 6:
-        return [numbers.choose((-TOP, TOP) if way == 4 else sheets.LIMITS) for _ in range(count)]
-    reading, place = numbers.choose(sheets.LIMITS), numbers.below(count)
+        return [numbers.choose((-TOP, TOP) if way == 4 else sheet_cases.LIMITS) for _ in range(count)]
+    reading, place = numbers.choose(sheet_cases.LIMITS), numbers.below(count)
     return [reading if way == 6 or run == place else 0 for run in range(count)]
 
 
@@ -239,13 +261,13 @@ def made_contents(numbers, sizes):
     """Plan, readings and marks that are lawful, of one of some sizes."""
     levels, k = numbers.choose(sizes)
     plan = made_plan(numbers, levels, k)
-    return Contents(plan, made_readings(numbers, factab.run_count(levels, k)), made_marks(numbers, plan))
+    return Contents(plan, made_readings(numbers, totals_rules.run_count(levels, k)), made_marks(numbers, plan))
 
 
 # ---- sheets that are made: spoiled ----
 #
-# Each way takes numbers, and contents that are lawful or spoiled for higher lines only. It gives contents to which its
-# line applies, and no lower one.
+# Each way takes numbers, and contents that are lawful or spoiled for higher refusals only. It gives contents to which its
+# refusal applies, and no lower one.
 
 def with_plan(contents, **values):
     """The contents with some values of the plan changed."""
@@ -261,12 +283,12 @@ def inserted(numbers, items, new, most):
 
 def with_added(numbers, contents, word, sign):
     """The contents with an added factor more."""
-    return with_plan(contents, added=inserted(numbers, contents.plan.added, (word, sign), factab.MOST_ADDED))
+    return with_plan(contents, added=inserted(numbers, contents.plan.added, (word, sign), totals_rules.MOST_ADDED))
 
 
 def with_block(numbers, contents, word):
     """The contents with a block word more."""
-    return with_plan(contents, blocks=inserted(numbers, contents.plan.blocks, word, factab.MOST_BLOCK_WORDS))
+    return with_plan(contents, blocks=inserted(numbers, contents.plan.blocks, word, totals_rules.MOST_BLOCK_WORDS))
 
 
 def spoil_levels(numbers, contents):
@@ -276,15 +298,15 @@ def spoil_levels(numbers, contents):
 
 def spoil_factors(numbers, contents):
     """k out of range."""
-    most = factab.MOST_FACTORS[contents.plan.levels]
+    most = totals_rules.MOST_FACTORS[contents.plan.levels]
     return with_plan(contents, k=numbers.choose((0, most + 1, most + 1, most + 2, 255)))
 
 
 def spoil_counts(numbers, contents):
     """Over 6 added factors, over 4 block words, or either at three levels."""
     plan, more = contents.plan, numbers.choose((1, 1, 1, 2, 20))
-    most_added, most_blocks = (factab.MOST_ADDED, factab.MOST_BLOCK_WORDS) if plan.levels == 2 else (0, 0)
-    words = [numbers.below(2 ** plan.k) for _ in range(factab.MOST_ADDED + more)]
+    most_added, most_blocks = (totals_rules.MOST_ADDED, totals_rules.MOST_BLOCK_WORDS) if plan.levels == 2 else (0, 0)
+    words = [numbers.below(2 ** plan.k) for _ in range(totals_rules.MOST_ADDED + more)]
     if numbers.below(2):
         added = plan.added + tuple((word, numbers.below(2)) for word in words)
         return with_plan(contents, added=added[:most_added + more])
@@ -309,14 +331,14 @@ def spoil_words(numbers, contents):
 def spoil_added(numbers, contents):
     """Two added factors with one word."""
     word = numbers.choose(long_words(contents.plan.k))
-    once = inserted(numbers, contents.plan.added, (word, numbers.below(2)), factab.MOST_ADDED - 1)
+    once = inserted(numbers, contents.plan.added, (word, numbers.below(2)), totals_rules.MOST_ADDED - 1)
     return with_added(numbers, with_plan(contents, added=once), word, numbers.below(2))
 
 
 def spoil_blocks(numbers, contents):
     """A block word is the combination of one or more others."""
-    blocks = contents.plan.blocks[:factab.MOST_BLOCK_WORDS - 1] or (1 + numbers.below(2 ** contents.plan.k - 1),)
-    combination = numbers.choose(factab.confounded(blocks))
+    blocks = contents.plan.blocks[:totals_rules.MOST_BLOCK_WORDS - 1] or (1 + numbers.below(2 ** contents.plan.k - 1),)
+    combination = numbers.choose(totals_rules.confounded(blocks))
     return with_block(numbers, with_plan(contents, blocks=blocks), combination)
 
 
@@ -336,8 +358,8 @@ def spoil_lengths(numbers, contents):
 def spoil_reading(numbers, contents):
     """A reading beyond 100,000 either way."""
     readings = list(contents.readings)
-    size = numbers.choose((TOP + 1, TOP + 1, TOP + 1 + numbers.below(TOP), sheets.HIGH))
-    readings[numbers.below(len(readings))] = numbers.choose((size, -size, sheets.LOW))
+    size = numbers.choose((TOP + 1, TOP + 1, TOP + 1 + numbers.below(TOP), sheet_cases.HIGH))
+    readings[numbers.below(len(readings))] = numbers.choose((size, -size, sheet_cases.LOW))
     return contents._replace(readings=readings)
 
 
@@ -347,7 +369,7 @@ def spoil_mark(numbers, contents):
     if numbers.below(2):
         marks[numbers.below(len(marks))] = numbers.choose((2, 3, 128, 255))
     else:
-        marks[numbers.choose([0] + factab.confounded(contents.plan.blocks))] = 1
+        marks[numbers.choose([0] + totals_rules.confounded(contents.plan.blocks))] = 1
     return contents._replace(marks=bytes(marks))
 
 
@@ -365,47 +387,48 @@ SPOILS = {
 }
 
 
-def lines_for(plan):
-    """The lines for which contents of a plan may be spoiled. At three levels words are refused by their count, and with
-    one factor there is no word of two letters."""
-    return [line for line in SPOILS if plan.levels == 2 or line not in (5, 6, 7, 8) if plan.k > 1 or line != 6]
+def refusals_for(plan):
+    """The refusals for which contents of a plan may be spoiled. At three levels words are refused by their count, and
+    with one factor there is no word of two letters."""
+    return [number for number in SPOILS
+            if plan.levels == 2 or number not in (5, 6, 7, 8) if plan.k > 1 or number != 6]
 
 
 def spoiled(numbers, contents):
-    """The contents spoiled for one to three lines, the highest first; and these lines, rising."""
-    possible = lines_for(contents.plan)
-    lines = sorted({numbers.choose(possible) for _ in range(numbers.choose((1, 1, 2, 3)))})
-    for line in reversed(lines):
-        contents = SPOILS[line](numbers, contents)
-    return contents, lines
+    """The contents spoiled for one to three refusals, the highest first; and their numbers, rising."""
+    possible = refusals_for(contents.plan)
+    chosen = sorted({numbers.choose(possible) for _ in range(numbers.choose((1, 1, 2, 3)))})
+    for number in reversed(chosen):
+        contents = SPOILS[number](numbers, contents)
+    return contents, chosen
 
 
 # ---- sheets that are made ----
 
 def unless_too_long(number, own_sheet):
     """A number, or 1 where the sheet is too long."""
-    return 1 if len(own_sheet) > report.MOST_SHEET else number
+    return 1 if len(own_sheet) > text_rules.MOST_SHEET else number
 
 
 def made(numbers, sizes):
     """A sheet that is made: lawful, spoiled or damaged; a sixth of the damaged ones twice."""
     contents, way = made_contents(numbers, sizes), numbers.below(3)
     if way == 0:
-        return Case(DONE, "lawful", sheet.write(*contents))
+        return Case(DONE, "lawful", sheet_bytes.write(*contents))
     if way == 1:
-        contents, lines = spoiled(numbers, contents)
-        own_sheet = sheet.write(*contents)
-        return Case(unless_too_long(lines[0], own_sheet), "spoiled: " + ", ".join(map(str, lines)), own_sheet)
-    ways = [numbers.choose(sheets.WAYS) for _ in range(2 if numbers.below(6) == 0 else 1)]
-    parts = sheet.fields_written(*contents)
+        contents, refusals = spoiled(numbers, contents)
+        own_sheet = sheet_bytes.write(*contents)
+        return Case(unless_too_long(refusals[0], own_sheet), "spoiled: " + ", ".join(map(str, refusals)), own_sheet)
+    ways = [numbers.choose(sheet_cases.WAYS) for _ in range(2 if numbers.below(6) == 0 else 1)]
+    parts = sheet_bytes.fields_written(*contents)
     for way in ways:
-        parts = sheets.damaged(numbers, parts, way)
+        parts = sheet_cases.damaged(numbers, parts, way)
     return Case(None, "damaged: " + ", ".join(ways), b"".join(parts))
 
 
-NUMBERS = sheets.Numbers(SEED)
+NUMBERS = sheet_cases.Numbers(SEED)
 MADE = [made(NUMBERS, FEW_RUNS) for _ in range(MADE_COUNT)]
-REPORTS = CASES + MADE
+SHEETS = CASES + MADE
 
 
 # ---- the figures of a text ----
@@ -424,7 +447,7 @@ LAST = ["%s %s %s" % (name, NUMBER, NUMBER) for name in (BLOCKS, ERROR, "total")
 LAST += ["check %s %s" % (SIGNED, SIGNED), ""]
 
 
-def number_of(text):
+def refused_of(text):
     """The number of which a text is the refusal, and 0 for any other text."""
     found = re.fullmatch(REFUSAL, text)
     return int(found[1]) if found else DONE
@@ -446,18 +469,58 @@ def sums(rows):
     return [sum(row.degrees for row in rows), sum(row.numerator for row in rows)]
 
 
-# ---- checks ----
+# ---- checks: the coefficients and totals of rules/text.py ----
+
+def sample(count):
+    """Numbers below a count: all up to 81, else every seventh and the last."""
+    return range(count) if count <= 81 else [*range(0, count, 7), count - 1]
+
+
+def check_coefficients(levels, k):
+    """The coefficients of effects and runs are those of rules/totals.py: all of small plans, a sample of others."""
+    numbers = sample(totals_rules.run_count(levels, k))
+    for effect in numbers:
+        found = text_rules.coefficients(levels, k, effect)
+        if [found[run] for run in numbers] != [totals_rules.coefficient(levels, k, effect, run) for run in numbers]:
+            return ["%d levels, %d factors: coefficients of effect %d" % (levels, k, effect)]
+    return []
+
+
+def check_totals(levels, k):
+    """The totals of readings that are spread out are those of rules/totals.py; of large plans a few are compared."""
+    count = totals_rules.run_count(levels, k)
+    readings = sheet_cases.spread(count)
+    found = text_rules.totals(levels, k, readings)
+    compared = range(count) if count <= 32 else (0, 1, count // 3, count - 2, count - 1)
+    wrong = [effect for effect in compared if found[effect] != totals_rules.total(levels, k, readings, effect)]
+    return ["%d levels, %d factors: total of effect %d" % (levels, k, effect) for effect in wrong]
+
+
+# ---- checks: sheets and their texts ----
 
 @lru_cache(maxsize=None)
 def text_of(own_sheet):
     """The text of a sheet, made once."""
-    return report.text(own_sheet).decode()
+    return text_rules.text(own_sheet).decode()
+
+
+def check_texts():
+    """The text that the rules print, the empty sheet, and one so long that 1 is printed where the reader answers 4."""
+    complaints = []
+    if text_rules.text(RULES_SHEET) != RULES_TEXT:
+        complaints.append("text of 3, 5, 4, 8")
+    if text_rules.text(b"") != b"refused 1\n":
+        complaints.append("text of the empty sheet")
+    many = sheet_bytes.write(Plan(2, 2, ((3, 0),) * 1000), [3, 5, 4, 8], [0, 0, 0, 1])
+    if (sheet_bytes.sheet_answer(many), text_rules.text(many)) != (4, b"refused 1\n"):
+        complaints.append("text of a sheet with 1,000 added factors")
+    return complaints
 
 
 def check_rows(figures):
     """Complaints about labels and degrees. The number of rows says how many factors there are, `over` what levels."""
     k = len(figures.rows).bit_length() - 1
-    if [row.label for row in figures.rows] != [anova.row_label(row) for row in range(2 ** k)]:
+    if [row.label for row in figures.rows] != [table_rules.row_label(row) for row in range(2 ** k)]:
         return ["labels"]
     if figures.over not in (2 ** k, 6 ** k):
         return ["denominator"]
@@ -485,20 +548,20 @@ def check_sums(figures):
 
 def check_table(own, figures):
     """Complaints about the sheet of a worked table: its totals and figures are those of the table."""
-    table = tables.table_of(own)
+    table = analyses.table_of(own)
     kinds = [kind if kind in (BLOCKS, ERROR) else "" for kind in table.kinds]
-    rows = [Row(anova.row_label(row), *part, kind) for row, (part, kind) in enumerate(zip(table.rows, kinds))]
+    rows = [Row(table_rules.row_label(row), *part, kind) for row, (part, kind) in enumerate(zip(table.rows, kinds))]
     meant = Printed(table.denominator, rows, list(table.blocks), list(table.error), list(table.total),
                     [table.sum_of_totals, table.check_number])
     complaints = [] if figures == meant else ["figures of the table"]
-    same = report.totals(own.plan.levels, own.plan.k, own.readings) == table.totals
+    same = text_rules.totals(own.plan.levels, own.plan.k, own.readings) == table.totals
     return complaints + ([] if same else ["totals of the table"])
 
 
 def check_figures(own, figures):
     """Complaints about the figures of the text of a sheet that is accepted."""
     complaints = check_rows(figures) + check_sums(figures)
-    if [row.kind == ERROR for row in figures.rows] != [mark == 1 for mark in sheet.marks_part(own.sheet)]:
+    if [row.kind == ERROR for row in figures.rows] != [mark == 1 for mark in sheet_bytes.marks_part(own.sheet)]:
         complaints.append("error rows are not those that are marked")
     return complaints + (check_table(own.table, figures) if own.table else [])
 
@@ -506,11 +569,11 @@ def check_figures(own, figures):
 def check_case(own):
     """Complaints about one sheet: the number that is listed, what the reader alone answers, and what the text says."""
     text = text_of(own.sheet)
-    number = number_of(text)
+    number = refused_of(text)
     complaints = []
     if own.number not in (None, number):
         complaints.append("%d, listed %d" % (number, own.number))
-    if sheet.sheet_answer(own.sheet) != (number if own.alone is None else own.alone):
+    if sheet_bytes.sheet_answer(own.sheet) != (number if own.alone is None else own.alone):
         complaints.append("the reader alone answers another number")
     if number == DONE:
         figures = printed(text)
@@ -519,34 +582,36 @@ def check_case(own):
 
 
 def check_spread():
-    """Complaints about how often answers, lines and ways of damage occur among the sheets that are made."""
-    answers = Counter(number_of(text_of(own.sheet)) for own in MADE)
+    """Complaints about how often answers, refusals and ways of damage occur among the sheets that are made."""
+    answers = Counter(refused_of(text_of(own.sheet)) for own in MADE)
     kinds = Counter(own.name.partition(":")[0] for own in MADE)
     ways = Counter(way for own in MADE for way in own.name.partition(": ")[2].split(", "))
-    complaints = ["made sheets: answer %d %d times" % (number, answers[number]) for number in sheets.ANSWERS
+    complaints = ["made sheets: answer %d %d times" % (number, answers[number]) for number in sheet_cases.ANSWERS
                   if answers[number] < 4]
-    complaints += ["made sheets: %s %d times" % (way, ways[way]) for way in [*map(str, SPOILS), *sheets.DAMAGES]
+    complaints += ["made sheets: %s %d times" % (way, ways[way]) for way in [*map(str, SPOILS), *sheet_cases.DAMAGES]
                    if ways[way] < 3]
     return complaints + ["made sheets: %d %s" % (kinds[kind], kind) for kind in kinds
                          if not MADE_COUNT / 4 < kinds[kind] < MADE_COUNT / 2]
 
 
 def check_small():
-    """Each line that a sheet may be refused by has its small input, and the first text is that of the rules."""
-    complaints = [] if [own.number for own in SMALL] == list(sheets.ANSWERS[1:]) else ["small inputs"]
-    if text_of(REPORTS[0].sheet).encode() != report.RULES_TEXT:
+    """Each refusal that a sheet may have has its small input, and the first text is that of the rules."""
+    complaints = [] if [own.number for own in SMALL] == list(sheet_cases.ANSWERS[1:]) else ["small inputs"]
+    if text_of(SHEETS[0].sheet).encode() != RULES_TEXT:
         complaints.append("the first text is not that of the rules")
     return complaints
 
 
 def check():
-    """List of all complaints about the sheets and their texts."""
-    complaints = check_small() + check_spread()
-    for own in REPORTS:
+    """List of all complaints about coefficients, totals, sheets and their texts."""
+    complaints = check_texts() + check_small() + check_spread()
+    for levels, k in SIZES:
+        complaints += check_coefficients(levels, k) + check_totals(levels, k)
+    for own in SHEETS:
         complaints += check_case(own)
     names = Counter(own.name for own in CASES)
     complaints += ["two sheets named %s" % name for name in names if names[name] > 1]
-    if any(len(own.sheet) >= 2 ** 16 for own in REPORTS):
+    if any(len(own.sheet) >= 2 ** 16 for own in SHEETS):
         complaints.append("a record does not hold its sheet")
     if len(inputs()) > MOST_INPUT or len(expected_text()) > MOST_TEXT:
         complaints.append("too many bytes: %d read, %d written" % (len(inputs()), len(expected_text())))
@@ -557,18 +622,18 @@ def check():
 
 def expected_text():
     """What the program that reads the records must write."""
-    return "".join(text_of(own.sheet) for own in REPORTS).encode()
+    return "".join(text_of(own.sheet) for own in SHEETS).encode()
 
 
 def inputs():
     """The input of the program: for each sheet its length, two bytes, and the sheet."""
-    return b"".join(len(own.sheet).to_bytes(2, "big") + own.sheet for own in REPORTS)
+    return b"".join(len(own.sheet).to_bytes(2, "big") + own.sheet for own in SHEETS)
 
 
 def list_text():
     """A line for each sheet: its number, what the program answers, how long it is, and its name or how it is made."""
-    return "".join("%d: %d, %d bytes, %s\n" % (number, number_of(text_of(own.sheet)), len(own.sheet), own.name)
-                   for number, own in enumerate(REPORTS, 1))
+    return "".join("%d: %d, %d bytes, %s\n" % (number, refused_of(text_of(own.sheet)), len(own.sheet), own.name)
+                   for number, own in enumerate(SHEETS, 1))
 
 
 if __name__ == "__main__":

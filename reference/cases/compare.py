@@ -1,6 +1,6 @@
-# Compares the program factab with report.py on sheets that are made by numbers from a seed. It is a command:
+# Compares the program factab with rules/text.py on sheets that are made by numbers from a seed. It is a command:
 #
-#   python3 reference/compare.py PROGRAM [COUNT [SEED]]
+#   python3 reference/cases/compare.py PROGRAM [COUNT [SEED]]
 #
 # PROGRAM is the path of a program that reads a sheet from standard input and writes its text to standard output. COUNT
 # is how many sheets it is tried on, 2,000 if not given. Without SEED a fresh one is taken. Every difference is printed
@@ -8,7 +8,7 @@
 # not say how the program exits, so that is not compared; but a program that is ended by a signal or by the time limit
 # differs.
 #
-# Two thirds of the sheets are made by reports.py, half of them of plans of any size and the others of small ones: a
+# Two thirds of the sheets are made by text_cases.py, half of them of plans of any size and the others of small ones: a
 # third of each lawful, spoiled and damaged. A sixth are bytes that are no sheet or hardly one. A sixth are about 5,187
 # bytes long or longer, up to 200,000.
 #
@@ -16,22 +16,25 @@
 #   made_bytes, made_long    bytes that are hardly a sheet, and long ones
 #   made                     a sheet with a name, of any of these kinds
 #   answer_of                what a program writes for a sheet
-#   difference               how that differs from what report.py writes, in words
+#   difference               how that differs from what rules/text.py writes, in words
 #   compare                  tries a program on sheets, prints the differences and counts them, and what is answered
 
 import os
 import subprocess
 import sys
 from collections import Counter
+from os.path import abspath, dirname
 
-import factab
-import report
-import reports
-import sheet
-from factab import Plan
-from reports import Case
-from sheet import Contents
-from sheets import Numbers, damaged
+sys.path.insert(0, dirname(dirname(dirname(abspath(__file__)))))
+
+from reference.cases import text_cases
+from reference.cases.sheet_cases import Numbers, damaged
+from reference.cases.text_cases import Case
+from reference.rules import sheet_bytes
+from reference.rules import text as text_rules
+from reference.rules import totals as totals_rules
+from reference.rules.sheet_bytes import Contents
+from reference.rules.totals import Plan
 
 COUNT = 2_000
 TIME_LIMIT = 60
@@ -49,10 +52,10 @@ def any_bytes(numbers, count, limit=256):
 def some_fields(numbers):
     """A few fields of tags up to 6, rising more often than not; those of a length that is settled mostly have it."""
     tags = [numbers.below(7) for _ in range(numbers.below(8))]
-    lengths = [sheet.BODY_LENGTHS.get(tag, numbers.below(20)) for tag in tags]
+    lengths = [sheet_bytes.BODY_LENGTHS.get(tag, numbers.below(20)) for tag in tags]
     fields = [(tag, any_bytes(numbers, length + (numbers.below(10) == 0), numbers.choose((2, 4, 256))))
               for tag, length in zip(tags, lengths)]
-    return [sheet.field(tag, body) for tag, body in (sorted(fields) if numbers.below(3) else fields)]
+    return [sheet_bytes.field(tag, body) for tag, body in (sorted(fields) if numbers.below(3) else fields)]
 
 
 def made_bytes(numbers):
@@ -64,7 +67,7 @@ def made_bytes(numbers):
         return Case(None, "small bytes", any_bytes(numbers, numbers.below(SOME_BYTES), 6))
     if way == 2:
         return Case(None, "some fields", b"".join(some_fields(numbers)))
-    whole = sheet.write(*reports.made_contents(numbers, reports.FEW_RUNS))
+    whole = sheet_bytes.write(*text_cases.made_contents(numbers, text_cases.FEW_RUNS))
     kept, end = whole[:numbers.below(len(whole))], any_bytes(numbers, numbers.below(9))
     return Case(None, "a sheet with another end", kept + end)
 
@@ -72,36 +75,38 @@ def made_bytes(numbers):
 def longest(numbers):
     """Lawful contents whose sheet has 5,187 bytes: as many factors and words as there may be."""
     while True:
-        plan = reports.plan_with(numbers, factab.MOST_FACTORS[2], factab.MOST_ADDED, factab.MOST_BLOCK_WORDS)
-        if factab.plan_answer(plan) == factab.DONE:
-            runs = factab.run_count(plan.levels, plan.k)
-            return Contents(plan, reports.made_readings(numbers, runs), reports.made_marks(numbers, plan))
+        plan = text_cases.plan_with(numbers, totals_rules.MOST_FACTORS[2], totals_rules.MOST_ADDED,
+                                    totals_rules.MOST_BLOCK_WORDS)
+        if totals_rules.plan_answer(plan) == totals_rules.DONE:
+            runs = totals_rules.run_count(plan.levels, plan.k)
+            return Contents(plan, text_cases.made_readings(numbers, runs), text_cases.made_marks(numbers, plan))
 
 
 def many_words(numbers):
     """A sheet of four runs with very many words."""
     added = ((3, 0),) * numbers.choose((0, 7, 850, 859, 860, 861, 870, 2000))
     blocks = (3,) * numbers.choose((0, 5, 1000, 1030, 1031, 1032, 1040, 3000))
-    return sheet.write(Plan(numbers.choose((2, 2, 3, 4)), 2, added, blocks), [3, 5, 4, 8], [0, 0, 0, 1])
+    return sheet_bytes.write(Plan(numbers.choose((2, 2, 3, 4)), 2, added, blocks), [3, 5, 4, 8], [0, 0, 0, 1])
 
 
 def made_long(numbers):
     """A sheet of about 5,187 bytes or more: the longest, also spoiled or with bytes more; many words; many bytes."""
     way = numbers.below(6)
     if way == 0:
-        return Case(None, "the longest", sheet.write(*longest(numbers)))
+        return Case(None, "the longest", sheet_bytes.write(*longest(numbers)))
     if way == 1:
-        contents, lines = reports.spoiled(numbers, longest(numbers))
-        return Case(None, "the longest, spoiled: " + ", ".join(map(str, lines)), sheet.write(*contents))
+        contents, refusals = text_cases.spoiled(numbers, longest(numbers))
+        return Case(None, "the longest, spoiled: " + ", ".join(map(str, refusals)), sheet_bytes.write(*contents))
     if way == 2:
         return Case(None, "many words", many_words(numbers))
     if way == 3:
-        parts = sheet.fields_written(*longest(numbers))
+        parts = sheet_bytes.fields_written(*longest(numbers))
         return Case(None, "the longest, bytes appended", b"".join(damaged(numbers, parts, "bytes appended")))
-    count = numbers.choose((report.MOST_SHEET - 1, report.MOST_SHEET, report.MOST_SHEET + 1, 65_536, MANY_BYTES))
+    most = text_rules.MOST_SHEET
+    count = numbers.choose((most - 1, most, most + 1, 65_536, MANY_BYTES))
     if way == 4:
         return Case(None, "very many bytes", any_bytes(numbers, 64) * (count // 64) + any_bytes(numbers, count % 64))
-    whole = sheet.write(*reports.made_contents(numbers, report.SIZES))
+    whole = sheet_bytes.write(*text_cases.made_contents(numbers, text_cases.SIZES))
     return Case(None, "a sheet and zeros", whole + bytes(max(count - len(whole), 0)))
 
 
@@ -112,7 +117,7 @@ def made(numbers):
         return made_bytes(numbers)
     if way == 1:
         return made_long(numbers)
-    return reports.made(numbers, reports.FEW_RUNS if way < 4 else report.SIZES)
+    return text_cases.made(numbers, text_cases.FEW_RUNS if way < 4 else text_cases.SIZES)
 
 
 # ---- comparison ----
@@ -137,18 +142,18 @@ def difference(meant, found):
 
 
 def compare(program, count, seed):
-    """The number of sheets, of so many, for which a program does not write the text of report.py, each of which is
+    """The number of sheets, of so many, for which a program does not write the text of rules/text.py, each of which is
     printed; and how often each answer is meant."""
     numbers, answers, differences = Numbers(seed), Counter(), 0
     for number in range(1, count + 1):
         own = made(numbers)
-        meant = report.text(own.sheet)
+        meant = text_rules.text(own.sheet)
         found, ended = answer_of(program, own.sheet)
         complaints = [complaint for complaint in (difference(meant, found), ended) if complaint]
         if complaints:
             differences += 1
             print("sheet %d, %s: %s\n  %s" % (number, own.name, "; ".join(complaints), own.sheet.hex() or "(empty)"))
-        answers[reports.number_of(meant.decode())] += 1
+        answers[text_cases.refused_of(meant.decode())] += 1
     return differences, answers
 
 

@@ -1,6 +1,6 @@
 # Inputs of the table call that are refused, and inputs of the estimate call with their outcomes. Each is listed with the
-# answer that the rules give; check() compares it with what anova.py answers. And the input and the expected text of the
-# program that tries them.
+# answer that the rules give; check() compares it with what rules/table.py answers. And the input and the expected text of
+# the program worked_answers, which tries them.
 #
 # The program reads records, one for each refusal and then one for each estimate: length, a byte, and so many bytes. These
 # are a sheet, which for an estimate has no readings and no marks, and a field 6 of what else the call takes: for a table
@@ -12,8 +12,7 @@
 # number that its 64 bits are.
 #
 # Defined here:
-#   FOUR_BLOCKS, SIX_ADDED, TEN, TEN_BLOCKED   words and plans of ten factors, which tables.py uses too
-#   REFUSALS         refused inputs of the table call: every line of the rules, and inputs to which several apply
+#   REFUSALS         refused inputs of the table call: every refusal of the rules, and inputs to which several apply
 #   ESTIMATES        inputs of the estimate call: a plan, an effect and a total
 #   check            list of complaints, empty if all is well
 #   expected_text    the expected text
@@ -23,24 +22,22 @@
 import sys
 from collections import namedtuple
 from fractions import Fraction
+from os.path import abspath, dirname
 
-import anova
-import factab
-import published
-import sheet
-from anova import row_number
-from factab import Plan
+sys.path.insert(0, dirname(dirname(dirname(abspath(__file__)))))
+
+from reference.published import examples
+from reference.published.analyses import FOUR_BLOCKS, SIX_ADDED, TEN, TEN_BLOCKED
+from reference.rules import sheet_bytes
+from reference.rules import table as table_rules
+from reference.rules import totals as totals_rules
+from reference.rules.table import row_number
+from reference.rules.totals import Plan
 
 Refusal = namedtuple("Refusal", "number why plan readings marks totals_length rows_length")
 
 # outcome: "mean", "difference" and the quotient, "lost", or "refused" and the number.
 Estimate = namedtuple("Estimate", "plan effect total outcome")
-
-# All four block words combine to the row of all ten letters.
-FOUR_BLOCKS = tuple(row_number(label) for label in "ABC DEF GH IJ".split())
-SIX_ADDED = tuple((row_number(label), sign) for label, sign in (
-    ("AB", 0), ("BCD", 1), ("ADG", 0), ("CEHJ", 1), ("ABCDEFGHI", 0), ("ABCDEFGHJ", 1)))
-TEN, TEN_BLOCKED = Plan(2, 10), Plan(2, 10, (), FOUR_BLOCKS)
 
 # The most readings, totals and rows that the program can lend, and the tag of the field of what else a call takes.
 MOST_LENT = 8
@@ -198,17 +195,17 @@ ESTIMATES = report_estimates() + [
 
 def check_refusals():
     """The number of every refusal is the one that the rules give."""
-    found = [(own, anova.table_answer(own.plan, own.readings, own.marks, own.totals_length, own.rows_length))
+    found = [(own, table_rules.table_answer(own.plan, own.readings, own.marks, own.totals_length, own.rows_length))
              for own in REFUSALS]
     return ["refusal, %s: %d, listed %d" % (own.why, number, own.number) for own, number in found if number != own.number]
 
 
 def outcome_of(own):
     """The outcome of an estimate in words: its name and exact quotient, or the number that refuses it."""
-    refused = anova.estimate_answer(own.plan, own.effect, own.total)
+    refused = table_rules.estimate_answer(own.plan, own.effect, own.total)
     if refused:
         return "refused %d" % refused
-    name, quotient = anova.estimate(own.plan, own.effect, own.total)
+    name, quotient = table_rules.estimate(own.plan, own.effect, own.total)
     return name if quotient is None else "%s %s" % (name, quotient)
 
 
@@ -225,17 +222,17 @@ def check_estimates():
 
 
 def check_report():
-    """The report's totals and differences against published.py; its first difference is twice the mean."""
-    example = published.REPORT_TWO_LEVELS
+    """The report's totals and differences against published/examples.py; its first difference is twice the mean."""
+    example = examples.REPORT_TWO_LEVELS
     printed = next(printed for printed in example.printed if printed.label == "differences")
-    mends = published.mends_of(example, printed)
+    mends = examples.mends_of(example, printed)
     figures = [mends[place].meant if place in mends else figure for place, figure in enumerate(printed.text.split())]
     complaints = []
     if [Fraction(figure) for figure in figures] != [Fraction(figure) for figure in REPORT_DIFFERENCES.split()]:
         complaints.append("report, 2^4: differences")
     if 2 * Fraction(ESTIMATES[0].outcome.split()[1]) != Fraction(REPORT_DIFFERENCES.split()[0]):
         complaints.append("report, 2^4: the first difference is not twice the mean")
-    if [int(total) for total in REPORT_TOTALS.split()] != factab.totals(2, 4, published.whole_readings(example)):
+    if [int(total) for total in REPORT_TOTALS.split()] != totals_rules.totals(2, 4, examples.whole_readings(example)):
         complaints.append("report, 2^4: totals")
     return complaints
 
@@ -256,10 +253,10 @@ def check():
 def estimate_text(own):
     """What the program writes of an estimate."""
     outcome = outcome_of(own)
-    if outcome == anova.LOST or outcome.startswith("refused"):
+    if outcome == table_rules.LOST or outcome.startswith("refused"):
         return outcome
     name, quotient = outcome.split()
-    return "%s %d" % (name, anova.double_pattern(anova.exact_double(Fraction(quotient))))
+    return "%s %d" % (name, table_rules.double_pattern(table_rules.exact_double(Fraction(quotient))))
 
 
 def numbered(texts):
@@ -276,7 +273,7 @@ def expected_text():
 
 def record(plan, readings, marks, rest):
     """A record: length, sheet and field 6."""
-    fields = sheet.write(plan, readings, marks) + sheet.field(REST, rest)
+    fields = sheet_bytes.write(plan, readings, marks) + sheet_bytes.field(REST, rest)
     return bytes([len(fields)]) + fields
 
 
@@ -299,7 +296,7 @@ def list_text():
     """A line for each record: why a table is refused; of an estimate plan, effect and total."""
     return numbered(["refusal, " + own.why for own in REFUSALS] + [
         "estimate, levels %d, k %d, added%s, blocks%s, effect %d, total %d" % (
-            *own.plan[:2], "".join(" %d/%d" % pair for pair in own.plan.added), published.values_text(own.plan.blocks),
+            *own.plan[:2], "".join(" %d/%d" % pair for pair in own.plan.added), examples.values_text(own.plan.blocks),
             own.effect, own.total) for own in ESTIMATES])
 
 

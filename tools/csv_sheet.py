@@ -1,7 +1,7 @@
 # Sheets from lines of cells, such as a spreadsheet saves them, and the lines of a sheet. It is a command:
 #
-#   python3 reference/csv_sheet.py make FILE.csv > FILE.sheet     writes the sheet
-#   python3 reference/csv_sheet.py list FILE.sheet                writes the lines, which make the same sheet again
+#   python3 tools/csv_sheet.py make FILE.csv > FILE.sheet     writes the sheet
+#   python3 tools/csv_sheet.py list FILE.sheet                writes the lines, which make the same sheet again
 #
 # Cells are parted by commas. The first cell of a line says what the line is:
 #
@@ -19,29 +19,31 @@
 # make a sheet which the rules refuse the sheet is written, and a message says what factab will answer. Of a sheet that
 # is refused the list gives number and cause, and what can be read.
 #
+# What the rules say of a sheet is asked of the reference program, reference/rules. Lines and sheets on which this is
+# tried are in reference/cases/csv_cases.py.
+#
 # Defined here:
 #   NotUnderstood        why no sheet can be made
 #   make                 the sheet of lines
 #   causes               why a sheet is refused, in words
 #   listing              the lines of a sheet
-#   EXAMPLES             the stored examples, and the worked table of each
-#   check                list of complaints, empty if all is well
+#   text_of              the text of a file of lines
 
 import re
 import struct
 import sys
 from collections import namedtuple
-from pathlib import Path
+from os.path import abspath, dirname
 
-import anova
-import factab
-import report
-import reports
-import sheet
-import tables
-from anova import row_label
-from factab import Plan
-from sheet import ADDED, BLOCK, BODY_LENGTHS, MARKS, ONCE, PLAN, READING_LENGTH, READINGS, TAGS
+sys.path.insert(0, dirname(dirname(abspath(__file__))))
+
+from reference.rules import sheet_bytes
+from reference.rules import table as table_rules
+from reference.rules import text as text_rules
+from reference.rules import totals as totals_rules
+from reference.rules.sheet_bytes import ADDED, BLOCK, BODY_LENGTHS, MARKS, ONCE, PLAN, READING_LENGTH, READINGS, TAGS
+from reference.rules.table import row_label
+from reference.rules.totals import Plan
 
 # number counts from 1; the first of the cells says what the line is.
 Line = namedtuple("Line", "number cells")
@@ -111,7 +113,7 @@ def word(line, cell):
     """The word of a cell, by its letters."""
     if not cell or any(letter not in LETTERS for letter in cell) or len(set(cell)) < len(cell):
         stop(line, "'%s' is not made of different letters from A to P" % cell)
-    return anova.row_number(cell)
+    return table_rules.row_number(cell)
 
 
 # ---- the sheet of lines ----
@@ -121,7 +123,7 @@ def size_of(lines):
     line = only(lines, "factors")
     levels = whole(only(lines, "levels"), only(lines, "levels").cells[1], 0, MOST_BYTE)
     k = whole(line, line.cells[1], 0, MOST_BYTE)
-    if READING_LENGTH * factab.run_count(levels, k) > MOST_BODY or anova.row_count(k) > MOST_BODY:
+    if READING_LENGTH * totals_rules.run_count(levels, k) > MOST_BODY or table_rules.row_count(k) > MOST_BODY:
         stop(line, "no sheet holds the runs of %d factors at %d levels" % (k, levels))
     return levels, k
 
@@ -141,19 +143,19 @@ def readings_of(lines, levels, k):
         if run in found:
             stop(line, "the run is already in line %d" % found[run][0].number)
         found[run] = line, whole(line, line.cells[-1], -2 ** 31, 2 ** 31 - 1)
-    for run in range(factab.run_count(levels, k)):
+    for run in range(totals_rules.run_count(levels, k)):
         if run not in found:
-            levels_text = ",".join(str(digit) for digit in factab.digits(levels, k, run))
+            levels_text = ",".join(str(digit) for digit in totals_rules.digits(levels, k, run))
             raise NotUnderstood("there is no line for the run %s" % levels_text)
     return [found[run][1] for run in sorted(found)]
 
 
 def marks_of(lines, k):
     """The marks of all rows."""
-    marks = [0] * anova.row_count(k)
+    marks = [0] * table_rules.row_count(k)
     for line in of_kind(lines, "error"):
         label = line.cells[1]
-        row = 0 if label == anova.MEAN else word(line, label)
+        row = 0 if label == table_rules.MEAN else word(line, label)
         if row >= len(marks):
             stop(line, "'%s' is no row, for there are %d factors" % (label, k))
         if marks[row]:
@@ -169,7 +171,7 @@ def make(text):
     added = tuple((word(line, line.cells[1]), whole(line, line.cells[2], 0, MOST_BYTE))
                   for line in of_kind(lines, "added"))
     blocks = tuple(word(line, line.cells[1]) for line in of_kind(lines, "block"))
-    return sheet.write(Plan(levels, k, added, blocks), readings_of(lines, levels, k), marks_of(lines, k))
+    return sheet_bytes.write(Plan(levels, k, added, blocks), readings_of(lines, levels, k), marks_of(lines, k))
 
 
 # ---- why a sheet is refused ----
@@ -192,7 +194,7 @@ def whole_fields(own_sheet):
     """The fields of a sheet up to one that is cut short, as pairs of tag and body, and the bytes that are left."""
     found, at = [], 0
     while at + 3 <= len(own_sheet):
-        end = at + 3 + sheet.number_of(own_sheet[at + 1:at + 3])
+        end = at + 3 + sheet_bytes.number_of(own_sheet[at + 1:at + 3])
         if end > len(own_sheet):
             break
         found.append((own_sheet[at], own_sheet[at + 3:end]))
@@ -201,10 +203,10 @@ def whole_fields(own_sheet):
 
 
 def field_causes(own_sheet):
-    """What makes number 1 apply to a sheet, in words; nothing where it does not."""
+    """What makes refusal 1 apply to a sheet, in words; nothing where it does not."""
     fields, rest = whole_fields(own_sheet)
     tags = [tag for tag, _ in fields]
-    found = ["more than 5,187 bytes"] if len(own_sheet) > report.MOST_SHEET else []
+    found = ["more than 5,187 bytes"] if len(own_sheet) > text_rules.MOST_SHEET else []
     found += ["tag %d is unknown" % tag for tag in sorted(set(tags) - set(TAGS))]
     found += ["tag %d comes after tag %d" % (after, before) for before, after in zip(tags, tags[1:]) if after < before]
     found += ["tag %d is absent" % tag for tag in ONCE if tag not in tags]
@@ -220,21 +222,21 @@ def places(refused, contents):
     """The counts, readings or marks for which a sheet is refused with 11, 12 or 13."""
     plan, readings, marks = contents
     if refused == 11:
-        runs, rows = factab.run_count(plan.levels, plan.k), anova.row_count(plan.k)
+        runs, rows = totals_rules.run_count(plan.levels, plan.k), table_rules.row_count(plan.k)
         return ["%d readings for %d runs, %d marks for %d rows" % (len(readings), runs, len(marks), rows)]
     if refused == 12:
-        return ["run %d has %d" % own for own in enumerate(readings) if abs(own[1]) > factab.MOST_READING]
-    kinds = anova.row_kinds(plan, [0] * len(marks))
+        return ["run %d has %d" % own for own in enumerate(readings) if abs(own[1]) > totals_rules.MOST_READING]
+    kinds = table_rules.row_kinds(plan, [0] * len(marks))
     return ["row %s has mark %d" % (row_label(row), mark) for row, mark in enumerate(marks)
-            if mark > 1 or mark == 1 and kinds[row] != anova.KEPT]
+            if mark > 1 or mark == 1 and kinds[row] != table_rules.KEPT]
 
 
 def causes(own_sheet):
     """Why a sheet is refused, in words; nothing for a sheet that is accepted."""
-    refused = report.answer(own_sheet)
-    if refused in (factab.DONE, 1):
+    refused = text_rules.answer(own_sheet)
+    if refused in (totals_rules.DONE, 1):
         return field_causes(own_sheet)
-    found = places(refused, sheet.contents_of(sheet.fields_of(own_sheet))) if refused in (11, 12, 13) else []
+    found = places(refused, sheet_bytes.contents_of(sheet_bytes.fields_of(own_sheet))) if refused in (11, 12, 13) else []
     return [CAUSES[refused]] + found[:MOST_PLACES] + ["and others"] * (len(found) > MOST_PLACES)
 
 
@@ -254,7 +256,7 @@ def word_text(own_word):
 
 def high_letters(plan, run):
     """The letters that are high in a run of a two-level plan, added factors included."""
-    return run | sum((factab.letter_count(run & own_word) + sign) % 2 << plan.k + place
+    return run | sum((totals_rules.letter_count(run & own_word) + sign) % 2 << plan.k + place
                      for place, (own_word, sign) in enumerate(plan.added))
 
 
@@ -262,7 +264,7 @@ def treatment(plan, run):
     """The name of a run of a two-level plan, which is the letters that are high, and its block if there are blocks."""
     high = high_letters(plan, run)
     name = row_label(high).lower() if high else "(1)"
-    return name + (" in block %d" % tables.block_of(plan, run) if plan.blocks else "")
+    return name + (" in block %d" % totals_rules.block_of(plan, run) if plan.blocks else "")
 
 
 def added_line(plan, place):
@@ -278,11 +280,11 @@ def accepted_lines(plan, readings, marks):
     lines += [added_line(plan, place) for place in range(len(plan.added))]
     lines += ["block," + row_label(own_word) for own_word in plan.blocks]
     if plan.blocks:
-        lines += passed_over("lost to blocks", [row_label(row) for row in sorted(factab.confounded(plan.blocks))])
+        lines += passed_over("lost to blocks", [row_label(row) for row in sorted(totals_rules.confounded(plan.blocks))])
     lines += passed_over("after run the levels of these, then the reading", LETTERS[:plan.k])
     for run, reading in enumerate(readings):
         names = ["# " + treatment(plan, run)] if plan.levels == 2 else []
-        lines.append(",".join(map(str, ["run", *factab.digits(plan.levels, plan.k, run), reading, *names])))
+        lines.append(",".join(map(str, ["run", *totals_rules.digits(plan.levels, plan.k, run), reading, *names])))
     return lines + ["error," + row_label(row) for row, mark in enumerate(marks) if mark]
 
 
@@ -291,9 +293,9 @@ def field_lines(tag, body):
     if tag == PLAN and len(body) == BODY_LENGTHS[PLAN]:
         return passed_over("levels and factors", body)
     if tag == ADDED and len(body) == BODY_LENGTHS[ADDED]:
-        return passed_over("added factor, word and sign", [word_text(sheet.number_of(body[:2])), body[2]])
+        return passed_over("added factor, word and sign", [word_text(sheet_bytes.number_of(body[:2])), body[2]])
     if tag == BLOCK and len(body) == BODY_LENGTHS[BLOCK]:
-        return passed_over("block word", [word_text(sheet.number_of(body))])
+        return passed_over("block word", [word_text(sheet_bytes.number_of(body))])
     if tag == READINGS and len(body) % READING_LENGTH == 0:
         count = len(body) // READING_LENGTH
         return passed_over("%d readings" % count, struct.unpack(">%di" % count, body))
@@ -312,164 +314,35 @@ def refused_lines(refused, own_sheet):
 
 def listing(own_sheet):
     """The lines of a sheet."""
-    refused = report.answer(own_sheet)
-    contents = None if refused else sheet.contents_of(sheet.fields_of(own_sheet))
+    refused = text_rules.answer(own_sheet)
+    contents = None if refused else sheet_bytes.contents_of(sheet_bytes.fields_of(own_sheet))
     lines = refused_lines(refused, own_sheet) if refused else accepted_lines(*contents)
     return "".join(line + "\n" for line in lines)
 
 
-# ---- checks ----
-
-FOLDER = Path(__file__).resolve().parent.parent / "examples"
-
-EXAMPLES = {
-    "four_runs": tables.RULES_TWO_FACTORS,
-    "sixteen_runs": tables.REPORT_TWO_LEVELS,
-    "blocked": tables.AMCP_BLOCKED,
-    "three_levels": tables.DANIEL_LETTUCE,
-}
-
-# Lines of the rules' example, of which some are replaced below.
-FOUR_LINES = ["levels,2", "factors,2", "run,0,0,3", "run,1,0,5", "run,0,1,4", "run,1,1,8", "error,AB"]
-
-# A number of a line, from 1, what stands there instead, and what the message is then.
-UNCLEAR = [
-    (1, "", "there is no line that begins with levels"),
-    (2, "# factors,2", "there is no line that begins with factors"),
-    (1, "Levels,2", "line 1: 'Levels' is none of levels, factors, added, block, run, error"),
-    (1, "levels", "line 1: 1 cells, wanted 2"),
-    (1, "levels,2,3", "line 1: 3 cells, wanted 2"),
-    (1, "levels,two", "line 1: 'two' is no whole number from 0 to 255"),
-    (1, "levels,256", "line 1: '256' is no whole number from 0 to 255"),
-    (3, "levels,2", "line 3: levels is already in line 1"),
-    (2, "factors,16", "line 2: no sheet holds the runs of 16 factors at 2 levels"),
-    (2, "factors,255", "line 2: no sheet holds the runs of 255 factors at 2 levels"),
-    (2, "factors,3", "line 3: 4 cells, wanted 5: run, 3 levels, reading"),
-    (4, "", "there is no line for the run 1,0"),
-    (6, "run,0,1,8", "line 6: the run is already in line 5"),
-    (6, "run,1,2,8", "line 6: '2' is no whole number from 0 to 1"),
-    (6, "run,1,-1,8", "line 6: '-1' is no whole number from 0 to 1"),
-    (6, "run,1,1", "line 6: 3 cells, wanted 4: run, 2 levels, reading"),
-    (6, "run,1,1,", "line 6: 3 cells, wanted 4: run, 2 levels, reading"),
-    (6, "run,1,1,8.0", "line 6: '8.0' is no whole number from -2147483648 to 2147483647"),
-    (6, "run,1,1,8e3", "line 6: '8e3' is no whole number from -2147483648 to 2147483647"),
-    (6, "run,1,1,2147483648", "line 6: '2147483648' is no whole number from -2147483648 to 2147483647"),
-    (6, "run,1,1,-2147483649", "line 6: '-2147483649' is no whole number from -2147483648 to 2147483647"),
-    (7, "error,AC", "line 7: 'AC' is no row, for there are 2 factors"),
-    (7, "error,ab", "line 7: 'ab' is not made of different letters from A to P"),
-    (7, "error,AB\nerror,BA", "line 8: the row is already in a line above"),
-    (7, "block,AQ", "line 7: 'AQ' is not made of different letters from A to P"),
-    (7, "block,AA", "line 7: 'AA' is not made of different letters from A to P"),
-    (7, "block,", "line 7: 1 cells, wanted 2"),
-    (7, "added,AB", "line 7: 2 cells, wanted 3"),
-    (7, "added,,0", "line 7: '' is not made of different letters from A to P"),
-    (7, "added,AB,256", "line 7: '256' is no whole number from 0 to 255"),
-]
-
-# The same, where the sheet is that of the rules' example.
-SAME = [
-    (1, "\n# a comment, with \"cells\"\nlevels,2,,,"),
-    (2, " factors , 2 ,# two of them, A and B"),
-    (3, '"run","0","0","+3"'),
-    (7, ",,,\nerror,BA\n"),
-]
-
-
-def replaced(number, text):
-    """The lines of the rules' example, one of them replaced."""
-    return "\n".join(FOUR_LINES[:number - 1] + [text] + FOUR_LINES[number:])
-
-
-# Lines, and what the program answers to the sheet that they make.
-REFUSED = [
-    ("levels,2\nfactors,11\n" + "".join("run,%s,0\n" % ",".join(bin(run)[3:]) for run in range(2048, 4096)), 1),
-    ("levels,4\nfactors,1\nrun,0,3\nrun,1,5\nrun,2,4\nrun,3,8", 2),
-    ("levels,2\nfactors,0\nrun,3", 3),
-    ("levels,3\nfactors,1\nblock,A\nrun,0,2\nrun,1,5\nrun,2,3", 4),
-    (replaced(3, "added,A,0\nrun,0,0,3"), 5),
-    (replaced(3, "block,AC\nrun,0,0,3"), 5),
-    (replaced(3, "added,AB,2\nrun,0,0,3"), 5),
-    (replaced(3, "added,AB,0\nadded,BA,1\nrun,0,0,3"), 6),
-    (replaced(3, "block,AB\nblock,AB\nrun,0,0,3"), 7),
-    (replaced(3, "block,A\nrun,0,0,3"), 8),
-    (replaced(3, "run,0,0,-100001"), 12),
-    (replaced(3, "run,0,0,2147483647"), 12),
-    (replaced(3, "block,AB\nrun,0,0,3"), 13),
-    (replaced(7, "error,mean"), 13),
-]
-
-
-def message_of(text):
-    """The message about lines that are not understood, None for others."""
-    try:
-        make(text)
-    except NotUnderstood as why:
-        return str(why)
-    return None
-
-
-def check_make():
-    """Complaints about lines: messages, numbers of sheets that are refused, and lines that make the same sheet."""
-    complaints = []
-    for number, text, message in UNCLEAR:
-        if message_of(replaced(number, text)) != message:
-            complaints.append("%r: message %s" % (text, message_of(replaced(number, text))))
-    for text, refused in REFUSED:
-        if report.answer(make(text)) != refused:
-            complaints.append("%r: not refused with %d" % (text[:40], refused))
-    for text in [replaced(number, text) for number, text in SAME] + ["\n".join(reversed(FOUR_LINES))]:
-        if make(text) != report.RULES_SHEET:
-            complaints.append("%r: another sheet" % text)
-    return complaints
-
-
-def check_listing(own):
-    """Complaints about the lines of a sheet: they make it again, or give the number of its refusal and a cause."""
-    refused = report.answer(own.sheet)
-    lines = listing(own.sheet)
-    if bool(field_causes(own.sheet)) != (refused == 1):
-        return ["%s: cause" % own.name]
-    if refused:
-        return [] if lines.startswith("# refused %d: " % refused) else ["%s: number" % own.name]
-    return [] if make(lines) == own.sheet else ["%s: its lines make another sheet" % own.name]
-
-
-def check_example(name, own):
-    """Complaints about a stored example: its lines make its sheet, which is that of a worked table."""
-    lines, stored = FOLDER / (name + ".csv"), FOLDER / (name + ".sheet")
-    if not lines.exists() or not stored.exists():
-        return ["examples/%s: its lines or its sheet are absent" % name]
-    complaints = [] if make(text_of(lines)) == stored.read_bytes() else ["its lines make another sheet"]
-    complaints += [] if stored.read_bytes() == reports.of_table(own).sheet else ["not the sheet of %s" % own.title]
-    return ["examples/%s: %s" % (name, complaint) for complaint in complaints]
-
-
-def check():
-    """List of all complaints about lines, listings and stored examples."""
-    complaints = check_make()
-    for own in reports.REPORTS:
-        complaints += check_listing(own)
-    for name, own in EXAMPLES.items():
-        complaints += check_example(name, own)
-    return complaints
-
-
 # ---- the command ----
+
+def bytes_of(path):
+    """The bytes of a file."""
+    with open(path, "rb") as file:
+        return file.read()
+
 
 def text_of(path):
     """The text of a file of lines."""
-    return path.read_text(encoding="utf-8-sig")
+    with open(path, encoding="utf-8-sig") as file:
+        return file.read()
 
 
 def main(way, path):
     """Writes the lines of a sheet or the sheet of lines; and of a sheet that is refused a message."""
     if way == "list":
-        sys.stdout.write(listing(path.read_bytes()))
+        sys.stdout.write(listing(bytes_of(path)))
         return
     own_sheet = make(text_of(path))
     sys.stdout.buffer.write(own_sheet)
     if causes(own_sheet):
-        print("factab will answer: refused %d (%s)" % (report.answer(own_sheet), "; ".join(causes(own_sheet))),
+        print("factab will answer: refused %d (%s)" % (text_rules.answer(own_sheet), "; ".join(causes(own_sheet))),
               file=sys.stderr)
 
 
@@ -477,6 +350,6 @@ if __name__ == "__main__":
     if len(sys.argv) != 3 or sys.argv[1] not in ("make", "list"):
         sys.exit("csv_sheet.py make FILE.csv, or csv_sheet.py list FILE.sheet")
     try:
-        main(sys.argv[1], Path(sys.argv[2]))
+        main(sys.argv[1], sys.argv[2])
     except (NotUnderstood, OSError, UnicodeDecodeError) as why:
         sys.exit("%s: %s" % (sys.argv[2], why))

@@ -1,4 +1,4 @@
-# Expected text for the blocked and fractional factorial plans of AMCP 706-112.
+# Published blocked and fractional plans, those of AMCP 706-112, and the expected text of the program that works them.
 #
 # Source: Engineering Design Handbook, Experimental Statistics, Section 3 (AMCP 706-112, December 1969),
 # Table 12-3 (blocked factorial plans) and Table 12-4 (fractional factorial plans), each factor at two levels.

@@ -1,7 +1,7 @@
 # Reference program for factorial tables, third part: the sheet, straight from the wording of the rules.
 #
-# Plans and the plan check are those of factab.py, rows and marks those of anova.py. Like them, this file is written apart
-# from the proved program and shares nothing with it.
+# Plans and the plan check are those of totals.py, rows and marks those of table.py. Like them, this file is written
+# apart from the proved program and shares nothing with it.
 #
 # Names: a sheet is bytes, field after field. A field is a one-byte tag, a two-byte length and its body; all numbers are
 # big-endian. The reader's column is lent by the caller; room is how many places it has.
@@ -17,9 +17,9 @@
 
 from collections import namedtuple
 
-import anova
-import factab
-from factab import Plan
+from reference.rules import table as table_rules
+from reference.rules import totals as totals_rules
+from reference.rules.totals import Plan
 
 PLAN, ADDED, BLOCK, READINGS, MARKS = 1, 2, 3, 4, 5
 TAGS = (PLAN, ADDED, BLOCK, READINGS, MARKS)
@@ -32,8 +32,8 @@ READING_LENGTH = 4
 # readings is a list of numbers, marks are bytes.
 Contents = namedtuple("Contents", "plan readings marks")
 
-# number is 0 where the sheet is accepted. Else the plan is NO_PLAN, and no reading is written.
-Sheet = namedtuple("Sheet", "number plan readings")
+# refused is 0 where the sheet is accepted. Else the plan is NO_PLAN, and no reading is written.
+Sheet = namedtuple("Sheet", "refused plan readings")
 
 NO_PLAN = Plan(0, 0)
 
@@ -66,7 +66,7 @@ def bodies_of(fields, tag):
 
 
 def bad_fields(fields):
-    """Number 1, beside fields cut short: an unknown or falling tag, tag 1, 4 or 5 absent or repeated, field 1, 2 or 3 of
+    """Refusal 1, beside fields cut short: an unknown or falling tag, tag 1, 4 or 5 absent or repeated, field 1, 2 or 3 of
     wrong length, field 4 not a multiple of 4 bytes."""
     tags = [tag for tag, _ in fields]
     return (any(tag not in TAGS for tag in tags)
@@ -79,7 +79,7 @@ def bad_fields(fields):
 # ---- what a sheet holds ----
 
 def contents_of(fields):
-    """Plan, readings and marks of fields to which number 1 does not apply."""
+    """Plan, readings and marks of fields to which refusal 1 does not apply."""
     [levels_k], [readings], [marks] = (bodies_of(fields, tag) for tag in ONCE)
     added = tuple((number_of(body[:2]), body[2]) for body in bodies_of(fields, ADDED))
     blocks = tuple(number_of(body) for body in bodies_of(fields, BLOCK))
@@ -89,9 +89,9 @@ def contents_of(fields):
 
 
 def wrong_counts(contents, room):
-    """Number 11: readings not N, marks not R, or a column under N; room is None where there is no column."""
-    runs = factab.run_count(contents.plan.levels, contents.plan.k)
-    rows = anova.row_count(contents.plan.k)
+    """Refusal 11: readings not N, marks not R, or a column under N; room is None where there is no column."""
+    runs = totals_rules.run_count(contents.plan.levels, contents.plan.k)
+    rows = table_rules.row_count(contents.plan.k)
     return len(contents.readings) != runs or len(contents.marks) != rows or room is not None and room < runs
 
 
@@ -101,25 +101,25 @@ def sheet_answer(sheet, room=None):
     if fields is None or bad_fields(fields):
         return 1
     contents = contents_of(fields)
-    refused = factab.plan_answer(contents.plan)
+    refused = totals_rules.plan_answer(contents.plan)
     if refused:
         return refused
     if wrong_counts(contents, room):
         return 11
-    if factab.beyond(contents.readings, factab.MOST_READING):
+    if totals_rules.beyond(contents.readings, totals_rules.MOST_READING):
         return 12
-    return 13 if anova.bad_mark(contents.plan, contents.marks) else factab.DONE
+    return 13 if table_rules.bad_mark(contents.plan, contents.marks) else totals_rules.DONE
 
 
 # ---- the two calls ----
 
 def read(sheet, room):
-    """What the reader gives: a number, and where that is 0 the plan, and the readings that the first N places then hold."""
+    """What the reader gives: a number, where that is 0 the plan, and the readings that the first N places then hold."""
     refused = sheet_answer(sheet, room)
     if refused:
         return Sheet(refused, NO_PLAN, [])
     contents = contents_of(fields_of(sheet))
-    return Sheet(factab.DONE, contents.plan, contents.readings)
+    return Sheet(totals_rules.DONE, contents.plan, contents.readings)
 
 
 def marks_part(sheet):

@@ -1,0 +1,431 @@
+# A stage of the gate: reads README.md, docs/*.md and crates.txt, and compares what they say with the repository. Prints
+# FILE:LINE: and what is wrong; exits with 1 if anything is.
+#
+#   links       a relative link leads to a file, and after # to a heading of it
+#   paths       a file or folder cited in backticks exists: one with a / in it, or with one of ENDINGS; in blocks of code,
+#               what begins with a folder of the root
+#   names       a name cited in backticks stands in the code, comments aside; `a::b` in the sources of the crate a, and
+#               `F.b` in the file F.antt
+#   owners      names that directly follow a file, a folder or a crate stand in it: `F.antt` `a`, `b` and `c`; in the
+#               same way `F.antt` (`a`, `b`); and what is called a crate is one
+#   the map     docs/MAP.md has the groups of crates.txt, in its order: a heading ### for each, and a table with the head
+#               cell `crate` and one row for each crate
+#   arrows      what a crate depends on stands above it in crates.txt; and it depends on every crate that it names
+#   sizes       README.md and the cells of docs/CLAIMS.md are short
+#
+# Paths are from the root, below crates/ or below docs/; one that begins with neither a crate nor a folder of the root,
+# such as Laws/Order.antt, is any path with that end. A star stands for any name, and so does a capital letter between
+# slashes. What is built, below target/, and paths outside the repository are passed over.
+#
+# Documents speak of today: a name of the past stands without backticks. docs/CHANGES.md is a history; of it the links
+# alone are compared.
+#
+# Defined here:
+#   Repository                           its files and folders, and the words of its code
+#   Citation, citations                  what stands in backticks, with its line and what stands before it
+#   listed_crates, map_groups            the groups of crates.txt and of the map
+#   check_links .. check_sizes           complaints, by the list above
+#   complaints                           all of them
+
+import re
+import sys
+from collections import namedtuple
+from fnmatch import fnmatchcase
+from itertools import zip_longest
+from pathlib import Path
+
+ROOT = Path(__file__).resolve().parent.parent
+MAP, CLAIMS, CRATES, HISTORY = "docs/MAP.md", "docs/CLAIMS.md", "crates.txt", "docs/CHANGES.md"
+MOST_LINES, MOST_WORDS = 120, 60
+
+ENDINGS = (".antt", ".rt", ".py", ".c", ".md", ".sheet", ".csv", ".txt", ".edit")
+CODE_FOLDERS = ("crates", "reference", "tools", "bench", ".ci")
+PASSED_OVER = (".git", "target", "__pycache__")
+KIT = ("io", "libc", "std", "check", "bytes", "os")
+
+# Words of the kit's messages and of C that documents cite and no code here has.
+OUTSIDE = {"axioms", "logic-built", "libraries-built", "trusted", "restrict"}
+
+# Comments, by the ending of a file; Python's also between three quotes.
+COMMENTS = {
+    ".antt": r"(?m)(?:^|(?<=\s))--.*",
+    ".rt": r"//.*",
+    ".c": r"(?m)//.*|/\*[^*]*\*/",
+    ".py": r'(?s)""".*?"""|(?:(?<=\n)|(?<=\s))#[^\n]*',
+    "": r"(?m)^\s*#.*",
+}
+
+# line counts from 1. gap is what stands between the citation before it and this one, None for the first of its passage.
+Citation = namedtuple("Citation", "line text gap before")
+
+# A group of crates.txt or of the map: its heading, the line of that, and pairs of line and crate.
+Group = namedtuple("Group", "heading line crates")
+
+
+# ---- the repository ----
+
+def words_of(text):
+    """The words of a text, as code parts them."""
+    return set(re.findall(r"[^\s(){}\[\],;:.`\"'=<>|&!?/…]+", text))
+
+
+def read(path):
+    """The text of a file of the repository."""
+    return (ROOT / path).read_text(encoding="utf-8")
+
+
+def below(folder):
+    """The files below a folder, as paths from the root."""
+    found = []
+    for path in (ROOT / folder).iterdir():
+        if path.name in PASSED_OVER:
+            continue
+        found += below(path.relative_to(ROOT)) if path.is_dir() else [path.relative_to(ROOT).as_posix()]
+    return found
+
+
+class Repository:
+    """Files and folders, what crates.txt lists, and the words of each file of code without its comments."""
+
+    def __init__(self):
+        self.files = sorted(below("."))
+        self.paths = set(self.files) | {parent.as_posix() for path in self.files for parent in Path(path).parents}
+        self.tops = {path.split("/")[0] for path in self.files}
+        self.groups, self.depends = listed_crates()
+        self.own_text = {path: without_comments(path) for path in self.files if is_code(path)}
+        self.words = {path: words_of(text) for path, text in self.own_text.items()}
+        named = {part for path in self.paths for part in Path(path).parts}
+        self.all_words = set().union(OUTSIDE, named, *self.words.values()) | {Path(name).stem for name in named}
+
+    def found(self, cited):
+        """The paths that a cited path may mean; none if it does not exist."""
+        first = cited.split("/")[0]
+        pattern = re.sub(r"(?<![^/])[A-Z](?![^/])", "*", cited.strip("/"))
+        if "*" in pattern:
+            wanted = (pattern, "crates/" + pattern, "*/" + pattern)
+            return [path for path in self.paths if any(fnmatchcase(path, own) for own in wanted)]
+        exact = [path for path in (pattern, "crates/" + pattern, "docs/" + pattern) if path in self.paths]
+        if exact or "/" in pattern and first in self.tops | set(self.depends):
+            return exact
+        return [path for path in self.paths if path.endswith("/" + pattern)]
+
+    def stands(self, name, owners):
+        """Whether a name stands in one of some files, or in a file below one of some folders."""
+        inside = tuple(owner + "/" for owner in owners)
+        files = [path for path in self.words if path in owners or path.startswith(inside)]
+        return any(is_word(name, self.words[path]) for path in files)
+
+
+def is_code(path):
+    """Whether a path is of code: not what a program reads or writes, and not this file."""
+    return (path.split("/")[0] in CODE_FOLDERS and path != ".ci/documents.py"
+            and Path(path).name not in ("stdin", "stdout"))
+
+
+def without_comments(path):
+    """The text of a file without its comments."""
+    comments = COMMENTS.get(Path(path).suffix)
+    return re.sub(comments, "", read(path)) if comments else read(path)
+
+
+def is_word(name, words):
+    """Whether a name is one of some words; a star in it may stand for any letters."""
+    return name in words or "*" in name and any(fnmatchcase(word, name) for word in words)
+
+
+# ---- crates.txt ----
+
+def listed_crates():
+    """The groups of crates.txt, each under the comment line directly above it, and what each crate depends on."""
+    groups, depends, comment = [], {}, None
+    for line, text in enumerate(read(CRATES).splitlines(), 1):
+        if text.startswith("#"):
+            comment = Group(text.strip("# "), line, [])
+        elif not text.strip():
+            comment = None
+        else:
+            name, _, below_it = text.partition(":")
+            if comment or not groups:
+                groups.append(comment or Group("", line, []))
+                comment = None
+            groups[-1].crates.append((line, name.strip()))
+            depends[name.strip()] = below_it.split()
+    return groups, depends
+
+
+# ---- citations ----
+
+def passages(text):
+    """The passages of a document, which are paragraphs, rows of tables, headings and lines of code blocks: the first line
+    of each, whether it is code, and its text."""
+    found, fenced, going_on = [], False, False
+    for line, own in enumerate(text.splitlines(), 1):
+        fence = own.lstrip().startswith("```")
+        fenced ^= fence
+        indented = own.startswith("    ") and not going_on
+        if fence or not own.strip():
+            going_on = False
+        elif fenced or indented:
+            found.append((line, True, own))
+        elif not going_on or own.lstrip().startswith(("|", "#")):
+            found.append((line, False, own))
+            going_on = True
+        else:
+            found[-1] = found[-1][:2] + (found[-1][2] + "\n" + own,)
+    return found
+
+
+def citations(text):
+    """The citations of a document, in order."""
+    found = []
+    for first, code, passage in passages(text):
+        if code:
+            continue
+        end = None
+        for match in re.finditer("`([^`]+)`", passage):
+            gap = None if end is None else " ".join(passage[end:match.start()].split("\n"))
+            line = first + passage.count("\n", 0, match.start())
+            found.append(Citation(line, " ".join(match[1].split()), gap, passage[:match.start()]))
+            end = match.end()
+    return found
+
+
+def is_path(text):
+    """Whether a citation is of a file or a folder of the repository, and not of a name in a file."""
+    return (bool(re.fullmatch(r"[\w·.*/-]*[A-Za-z][\w·.*/-]*", text)) and not is_outside(text)
+            and (text.endswith(ENDINGS) or "/" in text and not module_and_name(text)))
+
+
+def is_outside(text):
+    """Whether a citation is of a path that is built, or outside the repository."""
+    return text.startswith(("/", "target/"))
+
+
+def module_and_name(text):
+    """The two parts of a citation such as Laws/Order.mixed; none of another."""
+    match = re.fullmatch(r"((?:\w+/)*[A-Z]\w*)\.([^\W\d][^\s(){},;:./]*)", text)
+    return match.groups() if match and not text.endswith(ENDINGS) else ()
+
+
+def names_in(text):
+    """The words of a citation that are names: of two letters or more, with a letter first."""
+    return sorted(word for word in words_of(text) if re.match(r"[^\W\d_]..*|[^\W\d_].", word))
+
+
+def is_name(text):
+    """Whether a citation is one name, of a definition or a field."""
+    return bool(re.fullmatch(r"\.?[^\W\d][^\s(){},;:./]*", text))
+
+
+# ---- checks of what is cited ----
+
+def anchors(path):
+    """What may stand after # in a link to a document."""
+    headings = re.findall(r"(?m)^#+ +(.*)$", read(path))
+    return {re.sub(r"[^\w\- ]", "", heading.lower()).replace(" ", "-") for heading in headings}
+
+
+def check_links(document):
+    """Relative links of a document that lead nowhere."""
+    found = []
+    for line, text in enumerate(read(document).splitlines(), 1):
+        for target in re.findall(r"\]\(([^)\s]+)\)", text):
+            if re.match(r"[a-z]+:", target):
+                continue
+            name, _, anchor = target.partition("#")
+            path = (ROOT / document).parent / name if name else ROOT / document
+            if not path.exists():
+                found.append((document, line, "the link leads to no file: %s" % target))
+            elif anchor and anchor not in anchors(path.resolve().relative_to(ROOT)):
+                found.append((document, line, "the link leads to no heading: %s" % target))
+    return found
+
+
+def check_paths(repository, document, cited):
+    """Files and folders that are cited and absent."""
+    return [(document, own.line, "there is no file or folder `%s`" % own.text)
+            for own in cited if is_path(own.text) and not repository.found(own.text)]
+
+
+def check_code(repository, document):
+    """Files and folders that a code block of a document names and that are absent."""
+    tops = "|".join(re.escape(top) for top in sorted(repository.tops))
+    return [(document, line, "there is no file or folder %s" % path)
+            for line, code, passage in passages(read(document)) if code
+            for path in re.findall(r"(?<![\w./-])(?:%s)/[\w./-]*\w" % tops, passage) if path not in repository.paths]
+
+
+def check_name(repository, own):
+    """What is wrong with the names of a citation that is no path."""
+    for crate, name in re.findall(r"(\w+)::(\w+)", own.text):
+        if crate in repository.depends and not repository.stands(name, ["crates/%s/src" % crate]):
+            return ["`%s` is not in the sources of the crate %s" % (name, crate)]
+    if re.search(r"\bcrate $", own.before.replace("\n", " ")) and own.text not in repository.depends:
+        return ["`%s` is no crate of crates.txt" % own.text]
+    if module_and_name(own.text):
+        module, name = module_and_name(own.text)
+        files = repository.found(module + ".antt")
+        if "/" in module and not files or files and not repository.stands(name, files):
+            return ["`%s` does not stand in a file %s.antt" % (name, module)]
+    absent = [name for name in names_in(own.text) if not is_word(name, repository.all_words)]
+    return ["`%s` stands nowhere in the code" % name for name in absent]
+
+
+def check_names(repository, document, cited):
+    """Names that are cited and stand nowhere."""
+    return [(document, own.line, complaint) for own in cited
+            if not is_path(own.text) and not is_outside(own.text)
+            for complaint in check_name(repository, own)]
+
+
+def owner_of(repository, own):
+    """The files or folders in which the names after a citation should stand; none where it owns no name."""
+    if own.text in repository.depends:
+        return ["crates/" + own.text]
+    if not is_path(own.text) or own.text.endswith((".md", ".txt", ".sheet", ".csv")):
+        return []
+    return [path for path in repository.found(own.text) if is_code(path)]
+
+
+def check_owners(repository, document, cited):
+    """Names that directly follow a file, a folder or a crate and do not stand in it. A crate among these names may be the
+    owner of the next, as in `yates` `totals`, `columns` `copy`, or a name, as in `effects` `rows` `divisors`."""
+    found, owners, last = [], [], None
+    for own in cited:
+        if own.gap in (" ", " (") and owner_of(repository, last):
+            owners = [last] + owners[:1]
+        elif own.gap not in (" ", ", ", " and ", ", and "):
+            owners = []
+        if owners and not is_name(own.text):
+            owners = owners if " " in own.text else []
+        elif owners and not stands_by(repository, own, owners):
+            if own.text not in repository.depends and is_word(own.text.lstrip("."), repository.all_words):
+                found.append((document, own.line, "`%s` does not stand in %s" % (own.text, owners[0].text)))
+            owners = []
+        last = own
+    return found
+
+
+def stands_by(repository, own, owners):
+    """Whether a name stands in what one of some citations means."""
+    name = own.text.lstrip(".")
+    return any(repository.stands(name, owner_of(repository, owner)) for owner in owners)
+
+
+# ---- checks of crates and sizes ----
+
+def map_groups():
+    """The groups of the map: headings ### with a table whose head cell is `crate`."""
+    groups, heading, inside = [], None, False
+    for line, text in enumerate(read(MAP).splitlines(), 1):
+        cells = [cell.strip() for cell in text.strip().strip("|").split("|")]
+        if text.startswith("#"):
+            heading, inside = (text.strip("# "), line), False
+        elif not text.startswith("|"):
+            inside = False
+        elif cells[0] == "crate" and heading:
+            groups.append(Group(*heading, []))
+            inside = True
+        elif inside and not set(cells[0]) <= set("-: "):
+            groups[-1].crates.append((line, cells[0].strip("`") if len(cells) > 1 and cells[1] else ""))
+    return groups
+
+
+def check_map(repository):
+    """Where the map's groups are not those of crates.txt."""
+    if MAP not in repository.paths:
+        return [(MAP, 1, "there is no map")]
+    found = []
+    listed, mapped = repository.groups, map_groups()
+    for own in listed:
+        if not own.heading:
+            found.append((CRATES, own.line, "there is no line with # directly above the first crate of a group"))
+    for own, theirs in zip_longest(listed, mapped, fillvalue=Group("no group", 1, [])):
+        if own.heading != theirs.heading:
+            return found + [(MAP, theirs.line, "the group is '%s', and in crates.txt, line %d, it is '%s'" % (
+                theirs.heading, own.line, own.heading))]
+        found += check_group(own, theirs)
+    return found
+
+
+def check_group(own, theirs):
+    """Crates that are in a group of crates.txt or of the map alone, or twice in the map."""
+    names, rows = [name for _, name in own.crates], [name for _, name in theirs.crates]
+    found = [(MAP, theirs.line, "%s: there is no row for the crate %s" % (own.heading, name))
+             for name in names if name not in rows]
+    for place, (line, name) in enumerate(theirs.crates):
+        if name not in names:
+            found.append((MAP, line, "%s: the row is of no crate of this group, or says nothing" % own.heading))
+        elif name in rows[:place]:
+            found.append((MAP, line, "%s: a second row for the crate %s" % (own.heading, name)))
+    return found
+
+
+def named_crates(repository, crate):
+    """The crates that the sources, definitions and proofs of a crate name, each with a file; its modules are its own."""
+    mine = "crates/%s/" % crate
+    files = [path for path in repository.own_text if path.startswith(mine) and path.endswith((".rt", ".antt"))]
+    modules = {Path(path).stem for path in files if path.startswith(mine + "src/")}
+    found = {}
+    for path in files:
+        text = repository.own_text[path]
+        names = {name for name in re.findall(r"(?<![\w:.])(\w+)::", text) if name not in modules}
+        for name in names | set(re.findall(r"Rattle·(\w+)", text)):
+            if name in repository.depends and name != crate:
+                found.setdefault(name, path)
+    return found
+
+
+def check_arrows(repository):
+    """Crates that depend on one that stands below them, or on a crate that they do not list."""
+    found, above = [], []
+    folders = {path.split("/")[1] for path in repository.files if path.startswith("crates/")}
+    for line, crate in [own for group in repository.groups for own in group.crates]:
+        depends = repository.depends[crate]
+        found += [(CRATES, line, "%s depends on %s, which does not stand above it" % (crate, name))
+                  for name in depends if name not in above and name not in KIT]
+        found += [(CRATES, line, "%s names %s, which is not listed, in %s" % (crate, name, path))
+                  for name, path in sorted(named_crates(repository, crate).items()) if name not in depends]
+        if crate in above or crate not in folders:
+            found.append((CRATES, line, "%s is listed twice, or has no folder" % crate))
+        above.append(crate)
+    return found + [(CRATES, 1, "crates/%s is not listed" % name) for name in sorted(folders - set(above))]
+
+
+def check_sizes(repository):
+    """What is longer than it may be."""
+    found, count = [], len(read("README.md").splitlines())
+    if count > MOST_LINES:
+        found.append(("README.md", count, "%d lines, at most %d" % (count, MOST_LINES)))
+    if CLAIMS not in repository.paths:
+        return found + [(CLAIMS, 1, "there are no claims")]
+    for line, text in enumerate(read(CLAIMS).splitlines(), 1):
+        cells = [cell.split() for cell in text.strip("|").split("|")] if text.startswith("|") else []
+        found += [(CLAIMS, line, "a cell of %d words, at most %d: %s .." % (len(cell), MOST_WORDS, " ".join(cell[:6])))
+                  for cell in cells if len(cell) > MOST_WORDS]
+    return found
+
+
+# ---- the command ----
+
+def complaints(repository):
+    """All that is wrong, as file, line and words, and how many citations were compared."""
+    found, count = check_map(repository) + check_arrows(repository) + check_sizes(repository), 0
+    for document in ["README.md"] + [path for path in repository.files if fnmatchcase(path, "docs/*.md")]:
+        found += check_links(document)
+        if document == HISTORY:
+            continue
+        found += check_code(repository, document)
+        cited = citations(read(document))
+        count += len(cited)
+        for check in (check_paths, check_names, check_owners):
+            found += check(repository, document, cited)
+    return sorted(found), count
+
+
+if __name__ == "__main__":
+    found, count = complaints(Repository())
+    for complaint in found:
+        print("%s:%d: %s" % complaint)
+    print("documents: %d citations, %d complaints" % (count, len(found)))
+    sys.exit(1 if found else 0)

@@ -1,0 +1,95 @@
+# A stage of the gate: compares the stored inputs and outputs of the programs with what the files of reference/ make now,
+# and published figures with what the reference program makes of the readings. Exits with 1 at a difference.
+#
+#   crates/worked_plans/stdout    the plans of AMCP 706-112, Tables 12-3 and 12-4: published/amcp.py
+#   crates/worked_totals/stdout   steps, totals and passes of the published examples: published/examples.py
+#   crates/worked_answers/stdout  refusals of the table call, and estimates: cases/answers.py
+#   crates/worked_answers/stdin   the records of these, which that program reads
+#   crates/worked_sheets/stdout   answers of the two calls that take a sheet: cases/sheet_cases.py
+#   crates/worked_sheets/stdin    the sheets, which that program reads
+#   crates/worked_texts/stdout    the texts of sheets, tables and refusals: cases/text_cases.py
+#   crates/worked_texts/stdin     the records of the sheets, which that program reads
+#   crates/factab/stdout          the text that the rules print: cases/text_cases.py
+#   crates/factab/stdin           the sheet of that text, which that program reads
+#
+# Each of these files also checks what it lists against rules/. Beside them published/analyses.py compares published
+# analyses of variance with rules/table.py, and cases/csv_cases.py tries tools/csv_sheet.py and compares the sheets of
+# examples/ with the lines that they are made from.
+#
+# Defined here:
+#   PROGRAMS, INPUTS, OTHERS   which file makes and checks what
+#   complaints                 all that is wrong
+
+import sys
+from pathlib import Path
+
+ROOT = Path(__file__).resolve().parent.parent
+sys.path.insert(0, str(ROOT))
+
+from reference.cases import answers, csv_cases, sheet_cases, text_cases
+from reference.published import amcp, analyses, examples
+
+# Each program with the reference file that makes what it must write.
+PROGRAMS = [
+    ("worked_plans", amcp),
+    ("worked_totals", examples),
+    ("worked_answers", answers),
+    ("worked_sheets", sheet_cases),
+    ("worked_texts", text_cases),
+]
+
+# Each program that reads an input with what makes it.
+INPUTS = [
+    ("worked_answers", answers, answers.inputs),
+    ("worked_sheets", sheet_cases, sheet_cases.inputs),
+    ("worked_texts", text_cases, text_cases.inputs),
+]
+
+# Reference files beside these that have something to check.
+OTHERS = [analyses, csv_cases]
+
+
+def path_of(module):
+    """The path of a reference file, from the root."""
+    return module.__name__.replace(".", "/") + ".py"
+
+
+def complaints_of(module):
+    """The complaints of a reference file about what it has."""
+    return ["%s: %s" % (path_of(module), complaint) for complaint in module.check()]
+
+
+def differs(crate, name, module, meant):
+    """The complaint that what is stored beside a program's sources under a name is not what a reference file makes."""
+    stored = ROOT / "crates" / crate / name
+    if stored.exists() and stored.read_bytes() == meant:
+        return []
+    return ["crates/%s/%s differs from what %s makes" % (crate, name, path_of(module))]
+
+
+def bytes_of(text):
+    """The bytes of what a program must write, which some reference files make as bytes."""
+    return text if isinstance(text, bytes) else text.encode()
+
+
+def complaints():
+    """What is wrong: figures that do not hold together, and stored inputs and outputs that differ."""
+    found = []
+    for module in OTHERS:
+        found += complaints_of(module)
+    for crate, module in PROGRAMS:
+        found += complaints_of(module)
+        found += differs(crate, "stdout", module, bytes_of(module.expected_text()))
+    for crate, module, inputs in INPUTS:
+        found += differs(crate, "stdin", module, inputs())
+    found += differs("factab", "stdout", text_cases, text_cases.RULES_TEXT)
+    found += differs("factab", "stdin", text_cases, text_cases.RULES_SHEET)
+    return found
+
+
+if __name__ == "__main__":
+    found = complaints()
+    for complaint in found:
+        print(complaint)
+    print("outputs: %d complaints" % len(found))
+    sys.exit(1 if found else 0)

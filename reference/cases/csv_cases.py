@@ -1,0 +1,156 @@
+# Lines for tools/csv_sheet.py, with the message, the number of a refusal or the sheet that each must give; and the sheets
+# of the examples, which are made from such lines.
+#
+# Defined here:
+#   UNCLEAR, SAME, REFUSED   lines that are not understood, that make the sheet of the rules, that make a refused sheet
+#   EXAMPLES                 the stored examples, and the worked table of each
+#   check                    list of complaints, empty if all is well
+
+import sys
+from pathlib import Path
+
+ROOT = Path(__file__).resolve().parents[2]
+sys.path[:0] = [str(ROOT), str(ROOT / "tools")]
+
+from csv_sheet import NotUnderstood, field_causes, listing, make, text_of
+from reference.cases import text_cases
+from reference.published import analyses
+from reference.rules import text as text_rules
+
+FOLDER = ROOT / "examples"
+
+EXAMPLES = {
+    "four_runs": analyses.RULES_TWO_FACTORS,
+    "sixteen_runs": analyses.REPORT_TWO_LEVELS,
+    "blocked": analyses.AMCP_BLOCKED,
+    "three_levels": analyses.DANIEL_LETTUCE,
+}
+
+
+# ---- lines ----
+
+# Lines of the rules' example, of which some are replaced below.
+FOUR_LINES = ["levels,2", "factors,2", "run,0,0,3", "run,1,0,5", "run,0,1,4", "run,1,1,8", "error,AB"]
+
+# A number of a line, from 1, what stands there instead, and what the message is then.
+UNCLEAR = [
+    (1, "", "there is no line that begins with levels"),
+    (2, "# factors,2", "there is no line that begins with factors"),
+    (1, "Levels,2", "line 1: 'Levels' is none of levels, factors, added, block, run, error"),
+    (1, "levels", "line 1: 1 cells, wanted 2"),
+    (1, "levels,2,3", "line 1: 3 cells, wanted 2"),
+    (1, "levels,two", "line 1: 'two' is no whole number from 0 to 255"),
+    (1, "levels,256", "line 1: '256' is no whole number from 0 to 255"),
+    (3, "levels,2", "line 3: levels is already in line 1"),
+    (2, "factors,16", "line 2: no sheet holds the runs of 16 factors at 2 levels"),
+    (2, "factors,255", "line 2: no sheet holds the runs of 255 factors at 2 levels"),
+    (2, "factors,3", "line 3: 4 cells, wanted 5: run, 3 levels, reading"),
+    (4, "", "there is no line for the run 1,0"),
+    (6, "run,0,1,8", "line 6: the run is already in line 5"),
+    (6, "run,1,2,8", "line 6: '2' is no whole number from 0 to 1"),
+    (6, "run,1,-1,8", "line 6: '-1' is no whole number from 0 to 1"),
+    (6, "run,1,1", "line 6: 3 cells, wanted 4: run, 2 levels, reading"),
+    (6, "run,1,1,", "line 6: 3 cells, wanted 4: run, 2 levels, reading"),
+    (6, "run,1,1,8.0", "line 6: '8.0' is no whole number from -2147483648 to 2147483647"),
+    (6, "run,1,1,8e3", "line 6: '8e3' is no whole number from -2147483648 to 2147483647"),
+    (6, "run,1,1,2147483648", "line 6: '2147483648' is no whole number from -2147483648 to 2147483647"),
+    (6, "run,1,1,-2147483649", "line 6: '-2147483649' is no whole number from -2147483648 to 2147483647"),
+    (7, "error,AC", "line 7: 'AC' is no row, for there are 2 factors"),
+    (7, "error,ab", "line 7: 'ab' is not made of different letters from A to P"),
+    (7, "error,AB\nerror,BA", "line 8: the row is already in a line above"),
+    (7, "block,AQ", "line 7: 'AQ' is not made of different letters from A to P"),
+    (7, "block,AA", "line 7: 'AA' is not made of different letters from A to P"),
+    (7, "block,", "line 7: 1 cells, wanted 2"),
+    (7, "added,AB", "line 7: 2 cells, wanted 3"),
+    (7, "added,,0", "line 7: '' is not made of different letters from A to P"),
+    (7, "added,AB,256", "line 7: '256' is no whole number from 0 to 255"),
+]
+
+# The same, where the sheet is that of the rules' example.
+SAME = [
+    (1, "\n# a comment, with \"cells\"\nlevels,2,,,"),
+    (2, " factors , 2 ,# two of them, A and B"),
+    (3, '"run","0","0","+3"'),
+    (7, ",,,\nerror,BA\n"),
+]
+
+
+def replaced(number, text):
+    """The lines of the rules' example, one of them replaced."""
+    return "\n".join(FOUR_LINES[:number - 1] + [text] + FOUR_LINES[number:])
+
+
+# Lines, and what the program answers to the sheet that they make.
+REFUSED = [
+    ("levels,2\nfactors,11\n" + "".join("run,%s,0\n" % ",".join(bin(run)[3:]) for run in range(2048, 4096)), 1),
+    ("levels,4\nfactors,1\nrun,0,3\nrun,1,5\nrun,2,4\nrun,3,8", 2),
+    ("levels,2\nfactors,0\nrun,3", 3),
+    ("levels,3\nfactors,1\nblock,A\nrun,0,2\nrun,1,5\nrun,2,3", 4),
+    (replaced(3, "added,A,0\nrun,0,0,3"), 5),
+    (replaced(3, "block,AC\nrun,0,0,3"), 5),
+    (replaced(3, "added,AB,2\nrun,0,0,3"), 5),
+    (replaced(3, "added,AB,0\nadded,BA,1\nrun,0,0,3"), 6),
+    (replaced(3, "block,AB\nblock,AB\nrun,0,0,3"), 7),
+    (replaced(3, "block,A\nrun,0,0,3"), 8),
+    (replaced(3, "run,0,0,-100001"), 12),
+    (replaced(3, "run,0,0,2147483647"), 12),
+    (replaced(3, "block,AB\nrun,0,0,3"), 13),
+    (replaced(7, "error,mean"), 13),
+]
+
+
+# ---- checks ----
+
+def message_of(text):
+    """The message about lines that are not understood, None for others."""
+    try:
+        make(text)
+    except NotUnderstood as why:
+        return str(why)
+    return None
+
+
+def check_make():
+    """Complaints about lines: messages, numbers of sheets that are refused, and lines that make the same sheet."""
+    complaints = []
+    for number, text, message in UNCLEAR:
+        if message_of(replaced(number, text)) != message:
+            complaints.append("%r: message %s" % (text, message_of(replaced(number, text))))
+    for text, refused in REFUSED:
+        if text_rules.answer(make(text)) != refused:
+            complaints.append("%r: not refused with %d" % (text[:40], refused))
+    for text in [replaced(number, text) for number, text in SAME] + ["\n".join(reversed(FOUR_LINES))]:
+        if make(text) != text_cases.RULES_SHEET:
+            complaints.append("%r: another sheet" % text)
+    return complaints
+
+
+def check_listing(own):
+    """Complaints about the lines of a sheet: they make it again, or give the number of its refusal and a cause."""
+    refused = text_rules.answer(own.sheet)
+    lines = listing(own.sheet)
+    if bool(field_causes(own.sheet)) != (refused == 1):
+        return ["%s: cause" % own.name]
+    if refused:
+        return [] if lines.startswith("# refused %d: " % refused) else ["%s: number" % own.name]
+    return [] if make(lines) == own.sheet else ["%s: its lines make another sheet" % own.name]
+
+
+def check_example(name, own):
+    """Complaints about a stored example: its lines make its sheet, which is that of a worked table."""
+    lines, stored = FOLDER / (name + ".csv"), FOLDER / (name + ".sheet")
+    if not lines.exists() or not stored.exists():
+        return ["examples/%s: its lines or its sheet are absent" % name]
+    complaints = [] if make(text_of(lines)) == stored.read_bytes() else ["its lines make another sheet"]
+    complaints += [] if stored.read_bytes() == text_cases.of_table(own).sheet else ["not the sheet of %s" % own.title]
+    return ["examples/%s: %s" % (name, complaint) for complaint in complaints]
+
+
+def check():
+    """List of all complaints about lines, listings and stored examples."""
+    complaints = check_make()
+    for own in text_cases.SHEETS:
+        complaints += check_listing(own)
+    for name, own in EXAMPLES.items():
+        complaints += check_example(name, own)
+    return complaints
