@@ -35,7 +35,6 @@
 #   plan                   the plan of an example
 #   check                  list of complaints about figures and mends, empty if all is well
 #   expected_text          the expected text
-#   readings_text          one line for each example: number, levels, k and readings
 
 import sys
 from collections import namedtuple
@@ -712,12 +711,6 @@ def expected_text():
     for number, example in enumerate(EXAMPLES, 1):
         lines += example_lines(number, example)
     return "".join(line + "\n" for line in lines)
-
-
-def readings_text():
-    """One line for each example: number, levels, k and readings."""
-    return "".join("%d %d %d :%s\n" % (number, example.levels, example.k, values_text(whole_readings(example)))
-                   for number, example in enumerate(EXAMPLES, 1))
 
 
 if __name__ == "__main__":

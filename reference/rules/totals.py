@@ -21,7 +21,7 @@
 #   letter_count, combine, confounded     words of a plan
 #   block_of                              the block of a run
 #   plan_answer                           the plan check: 0, or the lowest of 2 to 8 that applies
-#   pass_answer, step_answer, totals_answer   the answers of these calls: 0, or the lowest number that applies
+#   pass_answer, totals_answer            the answers of these calls: 0, or the lowest number that applies
 
 from collections import namedtuple
 from itertools import combinations
@@ -225,11 +225,6 @@ def columns_answer(plan, read, written, limit):
     if wrong_length(plan, [read, written]):
         return 11
     return 12 if beyond(read, limit) else DONE
-
-
-def step_answer(plan, column, new_column):
-    """The step from one column to another."""
-    return columns_answer(plan, column, new_column, MOST_VALUE)
 
 
 def totals_answer(plan, readings, column):

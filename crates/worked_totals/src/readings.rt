@@ -5,7 +5,7 @@
 //   AMCP     Engineering Design Handbook, Experimental Statistics, Section 3, AMCP 706-112, 1969, chapter 12
 //   Yates    F. Yates, The design and analysis of factorial experiments, Technical Communication 35, 1937
 //   Daniel   C. Daniel, Applications of statistics to industrial experimentation, 1976
-//   rules    the specification's own reference runs
+//   rules    the rules' own reference runs
 
 // Report, Section 1, example for n = 4.
 pub const REPORT_TWO_LEVELS: [i32; 16] = [
