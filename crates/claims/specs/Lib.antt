@@ -1,9 +1,8 @@
--- The demands, as theorems about the calls' own definitions.
+-- The demands, as theorems about the calls' own definitions: first what is claimed, then the proofs.
 --
 --   LowestNumber   demand 1: the number of every call is the lowest that applies
 --   Refusals       demand 1: thirteen numbers, and nothing is written
 --   Letters        demand 2: coefficients, totals, blocks and aliases in letters, at two levels
---   LettersWorked  worked examples of these claims
 --   CheckNumbers   demand 2: both checks, in the rules' words
 --   AnyOrder       demand 3: passes in any order
 --   Steps          k steps give the totals
@@ -11,11 +10,11 @@
 --   TableAddsUp    demand 3: mean, kept, blocks and error
 --   Starred        the starred runs, as one fact
 --   WrongPrograms  the programs that have to break their statements
---   Broken         that they do: what the promises come to, computed, and the proof
+--   Examples       worked examples
+--   Laws           the proofs
 pub mod LowestNumber
 pub mod Refusals
 pub mod Letters
-pub mod LettersWorked
 pub mod CheckNumbers
 pub mod AnyOrder
 pub mod Steps
@@ -23,4 +22,5 @@ pub mod SumOfSquares
 pub mod TableAddsUp
 pub mod Starred
 pub mod WrongPrograms
-pub mod Broken
+pub mod Examples
+pub mod Laws

@@ -1,16 +1,16 @@
--- "The starred runs are proved as a single fact over a list of them." Each run is stated by what the calls promise: whole answers, and every
+-- C14: "The starred runs are proved as a single fact over a list of them." Each run is stated by what the calls promise: whole answers, and every
 -- slice that is lent to write (`Promised.antt`).
 --
 --   Sum, Divisors            figures that the rules name beside a table: the sum of squares; the divisors, by the rule and as the table has them
 --   Said                     what a call gives, by the call
 --   Run                      what the calls promise of a run, and what the rules say of it
---   source, both             a line of a table; two check numbers that are equal
+--   source, both             a source with its degrees and numerator; two check numbers that are equal
 --   tabled p readings marks  the table call, on slices that hold zeros
 --   numeratorsOf p totals    the numerators of the effects with these totals
---   fourReadings, .. , lostFactor    the starred runs, in the order of "Reference runs"
+--   fourReadings, .. , lostFactor    the starred runs, X1 to X8
 --   starredRuns              all of them
---   Starred, starred         THE CLAIM, and its proof
-use mathlib.Core.Path.{_≡_, refl}
+--   Starred                  THE CLAIM
+use mathlib.Core.Path.{_≡_}
 use mathlib.Core.Bool.{Bool, true, false}
 use mathlib.Core.List.{List, [], _∷_, map}
 use Prim.Native.Nat.{ℕ}
@@ -18,33 +18,21 @@ use lib.IntN.{ℤ, pos}
 use lib.Ieee.{fin}
 use lib.ListN.{length, getD, take, replicate}
 use Rattle.algebra.specs.Naturals.{Σℕ}
-use Rattle.algebra.specs.Bits.{bits}
-use Rattle.algebra.specs.Search.{some}
-use Rattle.algebra.specs.Sorted.{sumAt}
-use Rattle.algebra.specs.Sum.{Σ}
-use Rattle.algebra.specs.Tab.{tab, tabFrom}
-use Rattle.contrasts.specs.Columns.{read, totalsOf}
-use Rattle.contrasts.specs.Limits.{readingLimit, mostTwo, mostThree}
-use Rattle.contrasts.specs.Rows.{rowOf, degreesOf}
-use Rattle.contrasts.specs.Factors.{two, three}
+use Rattle.algebra.specs.Tab.{tab}
+use Rattle.contrasts.specs.Columns.{read}
 use Rattle.contrasts.specs.Codings.{neg}
-use Rattle.contrasts.specs.Totals.{size, coef*, total, divisor*, denominator, weight*, numeratorOf, squared}
-use Rattle.contrasts.specs.Checks.{checkWeight, round, rounds}
-use Rattle.words.specs.Words.{letters, beyond, times, combined, any, among, repeated}
+use Rattle.contrasts.specs.Totals.{total, divisor*, denominator, numeratorOf, squared}
+use Rattle.words.specs.Words.{times}
 use Rattle.plan.specs.declared.types.Plan.{Plan}
 use Rattle.plan.specs.Examples.{plan, A, AB, BC, ABC, AD, BCD}
 use Rattle.plan.specs.Outcome.{Outcome, given, refused}
-use Rattle.plan.specs.Plan.{factorsOf, runsOf, someCombination, combinesTo}
-use Rattle.plan.specs.Check.{badLevels, badFactors, badCounts, badWord, badSign, badWords, dependent, factorWord, losesFactor, planRefused, withPlan, runCount, confoundedAccepted}
-use Rattle.aliases.specs.Alias.{baseWord, turnsOf, turns, aliasRefused}
-use Rattle.columns.specs.Refusals.{wrongLength, isBeyond, anyBeyond}
+use Rattle.plan.specs.Plan.{factorsOf, runsOf}
+use Rattle.plan.specs.Check.{confoundedAccepted}
 use Rattle.effects.specs.Effects.{effectDivisors}
-use Rattle.rows.specs.Kinds.{Kind, meanRow, blocksRow, keptRow, rowsIn, wrongRows, kindByMark, kindOf, badMark, badMarks}
-use Rattle.estimates.specs.Quotient.{quotient}
-use Rattle.estimates.specs.Estimate.{Value, mean, difference, lost, meanOf, differenceOf, valueBy, estimateRefused}
+use Rattle.rows.specs.Kinds.{Kind, meanRow, blocksRow, keptRow, rowsIn, kindOf}
+use Rattle.estimates.specs.Estimate.{Value, mean, difference, lost}
 use Rattle.anova.specs.declared.types.Source.{Source}
 use Rattle.anova.specs.declared.types.Checks.{Checks}
-use Rattle.anova.specs.Table.{wrongLengths, tableRefused, sourceOf, totalSource, checksOf, tableFigures, tableTotals, tableRows, rowsOf}
 use Rattle.promises.specs.Promised.{Tabled, promisedCheck, promisedAlias, promisedTable, promisedEstimate}
 
 -- ---- what a run is
@@ -86,7 +74,7 @@ both n = record { totals = n; readings = n }
 abbrev tabled : Plan → List ℤ → List ℕ → Tabled
 tabled p readings marks = promisedTable p readings marks (replicate (runsOf p) (pos 0)) (replicate (rowsIn p) 0)
 
--- "A numerator is a total squared times (denominator over divisor)."
+-- T19: "A numerator is a total squared times (denominator over divisor)."
 abbrev numeratorsOf : Plan → List ℤ → List ℕ
 numeratorsOf p totals = tab (runsOf p) (λ e. numeratorOf (factorsOf p) e (read totals e))
 
@@ -99,7 +87,7 @@ sumIn p readings rows = record {
 
 -- ---- the runs
 
--- "Readings 3, 5, 4, 8: totals 20, -6, -4, 2; numerators 400, 36, 16, 4; sum 456, which is 4 times 114; check 12."
+-- X1: "Readings 3, 5, 4, 8: totals 20, -6, -4, 2; numerators 400, 36, 16, 4; sum 456, which is 4 times 114; check 12."
 abbrev four : Tabled
 four = tabled (plan 2 2 [] [] []) (pos 3 ∷ pos 5 ∷ pos 4 ∷ pos 8 ∷ []) (replicate 4 0)
 
@@ -130,7 +118,7 @@ fourReadings = record {
       ∷ [];
 }
 
--- "Three levels, 2, 5, 3: totals 10, -1, -5; numerators 200, 3, 25; row A 28 with 2 degrees; check 4." Row A is the one row that is kept.
+-- X2: "Three levels, 2, 5, 3: totals 10, -1, -5; numerators 200, 3, 25; row A 28 with 2 degrees; check 4." Row A is the one row that is kept.
 abbrev threeReadings : Tabled
 threeReadings = tabled (plan 3 1 [] [] []) (pos 2 ∷ pos 5 ∷ pos 3 ∷ []) (replicate 2 0)
 
@@ -155,7 +143,7 @@ threeLevels = record {
   says = table threeSaid ∷ numerators (200 ∷ 3 ∷ 25 ∷ []) ∷ [];
 }
 
--- "Readings 1 to 8, block word ABC: totals 36, -4, -8, 0, -16, 0, 0, 0; row ABC is blocks." So its degree is one of blocks, its effect is lost,
+-- X3: "Readings 1 to 8, block word ABC: totals 36, -4, -8, 0, -16, 0, 0, 0; row ABC is blocks." So its degree is one of blocks, its effect is lost,
 -- and a mark on it is refused.
 abbrev eightReadings : List ℤ
 eightReadings = pos 1 ∷ pos 2 ∷ pos 3 ∷ pos 4 ∷ pos 5 ∷ pos 6 ∷ pos 7 ∷ pos 8 ∷ []
@@ -192,7 +180,7 @@ inBlocks = record {
       ∷ [];
 }
 
--- "k = 1, -100,000 and 100,000: totals 0, -200,000; difference -200,000." The difference is that of the total which the table writes;
+-- X4: "k = 1, -100,000 and 100,000: totals 0, -200,000; difference -200,000." The difference is that of the total which the table writes;
 -- 3,125 times 2 to the power 6 is 200,000.
 abbrev limits : Tabled
 limits = tabled (plan 2 1 [] [] []) (neg 100_000 ∷ pos 100_000 ∷ []) (replicate 2 0)
@@ -218,14 +206,14 @@ atLimits = record {
   says = table limitsSaid ∷ estimate (given (difference (fin true 3125 (pos 6)))) ∷ [];
 }
 
--- "k = 3, D = ABC: AD reduces to BC, unturned; with sign 1, turned."
+-- X5: "k = 3, D = ABC: AD reduces to BC, unturned; with sign 1, turned."
 abbrev reduced : Run
 reduced = record {
   gives = alias (promisedAlias (plan 2 3 (ABC ∷ []) (0 ∷ []) []) AD) ∷ alias (promisedAlias (plan 2 3 (ABC ∷ []) (1 ∷ []) []) AD) ∷ [];
   says = alias (given (BC, false)) ∷ alias (given (BC, true)) ∷ [];
 }
 
--- "Two three-level factors: divisors 9, 6, 18, 6, 4, 12, 18, 12, 36."
+-- X6: "Two three-level factors: divisors 9, 6, 18, 6, 4, 12, 18, 12, 36."
 abbrev nine : List ℕ
 nine = 9 ∷ 6 ∷ 18 ∷ 6 ∷ 4 ∷ 12 ∷ 18 ∷ 12 ∷ 36 ∷ []
 
@@ -238,7 +226,7 @@ nineDivisors = record {
   says = divisors (record { by-digits = nine; divided-by = nine }) ∷ [];
 }
 
--- "k = 4, block words AD, ABC: accepted, BCD confounded too.": its estimate is lost, as those of the block words are
+-- X7: "k = 4, block words AD, ABC: accepted, BCD confounded too.": its estimate is lost, as those of the block words are
 abbrev twoBlockWords : Plan
 twoBlockWords = plan 2 4 [] [] (AD ∷ ABC ∷ [])
 
@@ -253,7 +241,7 @@ combination = record {
   says = check (given tt) ∷ estimate (given lost) ∷ estimate (given lost) ∷ estimate (given lost) ∷ confounded true ∷ [];
 }
 
--- "The inputs of refusals 7 and 8, with k = 3.": "AB, AB", and "AB, ABC"
+-- X8: the small inputs of N7 and N8, AB with AB and AB with ABC, with k = 3
 abbrev lostFactor : Run
 lostFactor = record {
   gives = check (promisedCheck (plan 2 3 [] [] (AB ∷ AB ∷ []))) ∷ check (promisedCheck (plan 2 3 [] [] (AB ∷ ABC ∷ []))) ∷ [];
@@ -267,7 +255,3 @@ starredRuns = fourReadings ∷ threeLevels ∷ inBlocks ∷ atLimits ∷ reduced
 
 abbrev pub Starred : Type 0
 Starred = map (λ r. r .gives) starredRuns ≡ map (λ r. r .says) starredRuns
-
-pub starred : Starred
-unfolding tableRefused tableTotals tableRows tableFigures sourceOf totalSource checksOf rowsOf wrongLengths wrongRows wrongLength anyBeyond isBeyond badMarks badMark kindOf kindByMark withPlan planRefused badLevels badFactors mostTwo mostThree badCounts badWords badWord badSign repeated dependent losesFactor factorWord any among beyond letters combined times someCombination combinesTo some bits Σℕ Σ readingLimit factorsOf size two three total coef* totalsOf tabFrom divisor* denominator weight* numeratorOf squared checkWeight round rounds rowOf degreesOf sumAt baseWord turnsOf turns aliasRefused estimateRefused valueBy meanOf differenceOf quotient runCount effectDivisors confoundedAccepted
-starred = refl

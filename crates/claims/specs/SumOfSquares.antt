@@ -1,42 +1,38 @@
--- Demand 3, the exact sum of squares: "The squares of those totals, each divided by its divisor and all added without rounding, equal the sum
+-- D3.7: "The squares of those totals, each divided by its divisor and all added without rounding, equal the sum
 -- of the squared readings", of the totals that any such list of passes leaves.
 --
 --   squareOver p totals e           the square of the total of effect e, divided by its divisor: a fraction
 --   numeratorsIn p totals           the numerators of a column of totals, added up
 --   ExactSquares p column totals    what is claimed of the totals of a column of readings
---   SumOfSquares, sum-of-squares    THE CLAIM, and its proof
-use mathlib.Core.Path.{_≡_, refl, _∙_}
+--   SumOfSquares                    THE CLAIM
+use mathlib.Core.Path.{_≡_}
 use mathlib.Core.List.{List}
 use Prim.Native.Nat.{ℕ, _*_, _<_}
-use lib.IntN.{ℤ, pos, natAbs}
+use lib.IntN.{ℤ, natAbs}
 use Rattle.algebra.specs.Fractions.{Fraction, _over_, sumOf, Is}
-use Rattle.algebra.specs.Laws.Fractions.{shared}
 use Rattle.algebra.specs.Naturals.{Σℕ}
-use Rattle.algebra.specs.Laws.Naturals.{Σℕ-cong}
-use Rattle.algebra.specs.Laws.Tab.{getD-tab}
-use Rattle.contrasts.specs.Columns.{read, totalsOf}
+use Rattle.contrasts.specs.Columns.{read}
 use Rattle.contrasts.specs.Totals.{total, divisor*, denominator, weight*, numeratorOf, squared}
-use Rattle.contrasts.specs.Laws.Divisors.{divisor*-pos, shares, denominator-pos}
 use Rattle.contrasts.specs.Laws.Squares.{numerators}
 use Rattle.plan.specs.declared.types.Plan.{Plan}
 use Rattle.plan.specs.Check.{planRefused}
 use Rattle.plan.specs.Plan.{factorsOf, runsOf}
-use Rattle.claims.specs.AnyOrder.{afterCalls, Readings, EachOnce, any-order}
+use Rattle.claims.specs.AnyOrder.{afterCalls, Readings, EachOnce}
 
--- "each divided by its divisor"
+-- D3.7: "each divided by its divisor"
 abbrev pub squareOver : Plan → List ℤ → ℕ → Fraction
 squareOver p totals e = (natAbs (read totals e) * natAbs (read totals e)) over divisor* (factorsOf p) e
 
--- "A numerator is a total squared times (denominator over divisor)."
+-- T19: "A numerator is a total squared times (denominator over divisor)."
 abbrev pub numeratorsIn : Plan → List ℤ → ℕ
 numeratorsIn p totals = Σℕ (runsOf p) (λ e. numeratorOf (factorsOf p) e (read totals e))
 
 pub record ExactSquares (p : Plan) (column totals : List ℤ) : Type 0 where
-  -- "all added without rounding, equal the sum of the squared readings"
+  -- D3.7: "all added without rounding, equal the sum of the squared readings"
   pub squares : Is (sumOf (runsOf p) (squareOver p totals)) (squared (factorsOf p) (read column))
-  -- "in whole numbers: the numerators of all N effects add up to the denominator times the sum of squared readings"
+  -- T28: "in whole numbers: the numerators of all N effects add up to the denominator times the sum of squared readings"
   pub numerators : numeratorsIn p totals ≡ denominator (factorsOf p) * squared (factorsOf p) (read column)
-  -- "(denominator over divisor)" leaves no remainder, and no divisor is 0
+  -- T19: "(denominator over divisor)" leaves no remainder, and no divisor is 0
   pub weights : (e : ℕ) → divisor* (factorsOf p) e * weight* (factorsOf p) e ≡ denominator (factorsOf p)
   pub divisors : (e : ℕ) → 0 < divisor* (factorsOf p) e
 
@@ -47,26 +43,3 @@ SumOfSquares =
     → (column : List ℤ) → Readings p column
     → (calls : List ℕ) → EachOnce p calls
     → ExactSquares p column (afterCalls p calls column)
-
--- ---- the proof
-
-numerators-of : (p : Plan) (column : List ℤ) → numeratorsIn p (totalsOf (factorsOf p) column) ≡ denominator (factorsOf p) * squared (factorsOf p) (read column)
-unfolding totalsOf
-numerators-of p column =
-    Σℕ-cong (runsOf p) (λ e h. rw (getD-tab (pos 0) (runsOf p) (total (factorsOf p) (read column)) e h) refl)
-    ∙ numerators (factorsOf p) (read column)
-
-of-totals : (p : Plan) (column : List ℤ) → ExactSquares p column (totalsOf (factorsOf p) column)
-unfolding numeratorOf
-of-totals p column =
-    record {
-      squares =
-          shared (runsOf p) (squareOver p (totalsOf (factorsOf p) column)) (weight* (factorsOf p)) (denominator (factorsOf p))
-          (denominator-pos (factorsOf p)) (λ e h. shares (factorsOf p) e) (squared (factorsOf p) (read column)) (numerators-of p column);
-      numerators = numerators-of p column;
-      weights = shares (factorsOf p);
-      divisors = divisor*-pos (factorsOf p);
-    }
-
-pub sum-of-squares : SumOfSquares
-sum-of-squares p ok column start calls once = rw (any-order p ok column start calls once .ends) (of-totals p column)

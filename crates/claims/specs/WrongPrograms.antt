@@ -1,4 +1,4 @@
--- "These programs have to break their statements".
+-- C6 to C13: "These programs have to break their statements".
 --
 -- Each program that the rules name, as a definition from a call's input to its answer and the slices that it leaves, and that it does not keep
 -- the call's promise (`Promised.antt`). As far as the rules' words leave it, a program is right in all else. The inputs at which they break are
@@ -20,7 +20,7 @@
 --   lostAlways, lostForEvery          answer lost for every effect, or for every one that is not refused
 --   emptyPart                         gives an empty part for every sheet
 --   four, readings, .. , blank        the named inputs; the sheets are those of `printing/specs/Examples.antt`
---   WrongPrograms                     THE CLAIM; its proof is `wrong-programs` in `Broken.antt`
+--   WrongPrograms                     THE CLAIM
 use mathlib.Core.Path.{_≡_}
 use mathlib.Core.Bool.{cond}
 use mathlib.Core.List.{List, [], _∷_, _++_}
@@ -79,7 +79,7 @@ KeepsMarks program = (sheet : List ℕ) → program sheet ≡ promisedMarks shee
 abbrev pub KeepsPrint : (List ℕ → List ℕ → Printed) → Type 0
 KeepsPrint program = (sheet text : List ℕ) → program sheet text ≡ promisedPrint sheet text
 
--- ---- "one refusing every plan": with any numbers, chosen by all that it is handed
+-- ---- C6: "one refusing every plan": with any numbers, chosen by all that it is handed
 
 abbrev pub refusesPlans : (Plan → ℕ) → Plan → Outcome Unit
 refusesPlans number p = refused (number p)
@@ -87,7 +87,7 @@ refusesPlans number p = refused (number p)
 abbrev pub refusesTables : (Plan → List ℤ → List ℕ → List ℤ → List ℕ → ℕ) → TableCall
 refusesTables number p readings marks totals rows = record { answer = refused (number p readings marks totals rows); totals = totals; rows = rows }
 
--- ---- "one printing a constant table"
+-- ---- C7: "one printing a constant table"
 
 -- one text for every sheet
 abbrev pub constantText : List ℕ → List ℕ → List ℕ → Printed
@@ -108,7 +108,7 @@ figuresBy figures p readings marks totals rows = record {
 abbrev pub constantFigures : Figures → TableCall
 constantFigures f = figuresBy (λ p readings marks. f)
 
--- ---- "or leaving the column untouched"
+-- ---- C8: "or leaving the column untouched"
 
 abbrev pub untouchedPass : PassCall
 untouchedPass p f column = record { answer = outcome (passRefused p f column) tt; column = column }
@@ -123,7 +123,7 @@ untouchedTable p readings marks totals rows = record {
   rows = rows;
 }
 
--- ---- "one whose first pass does all factors and whose later passes idle"
+-- ---- C9: "one whose first pass does all factors and whose later passes idle"
 
 -- the totals for the pass, where the call is not refused
 abbrev pub doesAll : PassCall
@@ -146,7 +146,7 @@ unfoldable pub afterTold : (ℕ → PassCall) → ℕ → Plan → List ℕ → 
 afterTold program n p [] column = column
 afterTold program n p (f ∷ fs) column = afterTold program (suc n) p fs (program n p f column .column)
 
--- ---- "one with invented degrees or check numbers"
+-- ---- C10, C11: "one with invented degrees or check numbers"
 
 -- figures with other degrees of mean, kept effects, blocks and error
 abbrev pub withDegrees : ℕ → ℕ → ℕ → ℕ → Figures → Figures
@@ -168,7 +168,7 @@ inventedDegrees m k b e = figuresBy (λ p readings marks. withDegrees m k b e (t
 abbrev pub allToMean : TableCall
 allToMean = figuresBy (λ p readings marks. withDegrees (runsOf p) 0 0 0 (tableFigures p readings marks))
 
--- 1 degree for each row, as at two levels: "Giving a main effect 1 degree at three levels."
+-- M3: 1 degree for each row, as at two levels: "Giving a main effect 1 degree at three levels."
 abbrev pub rowsOfKind : Plan → List ℕ → Kind → ℕ
 rowsOfKind p marks c = Σℕ (rowsIn p) (λ w. cond (same (kindOf p marks w) c) 1 0)
 
@@ -193,7 +193,7 @@ withChecks totals readings f = record {
 abbrev pub inventedChecks : ℤ → TableCall
 inventedChecks c = figuresBy (λ p readings marks. withChecks c c (tableFigures p readings marks))
 
--- ---- "one answering lost for every effect, or an empty marks part for every sheet"
+-- ---- C12, C13: "one answering lost for every effect, or an empty marks part for every sheet"
 
 abbrev pub lostAlways : Plan → ℕ → ℤ → Outcome Value
 lostAlways p e t = given lost
@@ -211,7 +211,7 @@ emptyPart sheet = []
 abbrev pub four : Plan
 four = plan 2 2 [] [] []
 
--- "Readings 3, 5, 4, 8: totals 20, -6, -4, 2", and four readings of 0
+-- X1: "Readings 3, 5, 4, 8: totals 20, -6, -4, 2", and four readings of 0
 abbrev pub readings : List ℤ
 readings = pos 3 ∷ pos 5 ∷ pos 4 ∷ pos 8 ∷ []
 
@@ -228,7 +228,7 @@ allKept = 0 ∷ 0 ∷ 0 ∷ 0 ∷ []
 abbrev pub pooled : List ℕ
 pooled = 0 ∷ 0 ∷ 0 ∷ 1 ∷ []
 
--- "Three levels, 2, 5, 3": one factor
+-- X2: "Three levels, 2, 5, 3": one factor
 abbrev pub threeLevels : Plan
 threeLevels = plan 3 1 [] [] []
 
@@ -243,18 +243,18 @@ blank = replicate 69_632 0
 
 -- the programs in the order of the rules' sentence, each with its words
 pub record WrongPrograms : Type 0 where
-  -- "one refusing every plan (the table's conditions, demand 2)"
+  -- C6: "one refusing every plan (the table's conditions, demand 2)"
   pub refusing-plans : (number : Plan → ℕ) → KeepsCheck (refusesPlans number) → ⊥
   pub refusing-tables : (number : Plan → List ℤ → List ℕ → List ℤ → List ℕ → ℕ) → KeepsTable (refusesTables number) → ⊥
-  -- "one printing a constant table"
+  -- C7: "one printing a constant table"
   pub constant-text : (t : List ℕ) → KeepsPrint (constantText t) → ⊥
   pub constant-table : (t : List ℕ) → KeepsPrint (constantTable t) → ⊥
   pub constant-figures : (f : Figures) → KeepsTable (constantFigures f) → ⊥
-  -- "or leaving the column untouched (demands 2 and 3)"
+  -- C8: "or leaving the column untouched (demands 2 and 3)"
   pub untouched-pass : KeepsPass untouchedPass → ⊥
   pub untouched-totals : KeepsTotals untouchedTotals → ⊥
   pub untouched-table : KeepsTable untouchedTable → ⊥
-  -- "one whose first pass does all factors and whose later passes idle (each pass has its own definition above, demand 3)": its first call and
+  -- C9: "one whose first pass does all factors and whose later passes idle (each pass has its own definition above, demand 3)": its first call and
   -- each later one break the pass's promise
   pub first-does-all : KeepsPass (firstDoesAll 0) → ⊥
   pub later-idle : (n : ℕ) → KeepsPass (firstDoesAll (suc n)) → ⊥
@@ -266,13 +266,13 @@ pub record WrongPrograms : Type 0 where
   -- and so does every list of calls that begins with a base factor's: its end alone does not tell
   pub ends-right : (p : Plan) → planRefused p ≡ 0 → (column : List ℤ) → Readings p column → (f : ℕ) → f < p .k → (fs : List ℕ)
       → afterTold firstDoesAll 0 p (f ∷ fs) column ≡ totalsOf (factorsOf p) column
-  -- "one with invented degrees or check numbers (demand 2)"
+  -- C10, C11: "one with invented degrees or check numbers (demand 2)"
   pub invented-degrees : (m k b e : ℕ) → KeepsTable (inventedDegrees m k b e) → ⊥
   pub all-to-mean : KeepsTable allToMean → ⊥
   pub one-degree-each : KeepsTable oneDegreeEach → ⊥
   pub invented-checks : (c : ℤ) → KeepsTable (inventedChecks c) → ⊥
-  -- "one answering lost for every effect"
+  -- C12: "one answering lost for every effect"
   pub lost-always : KeepsEstimate lostAlways → ⊥
   pub lost-for-every : KeepsEstimate lostForEvery → ⊥
-  -- "or an empty marks part for every sheet (demand 2, by the conditions given above)"
+  -- C13: "or an empty marks part for every sheet (demand 2, by the conditions given above)"
   pub empty-part : KeepsMarks emptyPart → ⊥

@@ -1,0 +1,13 @@
+-- The proofs of the claims: a file for each, by the claim's name.
+--
+--   LowestNumber, Refusals, Letters, CheckNumbers, AnyOrder, Steps, SumOfSquares, TableAddsUp, Starred, WrongPrograms
+pub mod LowestNumber
+pub mod Refusals
+pub mod Letters
+pub mod CheckNumbers
+pub mod AnyOrder
+pub mod Steps
+pub mod SumOfSquares
+pub mod TableAddsUp
+pub mod Starred
+pub mod WrongPrograms

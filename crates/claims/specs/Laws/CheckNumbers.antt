@@ -1,0 +1,43 @@
+-- That the claim `CheckNumbers` holds.
+--
+--   check-numbers    the proof
+use mathlib.Core.Path.{_≡_, refl, sym, _∙_, ap}
+use mathlib.Core.List.{List}
+use Prim.Native.Nat.{ℕ, zero, suc}
+use lib.IntN.{ℤ, pos}
+use lib.ListN.{replicate}
+use Rattle.algebra.specs.Sum.{Σ}
+use Rattle.algebra.specs.Laws.Sum.{Σ-cong}
+use Rattle.algebra.specs.Laws.Tab.{getD-tab}
+use Rattle.contrasts.specs.Columns.{read, totalsOf}
+use Rattle.contrasts.specs.Factors.{two, three}
+use Rattle.contrasts.specs.Totals.{Column, total}
+use Rattle.contrasts.specs.Checks.{rounds}
+use Rattle.contrasts.specs.Laws.CheckSum.{check-rounds}
+use Rattle.contrasts.specs.Laws.ThreeLevels.{round-three}
+use Rattle.contrasts.specs.Laws.TwoLevels.{check-two}
+use Rattle.plan.specs.declared.types.Plan.{Plan}
+use Rattle.plan.specs.Plan.{factorsOf, runsOf}
+use Rattle.plan.specs.Laws.Answers.{written-new}
+use Rattle.plan.specs.Laws.Sizes.{factors-two, factors-three}
+use Rattle.anova.specs.Table.{checksOf, tableFigures, tableTotals}
+use Rattle.claims.specs.CheckNumbers.{threes, leftBy, CheckNumbers}
+
+rounds-three : (k : ℕ) (x : Column) → rounds (replicate k three) x ≡ leftBy k x
+unfolding rounds leftBy
+rounds-three zero x = refl
+rounds-three (suc k) x = ap (rounds (replicate k three)) (λ i q. round-three x q i) ∙ rounds-three k (threes x)
+
+sum-of : (p : Plan) (readings : List ℤ) → Σ (runsOf p) (total (factorsOf p) (read readings)) ≡ Σ (runsOf p) (read (totalsOf (factorsOf p) readings))
+unfolding totalsOf
+sum-of p readings = Σ-cong (runsOf p) (λ e h. sym (getD-tab (pos 0) (runsOf p) (total (factorsOf p) (read readings)) e h))
+
+pub check-numbers : CheckNumbers
+unfolding tableFigures checksOf tableTotals
+check-numbers p readings marks totals rows n =
+    record {
+      sum = sum-of p readings ∙ ap (λ (ts : List ℤ). Σ (runsOf p) (read ts)) (written-new _ (totalsOf (factorsOf p) readings) totals n);
+      two-levels = λ t. rw (factors-two p t) (sym (check-rounds (replicate (p .k) two) (read readings)) ∙ check-two (p .k) (read readings));
+      three-levels = λ t. rw (factors-three p t) (rounds-three (p .k) (read readings));
+      equal = check-rounds (factorsOf p) (read readings);
+    }
