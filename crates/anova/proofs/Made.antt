@@ -23,7 +23,7 @@ use Rattle.algebra.specs.Laws.Machine.{wrap, back}
 use Rattle.algebra.specs.Laws.Tab.{getD-tab}
 use Rattle.contrasts.specs.Columns.{read}
 use Rattle.contrasts.specs.Factors.{ofLevels}
-use Rattle.contrasts.specs.Totals.{total, denominator, squared}
+use Rattle.contrasts.specs.Totals.{denominator, squared}
 use Rattle.contrasts.specs.Checks.{rounds}
 use Rattle.contrasts.specs.Laws.Divisors.{denominator-pos}
 use Rattle.contrasts.specs.Laws.Squares.{check-within}

@@ -30,7 +30,7 @@ use Rattle.plan.specs.Plan.{factorsOf, runsOf}
 use Rattle.plan.specs.Check.{confoundedAccepted}
 use Rattle.effects.specs.Effects.{effectDivisors}
 use Rattle.rows.specs.Kinds.{Kind, meanRow, blocksRow, keptRow, rowsIn, kindOf}
-use Rattle.estimates.specs.Estimate.{Value, mean, difference, lost}
+use Rattle.estimates.specs.Estimate.{Value, difference, lost}
 use Rattle.anova.specs.declared.types.Source.{Source}
 use Rattle.anova.specs.declared.types.Checks.{Checks}
 use Rattle.promises.specs.Promised.{Tabled, promisedCheck, promisedAlias, promisedTable, promisedEstimate}

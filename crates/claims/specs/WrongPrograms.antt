@@ -31,7 +31,6 @@ use lib.ListN.{length, drop, replicate}
 use Rattle.algebra.specs.Naturals.{Σℕ}
 use Rattle.contrasts.specs.Columns.{totalsOf}
 use Rattle.contrasts.specs.Codings.{neg}
-use Rattle.contrasts.specs.Totals.{total, denominator}
 use Rattle.rows.specs.Kinds.{Kind, meanRow, blocksRow, errorRow, keptRow, rowsIn, kindOf, same}
 use Rattle.plan.specs.declared.types.Plan.{Plan}
 use Rattle.plan.specs.Check.{planRefused}
@@ -39,7 +38,7 @@ use Rattle.plan.specs.Examples.{plan}
 use Rattle.plan.specs.Outcome.{Outcome, given, refused, outcome, written}
 use Rattle.plan.specs.Plan.{factorsOf, runsOf}
 use Rattle.yates.specs.Calls.{passRefused, totalsRefused}
-use Rattle.estimates.specs.Estimate.{Value, mean, lost, estimateRefused}
+use Rattle.estimates.specs.Estimate.{Value, lost, estimateRefused}
 use Rattle.anova.specs.declared.types.Figures.{Figures}
 use Rattle.anova.specs.Table.{tableRefused, tableFigures, tableTotals, tableRows}
 use Rattle.printing.specs.Printed.{printed, printRefused}

@@ -6,7 +6,7 @@
 --   missing-none, missing-more, missing-all    before the first division, after one more, after the last
 use mathlib.Core.Path.{_≡_, refl, sym, _∙_, ap}
 use mathlib.Core.List.{List}
-use Prim.Native.Nat.{ℕ, suc, _+_, _-_, _*_, _/_, _^_, _<_, _≤_}
+use Prim.Native.Nat.{ℕ, suc, _+_, _-_, _/_, _^_, _<_, _≤_}
 use native.Mathlib.Nat.{div-div-eq-div-mul, pow-suc, div-one}
 use native.Mathlib.Omega.{arith}
 use lib.ListN.{length, getD, set, replicate}

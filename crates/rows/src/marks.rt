@@ -1,6 +1,6 @@
 // Refusal 13: marks over 1, and marks on rows that have none.
 ghost use mathlib.Core.Path.{_≡_};
-ghost use Prim.Native.Nat.{_^_, _≤_};
+ghost use Prim.Native.Nat.{_≤_};
 ghost use lib.ListN.{length, take};
 use super::choices::choices;
 use plan::Plan;

@@ -7,14 +7,12 @@
 --   sum-least              it is at most the sum of all terms
 --   sum-next               and so it is with the next term added
 --   by-kind                sums of sums: the keys of one kind together have the terms of that kind
---   one-each               terms that have a key each
 use mathlib.Core.Path.{_≡_, refl, sym, _∙_, ap}
 use mathlib.Core.Bool.{Bool, true, false, cond}
 use mathlib.Core.List.{List}
 use Prim.Native.Nat.{ℕ, suc, _+_, _<_, _≤_}
 use native.Mathlib.Nat.{add-zero}
 use native.Mathlib.Numerals.{add-one}
-use native.Mathlib.Decide.{ℕ-discrete}
 use borrow.Author.Tests.{eq-eqb, ne-eqb}
 use lib.Dec.{eqb}
 use lib.ListN.{length, getD, set}
@@ -82,18 +80,3 @@ by-kind r key kind f n c h =
     ∙ Σℕ-cong n (λ i _. swapped (eqb (kind w) c) (eqb (key i) w) (f i)))
     ∙ Σℕ-swap r n (λ w i. cond (eqb (key i) w) (cond (eqb (kind w) c) (f i) 0) 0)
     ∙ Σℕ-cong n (λ i k. Σℕ-one r (key i) (λ w. cond (eqb (kind w) c) (f i) 0) (h i k))
-
--- a key for each term, its own number
-pub one-each : (key f : ℕ → ℕ) (n w : ℕ) → ((i : ℕ) → i < n → key i ≡ i) → w < n → sumAt key f n w ≡ f w
-unfolding sumAt
-one-each key f n w h k =
-    Σℕ-cong n (λ i l. rw (h i l) refl)
-    ∙ Σℕ-cong n (λ i l. turned i)
-    ∙ Σℕ-one n w f k
-  where
-    turned : (i : ℕ) → cond (eqb i w) (f i) 0 ≡ cond (eqb w i) (f i) 0
-    turned i = by (ℕ-discrete i w)
-      where
-        by : Dec (i ≡ w) → cond (eqb i w) (f i) 0 ≡ cond (eqb w i) (f i) 0
-        by (yes e) = rw (eq-eqb i w e, eq-eqb w i (sym e))
-        by (no e) = rw (ne-eqb i w e, ne-eqb w i (λ d. e (sym d)))

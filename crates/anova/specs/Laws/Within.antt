@@ -4,7 +4,7 @@
 --   all-degrees                    the degrees of all rows add up to N
 --   fit                            the denominator and N are within the limit
 --   some-within                    any sum of some effects' numerators is
---   row-within, degrees-within     the numerator and the degrees of a row are
+--   row-within                     the numerator of a row is
 --   SourceWithin s                 degrees and numerator of a source are within the limit
 --   kind-within, total-source-within    those of the rows of one kind are, and those of the total
 --   total-within-limit             each total is, in size
@@ -18,7 +18,7 @@ use native.Mathlib.Omega.{arith}
 use lib.IntN.{ℤ, natAbs}
 use lib.ListN.{length}
 use Rattle.algebra.specs.Naturals.{Σℕ}
-use Rattle.algebra.specs.Laws.Naturals.{Σℕ-by, Σℕ-some, Σℕ-term}
+use Rattle.algebra.specs.Laws.Naturals.{Σℕ-by, Σℕ-some}
 use Rattle.algebra.specs.Sorted.{sumAt}
 use Rattle.algebra.specs.Laws.Sorted.{sum-least}
 use Rattle.contrasts.specs.Columns.{read}
@@ -71,9 +71,6 @@ module _ {p : Plan} {readings : List ℤ} {marks : List ℕ} {totals : List ℤ}
   row-within w =
       le-trans (rw (numerators (factorsOf p) (read readings)) at (sum-least (rowOf (factorsOf p)) (numerator (factorsOf p) (read readings)) (runsOf p) (runsOf p) w (omega arith)))
       (within-limit a)
-
-  pub degrees-within : (w : ℕ) → w < rowsIn p → degreesOf (factorsOf p) w ≤ numeratorLimit
-  degrees-within w h = le-trans (Σℕ-term (rowsIn p) (degreesOf (factorsOf p)) w h) (rw all-degrees (fit .1))
 
   pub kind-within : (c : Kind) → SourceWithin (sourceOf p readings marks c)
   unfolding sourceOf

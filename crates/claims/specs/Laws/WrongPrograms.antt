@@ -24,7 +24,6 @@ use Rattle.contrasts.specs.Checks.{checkWeight, round, rounds}
 use Rattle.words.specs.Words.{letters, beyond, times, combined, any, among, repeated}
 use Rattle.plan.specs.declared.types.Plan.{Plan}
 use Rattle.plan.specs.Check.{badLevels, badFactors, badCounts, badWord, badSign, badWords, dependent, factorWord, losesFactor, planRefused, withPlan}
-use Rattle.plan.specs.Examples.{plan}
 use Rattle.plan.specs.Outcome.{Outcome, given, refused}
 use Rattle.plan.specs.Plan.{factorsOf, someCombination, combinesTo}
 use Rattle.plan.specs.Laws.Answers.{refused-is, given-is, given-with, written-new}

@@ -6,7 +6,6 @@
 --   denominator-alike   the denominator is the factor's to the power k
 --   divisor-fewer       j factors fewer: the divisor lacks the first row's divisor j times
 --   growth-alike        the growth of passes, by the reach of one
---   widest-alike        the growth of one pass
 use mathlib.Core.Path.{_≡_, refl, sym, _∙_, ap}
 use Prim.Native.Nat.{ℕ, zero, suc, _+_, _*_, _^_, _<_, _≤_, max}
 use native.Mathlib.Nat.{pow-zero, pow-succ', zero-mod, zero-div}
@@ -15,7 +14,7 @@ use lib.ListN.{take, replicate, length-replicate, getD-replicate, replicate-appe
 use Rattle.contrasts.specs.Factor.{Factor}
 use Rattle.contrasts.specs.Totals.{Column, size, divisor*, denominator}
 use Rattle.contrasts.specs.Passes.{passAt, pass, spacing}
-use Rattle.contrasts.specs.Laws.Bounds.{reach, growth, widest}
+use Rattle.contrasts.specs.Laws.Bounds.{reach, growth}
 use Rattle.contrasts.specs.Laws.Divisors.{divisor-more}
 use Rattle.contrasts.specs.Laws.Stretches.{pass-is}
 
@@ -58,8 +57,3 @@ pub growth-alike : (k : ℕ) (F : Factor) → growth (replicate k F) ≡ max 1 (
 unfolding growth
 growth-alike zero F = sym (pow-zero (max 1 (reach F)))
 growth-alike (suc k) F = rw (growth-alike k F) (sym (pow-succ' (max 1 (reach F)) k))
-
-pub widest-alike : (k : ℕ) (F : Factor) → widest (replicate k F) ≤ max 1 (reach F)
-unfolding widest
-widest-alike zero F = omega arith
-widest-alike (suc k) F = omega (arith, widest-alike k F)

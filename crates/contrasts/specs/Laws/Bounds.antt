@@ -2,14 +2,11 @@
 --
 --   reach F          the most by which a pass or step of F multiplies the largest value: the largest sum of sizes in a row
 --   growth Fs        the most by which passes that repeat no factor do
---   widest Fs        the most by which one pass does
 --   Within n M x     no value at the places below n exceeds M in size
 --   row-bound        a sum by a row
 --   bound-passes     after any calls that repeat no factor
 --   bound-each       and after each of them
 --   bound-total      of a total
---   bound-pass       after a pass
---   bound-calls      after any calls at all: times the widest a call
 --   bound-step       after a step
 --   bound-steps      after any steps of factors that are alike: times the reach a step
 use mathlib.Core.Path.{_≡_, refl, sym, subst}
@@ -25,9 +22,9 @@ use Rattle.algebra.specs.Naturals.{Σℕ, most}
 use Rattle.algebra.specs.Laws.Naturals.{most-ge}
 use Rattle.contrasts.specs.Factor.{Factor}
 use Rattle.contrasts.specs.Totals.{Column, size, total}
-use Rattle.contrasts.specs.Passes.{passFrom, pass, passes, count}
+use Rattle.contrasts.specs.Passes.{passes, count}
 use Rattle.contrasts.specs.Steps.{step, steps}
-use Rattle.contrasts.specs.Laws.Digits.{level, rest-lt, digit-lt, pass-zero, pass-suc}
+use Rattle.contrasts.specs.Laws.Digits.{level, rest-lt, digit-lt}
 use Rattle.contrasts.specs.Laws.Order.{rest, share, mixed, mixed-all, count-take, after}
 use Rattle.contrasts.specs.Laws.Steps.{step-value}
 
@@ -37,10 +34,6 @@ reach F = most (F .levels) (λ d. Σℕ (F .levels) (λ j. natAbs (F .coef d j))
 unfoldable pub growth : List Factor → ℕ
 growth [] = 1
 growth (F ∷ Fs) = max 1 (reach F) * growth Fs
-
-unfoldable pub widest : List Factor → ℕ
-widest [] = 1
-widest (F ∷ Fs) = max (reach F) (widest Fs)
 
 -- ---- one row
 
@@ -91,32 +84,6 @@ bound-each Fs calls n x M once h = bound-passes Fs (take n calls) x M (λ k l. o
 pub bound-total : (Fs : List Factor) (x : Column) (M : ℕ) → Within (size Fs) M x → Within (size Fs) (growth Fs * M) (total Fs x)
 bound-total Fs x M h i p = rw (← (mixed-all Fs (λ k. 1) x i (λ k _. refl) p)) (mixed-bound Fs (λ k. 1) x M h i p)
 
--- ---- any calls at all
-
-pub bound-pass : (Fs : List Factor) (f : ℕ) (x : Column) (M : ℕ) → Within (size Fs) M x → Within (size Fs) (widest Fs * M) (pass Fs f x)
-unfolding widest size passFrom
-bound-pass [] f x M h i p = omega (arith, h i p)
-bound-pass (F ∷ Fs) zero x M h i p =
-    rw (pass-zero F Fs x i)
-    (le-trans (row-bound F (i % F .levels) M (λ j. x (i / F .levels * F .levels + j)) (mod-lt i (F .some-level))
-    (λ j k. h (i / F .levels * F .levels + j) (digit-lt (rest-lt (F .some-level) p) k)))
-    (mul-le-mul-right M (omega arith)))
-bound-pass (F ∷ Fs) (suc f) x M h i p =
-    rw (pass-suc F Fs f x i)
-    (le-trans (bound-pass Fs f (level F (i % F .levels) x) M (λ q g. h (q * F .levels + i % F .levels) (digit-lt g (mod-lt i (F .some-level))))
-    (i / F .levels) (rest-lt (F .some-level) p))
-    (mul-le-mul-right M (omega arith)))
-
-power : (g n M : ℕ) → g ^ n * (g * M) ≡ g ^ suc n * M
-power g n M = rw (pow-suc g n) (sym (mul-assoc (g ^ n) g M))
-
-pub bound-calls : (Fs : List Factor) (calls : List ℕ) (x : Column) (M : ℕ) → Within (size Fs) M x
-    → Within (size Fs) (widest Fs ^ length calls * M) (passes Fs calls x)
-unfolding passes
-bound-calls Fs [] x M h = rw (pow-zero (widest Fs), one-mul M) h
-bound-calls Fs (f ∷ fs) x M h =
-    rw (← (power (widest Fs) (length fs) M)) (bound-calls Fs fs (pass Fs f x) (widest Fs * M) (bound-pass Fs f x M h))
-
 -- ---- steps of a plan whose factors are alike
 
 pub bound-step : (F : Factor) (n : ℕ) (x : Column) (M : ℕ) → 0 < n → Within (F .levels * n) M x
@@ -126,6 +93,9 @@ bound-step F n x M some h i p =
     (rw (step-value F n x (i / n) (i % n) (mod-lt i some))
     (row-bound F (i / n) M (λ j. x (i % n * F .levels + j)) (div-lt-iff-lt-mul some .1 p)
     (λ j k. h (i % n * F .levels + j) (digit-lt (mod-lt i some) k))))
+
+power : (g n M : ℕ) → g ^ n * (g * M) ≡ g ^ suc n * M
+power g n M = rw (pow-suc g n) (sym (mul-assoc (g ^ n) g M))
 
 pub bound-steps : (F : Factor) (n t : ℕ) (x : Column) (M : ℕ) → 0 < n → Within (F .levels * n) M x
     → Within (F .levels * n) (reach F ^ t * M) (steps (F .levels * n) (replicate t F) x)

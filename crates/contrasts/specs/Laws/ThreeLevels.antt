@@ -8,27 +8,24 @@
 --   denominator-three         the common denominator
 --   round-three               a round of the check
 --   round-bound               the growth of values in it
---   bound-three               the growth of values
 use mathlib.Core.Path.{_≡_, refl, sym, _∙_, ap}
-use mathlib.Core.List.{List, [], _∷_}
-use Prim.Native.Nat.{ℕ, _+_, _*_, _-_, _^_, _/_, _<_, _≤_}
-use native.Mathlib.Nat.{mul-div-left, one-le-pow, add-zero, le-trans, mul-le-mul-right, pow-le-pow-left}
+use mathlib.Core.List.{[], _∷_}
+use Prim.Native.Nat.{ℕ, _+_, _*_, _^_, _/_, _<_, _≤_}
+use native.Mathlib.Nat.{mul-div-left, one-le-pow, add-zero}
 use native.Mathlib.Omega.{arith}
 use lib.Dec.{lit<}
 use lib.IntN.{ℤ, pos, natAbs, _+ℤ_, _*ℤ_, _-ℤ_}
-use lib.ListN.{length, replicate}
+use lib.ListN.{replicate}
 use Rattle.algebra.specs.Laws.Solve.{solve, var, lit, _⊕_, _⊖_, _⊗_}
 use Rattle.algebra.specs.Laws.Size.{natAbs-+ℤ, natAbs-sub, natAbs-*ℤ}
 use Rattle.algebra.specs.Sum.{Σ}
-use Rattle.algebra.specs.Naturals.{Σℕ, most}
 use Rattle.contrasts.specs.Factors.{three}
 use Rattle.contrasts.specs.Codings.{neg}
 use Rattle.contrasts.specs.Totals.{Column, size, divisor*, denominator}
-use Rattle.contrasts.specs.Passes.{passAt, passes}
+use Rattle.contrasts.specs.Passes.{passAt}
 use Rattle.contrasts.specs.Steps.{step}
 use Rattle.contrasts.specs.Checks.{checkWeight, round}
-use Rattle.contrasts.specs.Laws.Alike.{size-alike, denominator-alike, divisor-fewer, widest-alike}
-use Rattle.contrasts.specs.Laws.Bounds.{Within, reach, widest, bound-calls}
+use Rattle.contrasts.specs.Laws.Alike.{size-alike, denominator-alike, divisor-fewer}
 use Rattle.contrasts.specs.Laws.Steps.{step-value}
 use Rattle.contrasts.specs.Laws.Stretches.{pass-value}
 
@@ -140,14 +137,3 @@ round-bound x q M h =
       natAbs-sub (pos 3 *ℤ x (q * 3)) (x (q * 3 + 1)),
       natAbs-+ℤ (pos 3 *ℤ x (q * 3) -ℤ x (q * 3 + 1)) (x (q * 3 + 2)),
     ))
-
--- ---- growth: times 4 a pass
-
-widest-three : (k : ℕ) → widest (replicate k three) ≤ 4
-unfolding reach most Σℕ three
-widest-three k = widest-alike k three
-
-pub bound-three : (k : ℕ) (calls : List ℕ) (x : Column) (M : ℕ) → Within (size (replicate k three)) M x
-    → Within (size (replicate k three)) (4 ^ length calls * M) (passes (replicate k three) calls x)
-bound-three k calls x M h i p =
-    le-trans (bound-calls (replicate k three) calls x M h i p) (mul-le-mul-right M (pow-le-pow-left (widest-three k) (length calls)))

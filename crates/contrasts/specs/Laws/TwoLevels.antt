@@ -8,29 +8,26 @@
 --   weight-two           denominator over divisor
 --   rounds-two           the number of the check from the readings
 --   check-two            the check sum
---   bound-two            the growth of values
 use mathlib.Core.Path.{_≡_, refl, sym, _∙_, ap}
-use mathlib.Core.List.{List, [], _∷_}
-use Prim.Native.Nat.{ℕ, zero, suc, _+_, _*_, _^_, _/_, _%_, _<_, _≤_}
-use native.Mathlib.Nat.{div-self, one-le-pow, pow-suc, pow-succ', mod-lt, add-zero, le-trans, mul-le-mul-right, pow-le-pow-left}
+use mathlib.Core.List.{[], _∷_}
+use Prim.Native.Nat.{ℕ, zero, suc, _+_, _*_, _^_, _/_, _%_, _<_}
+use native.Mathlib.Nat.{div-self, one-le-pow, pow-suc, pow-succ', mod-lt, add-zero}
 use native.Mathlib.Omega.{arith}
 use lib.Dec.{eqb, eqb→eq, lit<}
 use lib.IntN.{ℤ, pos, _+ℤ_, _*ℤ_, _-ℤ_}
-use lib.ListN.{length, replicate}
+use lib.ListN.{replicate}
 use Rattle.algebra.specs.Laws.Ring.{one-*ℤ, *ℤ-assoc}
 use Rattle.algebra.specs.Laws.Solve.{solve, var, lit, _⊕_, _⊖_, _⊗_}
 use Rattle.algebra.specs.Sum.{Σ}
-use Rattle.algebra.specs.Naturals.{Σℕ, most}
 use Rattle.algebra.specs.Tests.{every}
 use Rattle.algebra.specs.Laws.Tests.{every-at}
 use Rattle.contrasts.specs.Factors.{two}
 use Rattle.contrasts.specs.Codings.{neg}
 use Rattle.contrasts.specs.Totals.{Column, size, total, divisor*, denominator, weight*}
-use Rattle.contrasts.specs.Passes.{passAt, passes}
+use Rattle.contrasts.specs.Passes.{passAt}
 use Rattle.contrasts.specs.Steps.{step}
 use Rattle.contrasts.specs.Checks.{checkWeight, round, rounds}
-use Rattle.contrasts.specs.Laws.Alike.{size-alike, denominator-alike, widest-alike}
-use Rattle.contrasts.specs.Laws.Bounds.{Within, reach, widest, bound-calls}
+use Rattle.contrasts.specs.Laws.Alike.{size-alike, denominator-alike}
 use Rattle.contrasts.specs.Laws.CheckSum.{check-rounds}
 use Rattle.contrasts.specs.Laws.Steps.{step-value}
 use Rattle.contrasts.specs.Laws.Stretches.{pass-value}
@@ -135,14 +132,3 @@ pub check-two : (k : ℕ) (x : Column)
     → Σ (size (replicate k two)) (total (replicate k two) x) ≡ pos (size (replicate k two)) *ℤ x 0
 unfolding two
 check-two k x = check-rounds (replicate k two) x ∙ rounds-two k x ∙ rw (size-alike k two)
-
--- ---- growth: times 2 a pass
-
-widest-two : (k : ℕ) → widest (replicate k two) ≤ 2
-unfolding reach most Σℕ two
-widest-two k = widest-alike k two
-
-pub bound-two : (k : ℕ) (calls : List ℕ) (x : Column) (M : ℕ) → Within (size (replicate k two)) M x
-    → Within (size (replicate k two)) (2 ^ length calls * M) (passes (replicate k two) calls x)
-bound-two k calls x M h i p =
-    le-trans (bound-calls (replicate k two) calls x M h i p) (mul-le-mul-right M (pow-le-pow-left (widest-two k) (length calls)))

@@ -2,19 +2,16 @@
 --
 --   not-empty, not-one-letter    a confounded effect is neither empty nor one letter
 --   base-letters-only            it has base letters only, and so is the number of a row
---   no-blocks                    without block words no effect is confounded
-use mathlib.Core.Path.{_≡_, refl}
-use mathlib.Core.Bool.{true, false}
-use mathlib.Core.List.{[]}
+use mathlib.Core.Path.{_≡_}
+use mathlib.Core.Bool.{true}
 use Prim.Native.Nat.{ℕ, _^_, _<_}
 use native.Mathlib.Nat.{one-le-pow, zero-lt-suc}
 use lib.Dec.{eqb}
 use borrow.Author.Tests.{eqb-true}
-use Rattle.algebra.specs.Search.{some}
 use Rattle.words.specs.Words.{letters, combined}
 use Rattle.words.specs.Laws.Combined.{combined-within}
 use Rattle.plan.specs.declared.types.Plan.{Plan}
-use Rattle.plan.specs.Plan.{blockWords, someCombination, combinesTo, confoundedIn}
+use Rattle.plan.specs.Plan.{blockWords, combinesTo, confoundedIn}
 use Rattle.plan.specs.Laws.Combinations.{the-combination}
 use Rattle.plan.specs.Laws.Accepted.{Accepted}
 
@@ -32,7 +29,3 @@ module _ {p : Plan} (a : Accepted p) (w : ℕ) (e : confoundedIn p w ≡ true) w
       let v = combined 0 (c .0) (blockWords p) in
       rw (← (eqb-true v w (c .3)))
       (combined-within (p .k) 0 (c .0) (blockWords p) (one-le-pow (p .k) 2 (zero-lt-suc 1)) (λ j h. a .blocks j h .0))
-
-pub no-blocks : (w : ℕ) → combinesTo w [] ≡ false
-unfolding combinesTo someCombination some
-no-blocks w = refl

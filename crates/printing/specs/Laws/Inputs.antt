@@ -1,7 +1,6 @@
 -- The text of what a program has read of its input.
 --
 --   first-bytes    the first bytes of an input have its text, where they are more than a sheet can have
---   own-input      the first bytes of a buffer are all of some input, which is themselves
 --   full-buffer    the text of all bytes, where the count is beyond them
 --   promised       the call's promises, from those on the text and from the buffer's length
 use mathlib.Core.Path.{_≡_, refl, sym, ap, _∙_}
@@ -10,11 +9,11 @@ use Prim.Native.Nat.{ℕ, suc, _<_, _≤_}
 use native.Mathlib.Decide.{decLe}
 use native.Mathlib.Omega.{arith}
 use borrow.Author.Tests.{lt-ltb}
-use lib.ListN.{length, take, drop, length-take}
+use lib.ListN.{length, take, drop}
 use lib.Seq.{take-all, length-take-le}
 use Rattle.text.specs.Text.{ascii}
 use Rattle.lines.specs.Lines.{namedLine}
-use Rattle.printing.specs.Input.{Holds, Decides}
+use Rattle.printing.specs.Input.{Decides}
 use Rattle.printing.specs.Printed.{printed, longestSheet, printRefused, textOf}
 
 -- ---- the input
@@ -31,9 +30,6 @@ first-bytes n whole h = by (decLe (length whole) n)
     by (no long) = refused-long (take n whole) (rw (length-take-le n whole (omega (arith, long))) h) ∙ sym (refused-long whole (omega (arith, h, long)))
 
 -- ---- the buffer
-
-pub own-input : (buffer : List ℕ) (count : ℕ) → Holds (take count buffer) buffer count
-own-input buffer count = sym (take-all (length buffer) (take count buffer) (rw (length-take count buffer) (omega arith)))
 
 -- a count beyond the buffer is that of a full one
 pub full-buffer : (buffer : List ℕ) (count : ℕ) (before : List ℕ) → length buffer ≤ count → {r : ℕ} {after : List ℕ}

@@ -1,6 +1,6 @@
 -- Which runs share a block, and what confounding means.
 --
---   block-bit, block-small        a block number's bits; it is below 2 ^ (number of block words)
+--   block-bit                     a block number's bits
 --   same-parities, same-block     runs share a block exactly when they agree in the parity of every block word
 --   constant                      an effect that is confounded is odd in all runs of a block, or in none
 --   only-combined                 an effect of which this holds in every block is the mean or confounded
@@ -19,7 +19,7 @@ use borrow.Author.Tests.{eqb-true, eq-eqb}
 use Rattle.algebra.specs.Naturals.{Σℕ}
 use Rattle.algebra.specs.Laws.Naturals.{Σℕ-parity}
 use Rattle.algebra.specs.Bits.{bits}
-use Rattle.algebra.specs.Laws.Bits.{bit-lt, bits-lt, bits-at, bits-cong}
+use Rattle.algebra.specs.Laws.Bits.{bit-lt, bits-at, bits-cong}
 use Rattle.words.specs.Words.{letter, has, shared, oddIn, beyond, combined}
 use Rattle.words.specs.Laws.Letters.{odd-same, shared-none}
 use Rattle.words.specs.Laws.Combined.{keeps-odd, shared-combined}
@@ -30,10 +30,6 @@ use Rattle.plan.specs.Laws.Combinations.{combination as chosen, the-combination
 use Rattle.runs.specs.Run.{blockNumber}
 
 module _ (ws : List ℕ) where
-  pub block-small : (r : ℕ) → blockNumber ws r < 2 ^ length ws
-  unfolding blockNumber
-  block-small r = bits-lt (length ws) (λ j. oddIn r (getD ws j 0))
-
   pub block-bit : (r j : ℕ) → j < length ws → has (blockNumber ws r) j ≡ oddIn r (getD ws j 0)
   unfolding blockNumber
   block-bit r j h = bits-at (length ws) (λ i. oddIn r (getD ws i 0)) j h

@@ -2,7 +2,7 @@
 --
 --   base-high                the base letters that are high in a run are those of its number
 --   added-high               letter k + j is high where added factor j is
---   high-small, high-at      the set of high letters: its size, and each of its letters
+--   high-at                  each letter of the set of high letters
 --   high-base, high-added    a base letter in it, and the letter of an added factor
 --   high-turned              an added factor is high by the parity of its word, turned where its sign is 1
 --   run-two                  of an accepted plan of two levels only refusal 10 is left
@@ -15,7 +15,7 @@ use lib.Dec.{eqb, leb}
 use lib.ListN.{length, getD}
 use borrow.Author.Tests.{lt-ltb, le-ltb, ne-eqb}
 use Rattle.algebra.specs.Bits.{bits}
-use Rattle.algebra.specs.Laws.Bits.{bits-lt, bits-at, bits-all, bits-cong}
+use Rattle.algebra.specs.Laws.Bits.{bits-at, bits-all, bits-cong}
 use Rattle.words.specs.Words.{has, oddIn}
 use Rattle.plan.specs.declared.types.Plan.{Plan}
 use Rattle.plan.specs.Plan.{runsOf}
@@ -32,10 +32,6 @@ module _ (k : ℕ) (words signs : List ℕ) (r : ℕ) where
   pub added-high : (j : ℕ) → highIn k words signs r (k + j) ≡ highBy (getD signs j 0) (getD words j 0) r
   unfolding highIn
   added-high j = let e : k + j - k ≡ j = omega arith in rw (le-ltb (k + j) k (omega arith), e)
-
-  pub high-small : highLetters k words signs r < 2 ^ (k + length words)
-  unfolding highLetters
-  high-small = bits-lt (k + length words) (highIn k words signs r)
 
   pub high-at : (i : ℕ) → i < k + length words → has (highLetters k words signs r) i ≡ highIn k words signs r i
   unfolding highLetters

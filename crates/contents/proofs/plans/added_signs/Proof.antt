@@ -5,7 +5,7 @@ use borrow.Author.Needs.{needs}
 use lib.ListN.{getD, replicate}
 use Rattle.algebra.specs.Laws.Fill.{Filled, filled-none, filled-more, filled-all}
 use Rattle.fields.specs.Fields.{fieldsOf, bodyAt}
-use Rattle.contents.specs.Contents.{byteAt, wordIn}
+use Rattle.contents.specs.Contents.{byteAt}
 use Rattle.contents.proofs.plans.added_signs.Statement.{statement}
 use Rattle.contents.proofs.plans.added_signs.Tie as tie
 

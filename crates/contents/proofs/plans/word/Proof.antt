@@ -1,4 +1,3 @@
-use mathlib.Core.Path.{refl}
 use Rattle.contents.proofs.plans.word.Statement.{statement}
 use Rattle.contents.proofs.plans.word.Tie as tie
 

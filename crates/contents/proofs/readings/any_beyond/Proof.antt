@@ -1,7 +1,6 @@
 use mathlib.Core.Path.{sym, ap, _∙_}
 use Prim.Native.Nat.{_-_}
 use native.Mathlib.Omega.{arith}
-use lib.ListN.{length}
 use Rattle.algebra.specs.Search.{some}
 use Rattle.algebra.specs.Laws.Searching.{Seen, seen-none, seen-more, seen-all}
 use mir.Syntax.{w32}
