@@ -1,5 +1,5 @@
-# A stage of the gate: reads README.md, docs/*.md and crates.txt, and compares what they say with the repository. Prints
-# FILE:LINE: and what is wrong; exits with 1 if anything is.
+# A stage of the gate: reads README.md, docs/*.md, crates.txt and the comments in specs, and compares what they say with
+# the repository. Prints FILE:LINE: and what is wrong; exits with 1 if anything is.
 #
 #   links       a relative link leads to a file, and after # to a heading of it
 #   paths       a file or folder cited in backticks exists: one with a / in it, or with one of ENDINGS; in blocks of code,
@@ -12,6 +12,8 @@
 #               cell `crate` and one row for each crate
 #   arrows      what a crate depends on stands above it in crates.txt; and it depends on every crate that it names
 #   sizes       README.md and the cells of docs/CLAIMS.md are short
+#   rules       numbers of rules are of docs/RULES.md where a comment in specs, or a cell or an item of a document, begins
+#               with them, as T9: or P8, P9: or V6 to V9 alone; and each rule has a row in docs/CLAIMS.md
 #
 # Paths are from the root, below crates/ or below docs/; one that begins with neither a crate nor a folder of the root,
 # such as Laws/Order.antt, is any path with that end. A star stands for any name, and so does a capital letter between
@@ -24,7 +26,8 @@
 #   Repository                           its files and folders, and the words of its code
 #   Citation, citations                  what stands in backticks, with its line and what stands before it
 #   listed_crates, map_groups            the groups of crates.txt and of the map
-#   check_links .. check_sizes           complaints, by the list above
+#   rule_lines, rules_in, rule_lists     the rules, those of a list, and the lists with which a line begins
+#   check_links .. check_rules           complaints, by the list above
 #   complaints                           all of them
 
 import re
@@ -35,7 +38,7 @@ from itertools import zip_longest
 from pathlib import Path
 
 ROOT = Path(__file__).resolve().parent.parent
-MAP, CLAIMS, CRATES, HISTORY = "docs/MAP.md", "docs/CLAIMS.md", "crates.txt", "docs/CHANGES.md"
+MAP, RULES, CLAIMS, CRATES, HISTORY = "docs/MAP.md", "docs/RULES.md", "docs/CLAIMS.md", "crates.txt", "docs/CHANGES.md"
 MOST_LINES, MOST_WORDS = 120, 60
 
 ENDINGS = (".antt", ".rt", ".py", ".c", ".md", ".sheet", ".csv", ".txt", ".edit")
@@ -54,6 +57,10 @@ COMMENTS = {
     ".py": r'(?s)""".*?"""|(?:(?<=\n)|(?<=\s))#[^\n]*',
     "": r"(?m)^\s*#.*",
 }
+
+# The number of a rule, and a list of such.
+RULE = r"[A-Z]\d+(?:\.\d+)?"
+RULE_LIST = r"%s(?:(?:, | to )%s)*" % (RULE, RULE)
 
 # line counts from 1. gap is what stands between the citation before it and this one, None for the first of its passage.
 Citation = namedtuple("Citation", "line text gap before")
@@ -406,11 +413,57 @@ def check_sizes(repository):
     return found
 
 
+# ---- checks of rules ----
+
+def rule_lines():
+    """The numbers of the rules, in their order, each with its line."""
+    return {number: line for line, text in enumerate(read(RULES).splitlines(), 1)
+            for number in re.findall(r"^(?:- |\| )\*\*(%s)\*\*" % RULE, text)}
+
+
+def rules_in(cited, order):
+    """The rules of a list such as T3 to T5, T7; a part of it that names none is left as it stands."""
+    found = []
+    for part in cited.split(", "):
+        first, _, last = part.partition(" to ")
+        last = last or first
+        known = first in order and last in order and first[0] == last[0]
+        found += (order[order.index(first):order.index(last) + 1] if known else []) or [part]
+    return found
+
+
+def rule_lists(path, text):
+    """The lists of rules with which a comment begins, or its part after a semicolon; or a cell or an item of a document."""
+    if not path.endswith(".antt"):
+        return re.findall(r"(?:^- |\| )(?:as )?(%s)(?=[:;]| \|)" % RULE_LIST, text)
+    own = text.strip()
+    return re.findall(r"(?:^-- +(?:---- )?|; )(%s)(?=:|$)" % RULE_LIST, own) if own.startswith("--") else []
+
+
+def check_rules(repository):
+    """Rules that are cited and absent, and rules without a row in the claims."""
+    if not {RULES, CLAIMS} <= repository.paths:
+        return [(RULES, 1, "there are no rules, or no claims")]
+    lines = rule_lines()
+    order, found = list(lines), []
+    for path in repository.files:
+        if path == HISTORY or not (fnmatchcase(path, "docs/*.md") or fnmatchcase(path, "crates/*/specs/*.antt")):
+            continue
+        found += [(path, line, "there is no rule %s" % rule) for line, text in enumerate(read(path).splitlines(), 1)
+                  for cited in rule_lists(path, text) for rule in rules_in(cited, order) if rule not in lines]
+    rows = {rule for text in read(CLAIMS).splitlines() if text.startswith("|")
+            for rule in rules_in(text.split("|")[1].strip(), order)}
+    return found + [(RULES, line, "the claims have no row for the rule %s" % rule)
+                    for rule, line in lines.items() if rule not in rows]
+
+
 # ---- the command ----
 
 def complaints(repository):
     """All that is wrong, as file, line and words, and how many citations were compared."""
-    found, count = check_map(repository) + check_arrows(repository) + check_sizes(repository), 0
+    found, count = [], 0
+    for check in (check_map, check_arrows, check_sizes, check_rules):
+        found += check(repository)
     for document in ["README.md"] + [path for path in repository.files if fnmatchcase(path, "docs/*.md")]:
         found += check_links(document)
         if document == HISTORY:

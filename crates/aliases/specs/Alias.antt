@@ -20,28 +20,31 @@ use Rattle.words.specs.Words.{has, odd, beyond, combined}
 use Rattle.plan.specs.Plan.{addedWords, addedSigns, allLetters}
 use Rattle.plan.specs.Check.{withPlan}
 
--- "Each added letter is replaced by its word": the effect's base letters are combined with the words that its added letters choose.
+-- E9: "Each added letter is replaced by its word": the effect's base letters are combined with the words that its added letters choose.
 unfoldable pub baseWord : ℕ → List ℕ → ℕ → ℕ
 baseWord k words e = combined (e % 2 ^ k) (e / 2 ^ k) words
 
--- "the number of replaced letters with sign 1 is odd exactly when the sign turns"
+-- E10: "the number of replaced letters with sign 1 is odd exactly when the sign turns"
 unfoldable pub turnsOf : ℕ → List ℕ → ℕ
 turnsOf replaced signs = Σℕ (length signs) (λ j. cond (has replaced j && eqb (getD signs j 0) 1) 1 0)
 
+-- E10
 unfoldable pub turns : ℕ → List ℕ → ℕ → Bool
 turns k signs e = odd (turnsOf (e / 2 ^ k) signs)
 
--- the values of the alias call
+-- E8: the values of the alias call
 abbrev pub aliasValues : Plan → ℕ → ℕ × Bool
 aliasValues p e = (baseWord (p .k) (addedWords p) e, turns (p .k) (addedSigns p) e)
 
--- 9: "estimate, alias or run call asked at three levels"; 10: "alias letter [..] not in the plan"
+-- L7: "the run and alias calls 9, 10"
+-- N9: "estimate, alias or run call asked at three levels"; N10: "alias letter [..] not in the plan"
 abbrev pub aliasRefusals : Plan → ℕ → List Refusal
 aliasRefusals p e = refusal 9 (eqb (p .levels) 3) ∷ refusal 10 (beyond (allLetters p) e) ∷ []
 
 unfoldable pub aliasRefused : Plan → ℕ → ℕ
 aliasRefused p e = withPlan p (aliasRefusals p e)
 
+-- F12
 abbrev pub aliasOutcome : Alias → Outcome (ℕ × Bool)
 aliasOutcome (Reduced word turned) = given (word, turned)
 aliasOutcome (Refused n) = refused n

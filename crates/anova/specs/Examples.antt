@@ -49,7 +49,7 @@ four = plan 2 2 [] [] []
 abbrev readings : List ℤ
 readings = pos 3 ∷ pos 5 ∷ pos 4 ∷ pos 8 ∷ []
 
--- "over 4", "mean 1 400", "A 1 36" and "B 1 16" kept, "blocks 0 0", "error 1 4", "total 4 456", "check 12 12"
+-- W4: "over 4", "mean 1 400", "A 1 36" and "B 1 16" kept, "blocks 0 0", "error 1 4", "total 4 456", "check 12 12"
 four-figures : numbers (tableFigures four readings (0 ∷ 0 ∷ 0 ∷ 1 ∷ []))
     ≡ pos 4 ∷ pos 1 ∷ pos 400 ∷ pos 2 ∷ pos 52 ∷ pos 0 ∷ pos 0 ∷ pos 1 ∷ pos 4 ∷ pos 4 ∷ pos 456 ∷ pos 12 ∷ pos 12 ∷ []
 unfolding tableFigures sourceOf totalSource checksOf kindOf kindByMark combinesTo someCombination some combined times bits Σℕ Σ factorsOf size two total coef* divisor* denominator weight* numeratorOf squared checkWeight round rounds rowOf degreesOf sumAt
@@ -70,7 +70,7 @@ block-figures = refl
 abbrev noMarks : List ℕ
 noMarks = 0 ∷ 0 ∷ 0 ∷ 0 ∷ []
 
--- "k = 2, 3 readings", and so of marks, totals and rows
+-- N11: "k = 2, 3 readings", and so of marks, totals and rows
 lengths : tableRefused four (pos 3 ∷ pos 5 ∷ pos 4 ∷ []) noMarks readings noMarks
     ∷ tableRefused four readings (0 ∷ 0 ∷ 0 ∷ []) readings noMarks
     ∷ tableRefused four readings noMarks (pos 3 ∷ pos 5 ∷ pos 4 ∷ []) noMarks
@@ -81,7 +81,9 @@ lengths : tableRefused four (pos 3 ∷ pos 5 ∷ pos 4 ∷ []) noMarks readings 
 unfolding tableRefused wrongLengths wrongRows wrongLength anyBeyond isBeyond badMarks badMark withPlan planRefused badLevels badFactors mostTwo mostThree badCounts badWords badWord badSign repeated dependent losesFactor factorWord any among beyond letters combined times someCombination combinesTo some bits Σℕ readingLimit factorsOf size two
 lengths = refl
 
--- "reading 100,001", and as much below 0; "mark 1 on row 0", a mark of 2, mark 1 on BCD, which AD and ABC combine to; then 11 and 12, 12 and 13, and 2 and all of these
+-- N12: "reading 100,001", and as much below 0
+-- N13: "mark 1 on row 0", a mark of 2, mark 1 on BCD, which AD and ABC combine to
+-- L1: then 11 and 12, 12 and 13, and 2 and all of these
 abbrev large : List ℤ
 large = pos 3 ∷ pos 5 ∷ pos 100_001 ∷ pos 8 ∷ []
 
@@ -107,6 +109,7 @@ small-inputs : tableRefused four large noMarks readings noMarks
 unfolding tableRefused wrongLengths wrongRows wrongLength anyBeyond isBeyond badMarks badMark withPlan planRefused badLevels badFactors mostTwo mostThree badCounts badWords badWord badSign repeated dependent losesFactor factorWord any among beyond letters combined times someCombination combinesTo some bits Σℕ readingLimit factorsOf size two
 small-inputs = refl
 
+-- L2
 unchanged : (tableTotals four readings (1 ∷ 0 ∷ 0 ∷ 0 ∷ []) readings noMarks ≡ readings) × (tableRows four readings (1 ∷ 0 ∷ 0 ∷ 0 ∷ []) readings noMarks ≡ noMarks)
 unfolding tableTotals tableRows tableRefused wrongLengths wrongRows wrongLength anyBeyond isBeyond badMarks badMark withPlan planRefused badLevels badFactors mostTwo mostThree badCounts badWords badWord badSign repeated dependent losesFactor factorWord any among beyond letters combined times someCombination combinesTo some bits Σℕ readingLimit factorsOf size two
 unchanged = (refl, refl)

@@ -37,11 +37,11 @@ use Rattle.anova.specs.declared.types.Table.the-variants.{Made, Refused}
 
 -- ---- what is refused
 
--- 11: "readings, totals, rows or marks not N, N, R, R long"
+-- N11: "readings, totals, rows or marks not N, N, R, R long"
 unfoldable pub wrongLengths : Plan → ℕ → ℕ → ℕ → ℕ → Bool
 wrongLengths p readings marks totals rows = wrongLength p readings || (wrongLength p totals || (wrongRows p rows || wrongRows p marks))
 
--- "the table 11, 12, 13", after the plan's own numbers
+-- L11: "the table 11, 12, 13", after the plan's own numbers
 abbrev pub tableRefusals : Plan → List ℤ → List ℕ → List ℤ → List ℕ → List Refusal
 tableRefusals p readings marks totals rows =
     refusal 11 (wrongLengths p (length readings) (length marks) (length totals) (length rows))
@@ -54,29 +54,29 @@ tableRefused p readings marks totals rows = withPlan p (tableRefusals p readings
 
 -- ---- the figures
 
--- "Each of these four adds up the degrees and numerators of its rows."
+-- V10: "Each of these four adds up the degrees and numerators of its rows."
 unfoldable pub sourceOf : Plan → List ℤ → List ℕ → Kind → Source
 sourceOf p readings marks c = record {
   degrees = Σℕ (rowsIn p) (λ w. cond (same (kindOf p marks w) c) (degreesOf (factorsOf p) w) 0);
   numerator = Σℕ (rowsIn p) (λ w. cond (same (kindOf p marks w) c) (rowNumerator (factorsOf p) (read readings) w) 0);
 }
 
--- "the total (denominator times the sum of squared readings)"; its degrees are the number of runs
+-- V5, V13: "the total (denominator times the sum of squared readings)"; its degrees are the number of runs
 unfoldable pub totalSource : Plan → List ℤ → Source
 totalSource p readings = record {
   degrees = runsOf p;
   numerator = denominator (factorsOf p) * squared (factorsOf p) (read readings);
 }
 
--- "The check sum of the totals is N times the first reading at two levels. At three levels it is what k rounds leave": what a round for each
--- factor leaves, which at two levels is N times the first reading (`rounds-two`)
+-- T21, T22: "The check sum of the totals is N times the first reading at two levels. At three levels it is what k rounds leave": what a
+-- round for each factor leaves, which at two levels is N times the first reading (`rounds-two`)
 unfoldable pub checksOf : Plan → List ℤ → Checks
 checksOf p readings = record {
   totals = Σ (runsOf p) (total (factorsOf p) (read readings));
   readings = rounds (factorsOf p) (read readings);
 }
 
--- "denominator, degrees and numerators of mean, kept effects, blocks and error, the total [..] and both check numbers"
+-- V13: "denominator, degrees and numerators of mean, kept effects, blocks and error, the total [..] and both check numbers"
 unfoldable pub tableFigures : Plan → List ℤ → List ℕ → Figures
 tableFigures p readings marks = record {
   denominator = denominator (factorsOf p);
@@ -90,19 +90,21 @@ tableFigures p readings marks = record {
 
 -- ---- what is written
 
--- "R row numerators"
+-- V12: "R row numerators"
 unfoldable pub rowsOf : Plan → List ℤ → List ℕ
 rowsOf p readings = tab (rowsIn p) (rowNumerator (factorsOf p) (read readings))
 
--- "writes N totals"
+-- V12: "writes N totals"
 unfoldable pub tableTotals : Plan → List ℤ → List ℕ → List ℤ → List ℕ → List ℤ
 tableTotals p readings marks totals rows = written (tableRefused p readings marks totals rows) (totalsOf (factorsOf p) readings) totals
 
+-- V12
 unfoldable pub tableRows : Plan → List ℤ → List ℕ → List ℤ → List ℕ → List ℕ
 tableRows p readings marks totals rows = written (tableRefused p readings marks totals rows) (rowsOf p readings) rows
 
 -- ---- the answer
 
+-- F12
 abbrev pub tableOutcome : Table → Outcome Figures
 tableOutcome (Made figures) = given figures
 tableOutcome (Refused n) = refused n

@@ -20,25 +20,27 @@ use Rattle.plan.specs.Plan.{runsOf}
 use Rattle.columns.specs.declared.types.Answer.{Answer}
 use Rattle.columns.specs.declared.types.Answer.the-variants.{Done, Refused}
 
--- 11: "readings, totals [..] not N [..] long; pass or step column not N"
+-- N11: "readings, totals [..] not N [..] long; pass or step column not N"
 unfoldable pub wrongLength : Plan → ℕ → Bool
 wrongLength p n = not (eqb n (runsOf p))
 
--- 12: "reading beyond 100,000 either way; [..] pass or step value beyond 409,600,000 either way"
+-- N12: "reading beyond 100,000 either way; [..] pass or step value beyond 409,600,000 either way"
 unfoldable pub isBeyond : ℕ → ℤ → Bool
 isBeyond limit z = ltb limit (natAbs z)
 
+-- N12
 unfoldable pub anyBeyond : ℕ → List ℤ → Bool
 anyBeyond limit xs = some (length xs) (λ i. isBeyond limit (read xs i))
 
--- a call that reads one column and writes another goes by their lengths, and by the values that it reads; the column that it writes may hold any
+-- N11, N12: a call that reads one column and writes another goes by their lengths, and by the values that it reads; the column that it
+-- writes may hold any
 abbrev pub columnsRefusals : ℕ → Plan → List ℤ → List ℤ → List Refusal
 columnsRefusals limit p xs ys = refusal 11 (wrongLength p (length xs) || wrongLength p (length ys)) ∷ refusal 12 (anyBeyond limit xs) ∷ []
 
 unfoldable pub columnsRefused : ℕ → Plan → List ℤ → List ℤ → ℕ
 columnsRefused limit p xs ys = withPlan p (columnsRefusals limit p xs ys)
 
--- what a call makes is in the column, so the answer has no values
+-- F12: what a call makes is in the column, so the answer has no values
 abbrev pub answerOutcome : Answer → Outcome Unit
 answerOutcome Done = given tt
 answerOutcome (Refused n) = refused n

@@ -20,12 +20,12 @@ use Rattle.fields.specs.Fields.{Fields, bodies, bodyAt}
 abbrev pub byteAt : ℕ → List ℕ → ℕ
 byteAt i body = getD body i 0
 
--- "the word": the first two bytes of a body
+-- S5, S6: "the word": the first two bytes of a body
 abbrev pub wordIn : List ℕ → ℕ
 wordIn body = big (byteAt 0 body ∷ byteAt 1 body ∷ [])
 
--- "Tag 1, once: levels and k, a byte each. Tag 2, per added factor: word, sign byte. Tag 3, per block word: the word."
--- "Places beyond a plan's counts are ignored; the reader sets them to 0."
+-- S4 to S6: "Tag 1, once: levels and k, a byte each. Tag 2, per added factor: word, sign byte. Tag 3, per block word: the word."
+-- P10, P11: "Places beyond a plan's counts are ignored; the reader sets them to 0."
 unfoldable pub planIn : Fields → Plan
 planIn fs = record {
   levels = byteAt 0 (bodyAt 1 0 fs);
@@ -37,16 +37,17 @@ planIn fs = record {
   blockwords = tab mostBlocks (λ i. wordIn (bodyAt 3 i fs));
 }
 
--- "readings, 4 bytes each in two's complement"
+-- S7: "readings, 4 bytes each in two's complement"
 unfoldable pub readingAt : List ℕ → ℕ → ℤ
 readingAt body i = twos 32 (big (byteAt (4 * i) body ∷ byteAt (4 * i + 1) body ∷ byteAt (4 * i + 2) body ∷ byteAt (4 * i + 3) body ∷ []))
 
 unfoldable pub readingsOf : List ℕ → List ℤ
 readingsOf body = tab (length body / 4) (readingAt body)
 
+-- S7
 abbrev pub readingsIn : Fields → List ℤ
 readingsIn fs = readingsOf (bodyAt 4 0 fs)
 
--- "Tag 5, once: R mark bytes."
+-- S8: "Tag 5, once: R mark bytes."
 abbrev pub marksIn : Fields → List ℕ
 marksIn fs = bodyAt 5 0 fs

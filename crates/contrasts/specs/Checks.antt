@@ -1,4 +1,4 @@
--- The check of "Totals and passes", over any list of factors: rounds that begin with the readings.
+-- The check of section 5 of the rules, over any list of factors: rounds that begin with the readings.
 --
 --   checkWeight F j              the sum of a level's coefficients
 --   round F x, rounds Fs x       a round of the check, and what a round for each factor leaves
@@ -11,15 +11,15 @@ use Rattle.contrasts.specs.Totals.{Column}
 
 -- ---- the check
 
--- at three levels these are the numbers 3, -1 and 1 of "3 times first minus middle plus third"
+-- T22: at three levels these are the numbers 3, -1 and 1 of "3 times first minus middle plus third"
 unfoldable pub checkWeight : Factor → ℕ → ℤ
 checkWeight F j = Σ (F .levels) (λ d. F .coef d j)
 
--- "each turning every successive set of three, in order, into 3 times first minus middle plus third"
+-- T22: "each turning every successive set of three, in order, into 3 times first minus middle plus third"
 unfoldable pub round : Factor → Column → Column
 round F x q = Σ (F .levels) (λ j. checkWeight F j *ℤ x (q * F .levels + j))
 
--- "what k rounds leave, ... beginning with the readings"
+-- T22: "what k rounds leave, [..] beginning with the readings"
 unfoldable pub rounds : List Factor → Column → ℤ
 rounds [] x = x 0
 rounds (F ∷ Fs) x = rounds Fs (round F x)

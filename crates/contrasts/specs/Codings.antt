@@ -1,5 +1,5 @@
 -- The codings of factors of two, three, four and five levels: their rows of coefficients, as tables of numbers.
--- The rows of two and three levels are those of "Totals and passes"; four and five levels are named by the request for mixed levels.
+-- The rows of two and three levels are those of section 5 of the rules; four and five levels are named by the request for mixed levels.
 --
 --   Coding                                        rows of coefficients, a divisor for each, a common denominator
 --   levelsOf, coefOf, divisorOf                  its numbers
@@ -29,7 +29,7 @@ divisorOf t d = getD (t .divisors) d 0
 abbrev pub neg : ℕ → ℤ
 neg n = negℤ (pos n)
 
--- "(1, 1) or (1, -1) at two levels"
+-- T9: "(1, 1) or (1, -1) at two levels"; T15: "2 to the power k at two levels"
 abbrev pub twoCoding : Coding
 twoCoding = record {
   rows = (pos 1 ∷ pos 1 ∷ [])
@@ -39,7 +39,7 @@ twoCoding = record {
   common = 2;
 }
 
--- "(1, 1, 1), (1, 0, -1) or (1, -2, 1) at three"; "at three levels the product of 3, 2 or 6 by digit"
+-- T9: "(1, 1, 1), (1, 0, -1) or (1, -2, 1) at three"; T15: "at three levels the product of 3, 2 or 6 by digit"
 abbrev pub threeCoding : Coding
 threeCoding = record {
   rows = (pos 1 ∷ pos 1 ∷ pos 1 ∷ [])
@@ -50,7 +50,7 @@ threeCoding = record {
   common = 6;
 }
 
--- "Four levels: (1,1,1,1), (3,1,-1,-3), (1,-1,-1,1), (1,-3,3,-1), divisors 4, 20, 4, 20."
+-- F9: "Four levels: (1,1,1,1), (3,1,-1,-3), (1,-1,-1,1), (1,-3,3,-1), divisors 4, 20, 4, 20."
 abbrev pub fourCoding : Coding
 fourCoding = record {
   rows = (pos 1 ∷ pos 1 ∷ pos 1 ∷ pos 1 ∷ [])
@@ -62,7 +62,7 @@ fourCoding = record {
   common = 20;
 }
 
--- "Five levels: (1,1,1,1,1), (2,1,0,-1,-2), (2,-1,-2,-1,2), (1,-2,0,2,-1), (1,-4,6,-4,1), divisors 5, 10, 14, 10, 70."
+-- F9: "Five levels: (1,1,1,1,1), (2,1,0,-1,-2), (2,-1,-2,-1,2), (1,-2,0,2,-1), (1,-4,6,-4,1), divisors 5, 10, 14, 10, 70."
 abbrev pub fiveCoding : Coding
 fiveCoding = record {
   rows = (pos 1 ∷ pos 1 ∷ pos 1 ∷ pos 1 ∷ pos 1 ∷ [])

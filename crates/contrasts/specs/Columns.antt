@@ -2,7 +2,7 @@
 --
 --   read xs              the column of a list
 --   AllWithin M xs       no value of a list exceeds M in size
---   totalsOf Fs xs       the N totals, "place e of a column of totals holds the total of effect e"
+--   totalsOf Fs xs       the N totals, that of effect e at place e
 --   passOf Fs f xs       the column after the pass of position f
 --   passesOf Fs fs xs    after the passes of a list of positions, one after the other
 --   stepOf N F xs        the column of N that the step writes
@@ -24,19 +24,24 @@ read xs i = getD xs i (pos 0)
 abbrev pub AllWithin : ℕ → List ℤ → Type 0
 AllWithin M xs = (i : ℕ) → natAbs (read xs i) ≤ M
 
+-- T2, T10: "place e of a column of totals holds the total of effect e"
 unfoldable pub totalsOf : List Factor → List ℤ → List ℤ
 totalsOf Fs xs = tab (size Fs) (total Fs (read xs))
 
+-- T14: "The pass works in one column of N"
 unfoldable pub passOf : List Factor → ℕ → List ℤ → List ℤ
 passOf Fs f xs = tab (size Fs) (pass Fs f (read xs))
 
+-- T24: "Each gets the column as the last one left it."
 unfoldable pub passesOf : List Factor → List ℕ → List ℤ → List ℤ
 passesOf Fs [] xs = xs
 passesOf Fs (f ∷ fs) xs = passesOf Fs fs (passOf Fs f xs)
 
+-- T14: "the step reads one column of N and writes another"
 unfoldable pub stepOf : ℕ → Factor → List ℤ → List ℤ
 stepOf N F xs = tab N (step N F (read xs))
 
+-- T12: "After k such steps it gives the same totals."
 unfoldable pub stepsOf : ℕ → List Factor → List ℤ → List ℤ
 stepsOf N [] xs = xs
 stepsOf N (F ∷ Fs) xs = stepsOf N Fs (stepOf N F xs)

@@ -1,4 +1,4 @@
--- The worked examples of "Reference runs" that concern totals and divisors, computed over the definitions.
+-- The runs of section 11 of the rules that concern totals and divisors, computed over the definitions.
 --
 --   four-*       readings 3, 5, 4, 8
 --   three-*      three levels, 2, 5, 3
@@ -23,7 +23,7 @@ use Rattle.contrasts.specs.Passes.{digitAt, withDigit, passFrom, passAt}
 use Rattle.contrasts.specs.Steps.{step}
 use Rattle.contrasts.specs.Checks.{checkWeight, round, rounds}
 
--- ---- "Readings 3, 5, 4, 8: totals 20, -6, -4, 2; numerators 400, 36, 16, 4; sum 456, which is 4 times 114; check 12."
+-- ---- X1: "Readings 3, 5, 4, 8: totals 20, -6, -4, 2; numerators 400, 36, 16, 4; sum 456, which is 4 times 114; check 12."
 
 abbrev four : List ℤ
 four = pos 3 ∷ pos 5 ∷ pos 4 ∷ pos 8 ∷ []
@@ -73,7 +73,7 @@ four-rounds : rounds AB (read four) ≡ pos 12
 unfolding rounds round checkWeight Σ two
 four-rounds = refl
 
--- ---- "Three levels, 2, 5, 3: totals 10, -1, -5; numerators 200, 3, 25; row A 28 with 2 degrees; check 4."
+-- ---- X2: "Three levels, 2, 5, 3: totals 10, -1, -5; numerators 200, 3, 25; row A 28 with 2 degrees; check 4."
 
 abbrev threes : List ℤ
 threes = pos 2 ∷ pos 5 ∷ pos 3 ∷ []
@@ -114,7 +114,7 @@ three-rounds : rounds A3 (read threes) ≡ pos 4
 unfolding rounds round checkWeight Σ three
 three-rounds = refl
 
--- ---- "Readings 1 to 8 ...: totals 36, -4, -8, 0, -16, 0, 0, 0"
+-- ---- X3: "Readings 1 to 8 [..]: totals 36, -4, -8, 0, -16, 0, 0, 0"
 
 abbrev eight : List ℤ
 eight = tab 8 (λ i. pos (suc i))
@@ -123,13 +123,13 @@ eight-totals : totalsOf (two ∷ two ∷ two ∷ []) eight ≡ pos 36 ∷ neg 4 
 unfolding totalsOf total coef* size Σ tabFrom two
 eight-totals = refl
 
--- ---- "k = 1, -100,000 and 100,000: totals 0, -200,000"
+-- ---- X4: "k = 1, -100,000 and 100,000: totals 0, -200,000"
 
 largest-totals : totalsOf (two ∷ []) (neg 100_000 ∷ pos 100_000 ∷ []) ≡ pos 0 ∷ neg 200_000 ∷ []
 unfolding totalsOf total coef* size Σ tabFrom two
 largest-totals = refl
 
--- ---- "Two three-level factors: divisors 9, 6, 18, 6, 4, 12, 18, 12, 36."
+-- ---- X6: "Two three-level factors: divisors 9, 6, 18, 6, 4, 12, 18, 12, 36."
 
 nine-divisors : tab 9 (divisor* (three ∷ three ∷ [])) ≡ 9 ∷ 6 ∷ 18 ∷ 6 ∷ 4 ∷ 12 ∷ 18 ∷ 12 ∷ 36 ∷ []
 unfolding divisor* tabFrom three

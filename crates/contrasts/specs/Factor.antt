@@ -9,6 +9,7 @@ use lib.Dec.{eqb}
 use lib.IntN.{ℤ, pos, _*ℤ_}
 use Rattle.algebra.specs.Sum.{Σ}
 
+-- C16: "Facts common to both level counts are proved for a general count."
 pub record Factor : Type 0 where
   pub levels : ℕ
   -- coef d j: the number of row d at level j

@@ -92,6 +92,7 @@ module _ (t : Coding) (ok : T (lawful t)) where
 unfoldable pub codings : ℕ → Coding
 codings n = getD (twoCoding ∷ threeCoding ∷ fourCoding ∷ fiveCoding ∷ []) n twoCoding
 
+-- F9: "orthogonality tested once over them"
 all-lawful : T (every 4 (λ n. lawful (codings n)))
 unfolding codings lawful tests dividing rowsApart columnsApart every Σ
 all-lawful = tt

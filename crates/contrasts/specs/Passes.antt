@@ -1,4 +1,4 @@
--- The passes of "Totals and passes", over any list of factors, and lists of pass calls.
+-- The passes of section 5 of the rules, over any list of factors, and lists of pass calls.
 --
 --   spacing Fs f                 how far apart the values of the factor at position f lie
 --   digitAt, withDigit           a place's digit that stands for s, and the place with another digit there
@@ -18,24 +18,26 @@ use Rattle.contrasts.specs.Totals.{Column, size}
 
 -- ---- passes
 
--- "levels to the power f places apart": the product of the levels of the factors before position f
+-- T7: "levels to the power f places apart": the product of the levels of the factors before position f
 abbrev pub spacing : List Factor → ℕ → ℕ
 spacing Fs f = size (take f Fs)
 
--- the digit of the place i that stands for s, to the base l; and the place that has the digit j there instead. Place 14 is 112 to the base 3:
--- its digit that stands for 3 is 1, and with 2 there it is 122, which is 17.
+-- the digit of the place i that stands for s, to the base l; and the place that has the digit j there instead. Place 14 is 112 to the
+-- base 3: its digit that stands for 3 is 1, and with 2 there it is 122, which is 17.
 abbrev pub digitAt : ℕ → ℕ → ℕ → ℕ
 digitAt s l i = i / s % l
 
 abbrev pub withDigit : ℕ → ℕ → ℕ → ℕ → ℕ
 withDigit s l j i = i - digitAt s l i * s + j * s
 
--- "values levels to the power f places apart belong together": those s apart, where s is the product of the levels of the factors
--- before. "Results go back to the same places": the place whose digit is d gets the sum by row d. So, where p is the place of a first value
+-- T7: "values levels to the power f places apart belong together": those s apart, s being the product of the levels of the factors before
+-- T5: "Results go back to the same places": the place whose digit is d gets the sum by row d. So, where p is the place of a first value
 -- (`pass-two`, `pass-three`),
---   at two levels     p gets x p + x (p + s), and p + s gets x p - x (p + s): "their sum and first minus second";
---   at three levels   p gets x p + x (p + s) + x (p + 2 s), p + s gets x p - x (p + 2 s), and p + 2 s gets x p - 2 x (p + s) + x (p + 2 s):
---                     "their sum, first minus third, and first minus twice middle plus third".
+-- T3: "their sum and first minus second": at two levels p gets x p + x (p + s), and p + s gets x p - x (p + s)
+-- T4: "their sum, first minus third, and first minus twice middle plus third": at three levels
+--       p         gets x p + x (p + s) + x (p + 2 s),
+--       p + s     gets x p - x (p + 2 s), and
+--       p + 2 s   gets x p - 2 x (p + s) + x (p + 2 s)
 unfoldable pub passAt : ℕ → Factor → Column → Column
 passAt s F x i = Σ (F .levels) (λ j. F .coef (digitAt s (F .levels) i) j *ℤ x (withDigit s (F .levels) j i))
 
@@ -45,11 +47,11 @@ passFrom s [] f x = x
 passFrom s (F ∷ Fs) zero x = passAt s F x
 passFrom s (F ∷ Fs) (suc f) x = passFrom (s * F .levels) Fs f x
 
--- "For the factor at position f (A is 0)"
+-- T6: "For the factor at position f (A is 0)"
 abbrev pub pass : List Factor → ℕ → Column → Column
 pass Fs f x = passFrom 1 Fs f x
 
--- "Each gets the column as the last one left it."
+-- T24: "Each gets the column as the last one left it."
 unfoldable pub passes : List Factor → List ℕ → Column → Column
 passes Fs [] x = x
 passes Fs (f ∷ fs) x = passes Fs fs (pass Fs f x)
@@ -58,7 +60,7 @@ passes Fs (f ∷ fs) x = passes Fs fs (pass Fs f x)
 abbrev pub hit : ℕ → ℕ → ℕ
 hit k f = cond (eqb k f) 1 0
 
--- how often position k is called; a list of calls names each factor once where this is 1 for each of them
+-- D3.2: how often position k is called; a list of calls names each factor once where this is 1 for each of them
 unfoldable pub count : ℕ → List ℕ → ℕ
 count k [] = 0
 count k (f ∷ fs) = hit k f + count k fs

@@ -15,11 +15,12 @@ use Rattle.contrasts.specs.Totals.{Column}
 abbrev pub sets : ℕ → Factor → ℕ
 sets N F = N / F .levels
 
--- "The report's own step writes a new column: all sums first, then the differences, at three levels then the third combination."
+-- T11: "The report's own step writes a new column: all sums first, then the differences, at three levels then the third combination."
 -- Place i is combination i / sets of set i % sets.
 unfoldable pub step : ℕ → Factor → Column → Column
 step N F x i = Σ (F .levels) (λ j. F .coef (i / sets N F) j *ℤ x (i % sets N F * F .levels + j))
 
+-- T12: "After k such steps it gives the same totals."
 unfoldable pub steps : ℕ → List Factor → Column → Column
 steps N [] x = x
 steps N (F ∷ Fs) x = steps N Fs (step N F x)

@@ -13,9 +13,10 @@ use Rattle.plan.specs.declared.types.Plan.{Plan}
 use Rattle.plan.specs.Check.{runCount}
 use Rattle.plan.specs.Plan.{factorsOf}
 
+-- V1
 unfoldable pub effectRows : Plan → List ℕ
 effectRows p = tab 1024 (λ e. cond (ltb e (runCount p)) (rowOf (factorsOf p) e) 0)
 
--- "Divisors: 2 to the power k at two levels; at three levels the product of 3, 2 or 6 by digit."
+-- T15: "Divisors: 2 to the power k at two levels; at three levels the product of 3, 2 or 6 by digit."
 unfoldable pub effectDivisors : Plan → List ℕ
 effectDivisors p = tab 1024 (λ e. cond (ltb e (runCount p)) (divisor* (factorsOf p) e) 1)

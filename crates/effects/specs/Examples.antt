@@ -17,7 +17,7 @@ use Rattle.plan.specs.Plan.{factorsOf}
 use Rattle.effects.specs.Inner.Divisors.{divisorsOf}
 use Rattle.effects.specs.Effects.{effectRows, effectDivisors}
 
--- "Two three-level factors: divisors 9, 6, 18, 6, 4, 12, 18, 12, 36."
+-- X6: "Two three-level factors: divisors 9, 6, 18, 6, 4, 12, 18, 12, 36."
 nine : take 9 (divisorsOf 2) ≡ 9 ∷ 6 ∷ 18 ∷ 6 ∷ 4 ∷ 12 ∷ 18 ∷ 12 ∷ 36 ∷ []
 unfolding divisorsOf divisor* three tabFrom
 nine = refl
@@ -26,6 +26,7 @@ nine-rows : take 10 (effectRows (plan 3 2 [] [] [])) ≡ 0 ∷ 1 ∷ 1 ∷ 2 ∷
 unfolding effectRows runCount badLevels badFactors mostTwo mostThree factorsOf size rowOf two three tabFrom
 nine-rows = refl
 
+-- X6
 nine-divisors : take 10 (effectDivisors (plan 3 2 [] [] [])) ≡ 9 ∷ 6 ∷ 18 ∷ 6 ∷ 4 ∷ 12 ∷ 18 ∷ 12 ∷ 36 ∷ 1 ∷ []
 unfolding effectDivisors runCount badLevels badFactors mostTwo mostThree factorsOf size divisor* two three tabFrom
 nine-divisors = refl

@@ -27,36 +27,37 @@ use Rattle.estimates.specs.Quotient.{Exactly, quotient}
 
 -- ---- the values
 
--- "the estimate has three outcomes: the mean as a double, a difference as a double, or lost to blocks with no number"
+-- E1: "the estimate has three outcomes: the mean as a double, a difference as a double, or lost to blocks with no number"
 pub data Value : Type 0 where
   mean : Float → Value
   difference : Float → Value
   lost : Value
 
--- "The mean is the total over 2 to the power k (the report's first entry is twice that)"
+-- E3: "The mean is the total over 2 to the power k (the report's first entry is twice that)"
 unfoldable pub meanOf : ℕ → ℤ → Float
 meanOf k t = quotient t k
 
--- "a difference the total over 2 to the power k - 1"
+-- E4: "a difference the total over 2 to the power k - 1"
 unfoldable pub differenceOf : ℕ → ℤ → Float
 differenceOf k t = quotient t (k - 1)
 
--- the empty effect, 0, has the mean, and every other a difference
+-- E1, E2: the empty effect, 0, has the mean, and every other a difference
 unfoldable pub valueBy : Bool → ℕ → ℕ → ℤ → Value
 valueBy b k e t = cond b lost (cond (eqb e 0) (mean (meanOf k t)) (difference (differenceOf k t)))
 
--- "Lost is the outcome exactly when the effect is confounded."
+-- E2: "Lost is the outcome exactly when the effect is confounded."
 abbrev pub estimateValue : Plan → ℕ → ℤ → Value
 estimateValue p e t = valueBy (confoundedIn p e) (p .k) e t
 
 -- ---- the numbers
 
--- "The caller hands in the total; it must lie within 2 to the power k times 100,000 either way"
+-- E7: "The caller hands in the total; it must lie within 2 to the power k times 100,000 either way"
 abbrev pub totalLimit : Plan → ℕ
 totalLimit p = 2 ^ p .k * readingLimit
 
--- 9: "estimate, alias or run call asked at three levels"; 10: "[..] estimate's letter not a base factor";
--- 12: "estimate's total beyond its limit"
+-- L8: "the estimate 9, 10, 12"
+-- N9: "estimate, alias or run call asked at three levels"; N10: "[..] estimate's letter not a base factor";
+-- N12: "estimate's total beyond its limit"
 abbrev pub estimateRefusals : Plan → ℕ → ℤ → List Refusal
 estimateRefusals p e t = refusal 9 (eqb (p .levels) 3) ∷ refusal 10 (beyond (p .k) e) ∷ refusal 12 (ltb (totalLimit p) (natAbs t)) ∷ []
 
@@ -65,14 +66,15 @@ estimateRefused p e t = withPlan p (estimateRefusals p e t)
 
 -- ---- the answer
 
+-- F12
 abbrev pub estimateOutcome : Estimate → Outcome Value
 estimateOutcome (answer.Mean x) = given (mean x)
 estimateOutcome (answer.Difference x) = given (difference x)
 estimateOutcome answer.Lost = given lost
 estimateOutcome (answer.Refused n) = refused n
 
--- "The double is exactly that quotient": a mean times 2 to the power k is the total, and a difference times 2 to the power k - 1; there is no
--- number where the effect is lost or the call is refused
+-- E5: "The double is exactly that quotient": a mean times 2 to the power k is the total, and a difference times 2 to the power k - 1; there
+-- is no number where the effect is lost or the call is refused
 abbrev pub ExactlyGiven : Plan → ℤ → Outcome Value → Type 0
 ExactlyGiven p t (given (mean x)) = Exactly t (p .k) x
 ExactlyGiven p t (given (difference x)) = Exactly t (p .k - 1) x

@@ -25,7 +25,7 @@ use Rattle.plan.specs.Check.{badLevels, badFactors, badCounts, badWord, badSign
 use Rattle.estimates.specs.Quotient.{quotient}
 use Rattle.estimates.specs.Estimate.{Value, mean, difference, lost, meanOf, differenceOf, valueBy, estimateValue, estimateRefused}
 
--- 7 / 4 is 7 * 2 ^ -2, 12 / 4 is 3, -6 / 8 is -3 * 2 ^ -2, and 0 / 8 is positive zero
+-- E5, E6: 7 / 4 is 7 * 2 ^ -2, 12 / 4 is 3, -6 / 8 is -3 * 2 ^ -2, and 0 / 8 is positive zero
 quotients : quotient (pos 7) 2 ∷ quotient (pos 12) 2 ∷ quotient (neg 6) 3 ∷ quotient (pos 0) 3 ∷ []
     ≡ fin false 7 (neg 2) ∷ fin false 3 (pos 0) ∷ fin true 3 (neg 2) ∷ fin false 0 (pos 0) ∷ []
 unfolding quotient
@@ -34,7 +34,7 @@ quotients = refl
 abbrev answer : Plan → ℕ → ℤ → Outcome Value
 answer p e t = outcome (estimateRefused p e t) (estimateValue p e t)
 
--- the answers by a column of totals, from effect e on: "place e of a column of totals holds the total of effect e"
+-- T10: "place e of a column of totals holds the total of effect e"; the answers by such a column, from effect e on
 abbrev answers : Plan → ℕ → List ℤ → List (Outcome Value)
 answers p e [] = []
 answers p e (t ∷ ts) = answer p e t ∷ answers p (suc e) ts
@@ -45,7 +45,7 @@ positiveZero = fin false 0 (pos 0)
 abbrev twoFactors : Plan
 twoFactors = plan 2 2 [] [] []
 
--- "totals 20, -6, -4, 2": the mean is 5, and the differences are -3, -2 and 1
+-- X1: "totals 20, -6, -4, 2": the mean is 5, and the differences are -3, -2 and 1
 four : answers twoFactors 0 (pos 20 ∷ neg 6 ∷ neg 4 ∷ pos 2 ∷ [])
     ≡ given (mean (fin false 5 (pos 0)))
     ∷ given (difference (fin true 3 (pos 0)))
@@ -58,7 +58,7 @@ four = refl
 abbrev inBlocks : Plan
 inBlocks = plan 2 3 [] [] (ABC ∷ [])
 
--- "totals 36, -4, -8, 0, -16, 0, 0, 0; row ABC is blocks.": the mean is 4.5, the differences are -1, -2, 0, -4, 0 and 0, and ABC is lost
+-- X3: "totals 36, -4, -8, 0, -16, 0, 0, 0; row ABC is blocks.": the mean is 4.5, differences are -1, -2, 0, -4, 0 and 0, and ABC is lost
 eight : answers inBlocks 0 (pos 36 ∷ neg 4 ∷ neg 8 ∷ pos 0 ∷ neg 16 ∷ pos 0 ∷ pos 0 ∷ pos 0 ∷ [])
     ≡ given (mean (fin false 9 (neg 1)))
     ∷ given (difference (fin true 1 (pos 0)))
@@ -72,13 +72,13 @@ eight : answers inBlocks 0 (pos 36 ∷ neg 4 ∷ neg 8 ∷ pos 0 ∷ neg 16 ∷ 
 unfolding estimateRefused withPlan planRefused badLevels badFactors mostTwo mostThree badCounts badWords badWord badSign repeated dependent losesFactor factorWord any among beyond letters combined times someCombination combinesTo some bits Σℕ readingLimit valueBy meanOf differenceOf quotient
 eight = refl
 
--- "totals 0, -200,000; difference -200,000", which is -3,125 * 2 ^ 6
+-- X4: "totals 0, -200,000; difference -200,000", which is -3,125 * 2 ^ 6
 largest : answers (plan 2 1 [] [] []) 0 (pos 0 ∷ neg 200_000 ∷ []) ≡ given (mean positiveZero) ∷ given (difference (fin true 3_125 (pos 6))) ∷ []
 unfolding estimateRefused withPlan planRefused badLevels badFactors mostTwo mostThree badCounts badWords badWord badSign repeated dependent losesFactor factorWord any among beyond letters combined times someCombination combinesTo some bits Σℕ readingLimit valueBy meanOf differenceOf quotient
 largest = refl
 
--- "levels 3, k = 1"; k = 2, effect C; k = 2, total 400,001; then calls to which 3, 9, 10 and 12 apply, 9, 10
--- and 12, and 10 and 12
+-- N9: "levels 3, k = 1"; N10: k = 2, effect C; N12: k = 2, total 400,001
+-- L1: then calls to which 3, 9, 10 and 12 apply, 9, 10 and 12, and 10 and 12
 small-inputs : answer (plan 3 1 [] [] []) A (pos 0)
     ∷ answer twoFactors C (pos 0)
     ∷ answer twoFactors A (pos 400_001)
@@ -90,7 +90,7 @@ small-inputs : answer (plan 3 1 [] [] []) A (pos 0)
 unfolding estimateRefused withPlan planRefused badLevels badFactors mostTwo mostThree badCounts badWords badWord badSign repeated dependent losesFactor factorWord any among beyond letters combined times someCombination combinesTo some bits Σℕ readingLimit valueBy meanOf differenceOf quotient
 small-inputs = refl
 
--- both ways, with two factors and with ten, and the smallest i64; an effect that is lost is refused by its total too
+-- E7, N12: both ways, with two factors and with ten, and the smallest i64; an effect that is lost is refused by its total too
 at-limits : estimateRefused twoFactors A (pos 400_000)
     ∷ estimateRefused twoFactors A (neg 400_000)
     ∷ estimateRefused twoFactors A (pos 400_001)

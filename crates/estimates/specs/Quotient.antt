@@ -20,14 +20,14 @@ negative (negsuc n) = true
 
 -- ---- what the double is
 
--- x is finite, has the sign of t, and times 2 ^ j it is t: in size x is digits * 2 ^ exponent, and 2 ^ e is the fraction up e / down e.
+-- E5: x is finite, has the sign of t, and times 2 ^ j it is t: in size x is digits * 2 ^ exponent, and 2 ^ e is the fraction up e / down e.
 pub record IsQuotient (t : ℤ) (j : ℕ) (x : Float) : Type 0 where
   pub digits : ℕ
   pub exponent : ℤ
   pub finite : x ≡ fin (negative t) digits exponent
   pub times : digits * up exponent * 2 ^ j ≡ natAbs t * down exponent
 
--- "The double is exactly that quotient"
+-- E5: "The double is exactly that quotient"
 pub record Exactly (t : ℤ) (j : ℕ) (x : Float) : Type 0 where
   pub value : IsQuotient t j x
   pub double : T (fits binary64 x)
@@ -35,12 +35,12 @@ pub record Exactly (t : ℤ) (j : ℕ) (x : Float) : Type 0 where
 
 -- ---- the double
 
--- the kit's form of a double: m with its closing binary zeros divided out, which is an odd number, times the power of two that is left; or zero
+-- the kit's form of a double: m with its closing binary zeros divided out, an odd number, times the power of two that is left; or zero
 unfoldable pub double : Bool → ℕ → ℕ → Float
 unfolding ieee.odd
 double s m j = ieee.odd (prec binary64) s m 0 j
 
--- "The double is exactly that quotient; a zero total gives positive zero.": `exact` and `positive-zero` in `Laws/Exact.antt`
+-- E5, E6: "The double is exactly that quotient; a zero total gives positive zero.": `exact` and `positive-zero` in `Laws/Exact.antt`
 unfoldable pub quotient : ℤ → ℕ → Float
 unfolding double
 quotient t j = double (negative t) (natAbs t) j

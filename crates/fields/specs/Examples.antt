@@ -34,8 +34,8 @@ good : map isBad ((one ++ readings ++ marks) ∷ (one ++ added ++ added ++ block
 unfolding badFields badFrom bodies fieldsOf parse big
 good = refl
 
--- the empty sheet; a tag without a length, and without a whole one; a body cut short, and one byte too many; an unknown tag, first and last;
--- a tag that falls; tag 1, 4 or 5 absent or repeated; fields 1, 2, 3 of wrong length; a field 4 of 7 bytes
+-- N1: the empty sheet; a tag without a length, and without a whole one; a body cut short, and one byte too many; an unknown tag, first and
+-- last; a tag that falls; tag 1, 4 or 5 absent or repeated; fields 1, 2, 3 of wrong length; a field 4 of 7 bytes
 abbrev bad : List (List ℕ)
 bad =
     []

@@ -13,12 +13,13 @@ use lib.Dec.{eqb, leb}
 use lib.ListN.{length, take, drop, getD}
 use Rattle.numerals.specs.Numbers.{big}
 
+-- S1
 pub data Fields : Type 0 where
   end : Fields
   cut : Fields
   field : ℕ → List ℕ → Fields → Fields
 
--- "Each field is a one-byte tag, a two-byte length and its body." The first field of some bytes, and what `rest` makes of those after it
+-- S1: "Each field is a one-byte tag, a two-byte length and its body.": the first of some bytes, and what `rest` makes of those after it
 abbrev pub first : (List ℕ → Fields) → List ℕ → Fields
 first rest [] = end
 first rest (t ∷ []) = cut
@@ -34,6 +35,7 @@ unfoldable pub parse : ℕ → List ℕ → Fields
 parse zero bytes = first (λ rest. cut) bytes
 parse (suc n) bytes = first (parse n) bytes
 
+-- S1
 unfoldable pub fieldsOf : List ℕ → Fields
 fieldsOf sheet = parse (length sheet) sheet
 

@@ -16,8 +16,8 @@ use Rattle.fields.specs.Fields.{Fields, end, cut, field, bodies}
 pub data Rule : Type 0 where
   rule : ℕ → Bool → (ℕ → Bool) → Rule
 
--- "Tag 1, once: levels and k, a byte each. Tag 2, per added factor: word, sign byte. Tag 3, per block word: the word. Tag 4, once:
--- readings, 4 bytes each [..]. Tag 5, once: R mark bytes."; whether there are R is refusal 11
+-- S4 to S8: "Tag 1, once: levels and k, a byte each. Tag 2, per added factor: word, sign byte. Tag 3, per block word: the word. Tag 4,
+-- once: readings, 4 bytes each [..]. Tag 5, once: R mark bytes."; whether there are R is refusal 11
 abbrev pub rules : List Rule
 rules =
     rule 1 true (λ n. eqb n 2)
@@ -27,21 +27,23 @@ rules =
     ∷ rule 5 true (λ n. true)
     ∷ []
 
--- a tag without a rule is unknown
+-- N1: a tag without a rule is unknown
 abbrev pub admits : List Rule → ℕ → ℕ → Bool
 admits [] t n = false
 admits (rule u once lengths ∷ rs) t n = cond (eqb t u) (lengths n) (admits rs t n)
 
--- 1: "field cut short, unknown or falling tag, [..] field 1, 2 or 3 of wrong length, field 4 not a multiple of 4 bytes"
+-- S3: "Tags never fall."
+-- N1: "field cut short, unknown or falling tag, [..] field 1, 2 or 3 of wrong length, field 4 not a multiple of 4 bytes"
 unfoldable pub badFrom : ℕ → Fields → Bool
 badFrom last end = false
 badFrom last cut = true
 badFrom last (field t body rest) = ltb t last || (not (admits rules t (length body)) || badFrom t rest)
 
--- 1: "tag 1, 4 or 5 absent or repeated"
+-- N1: "tag 1, 4 or 5 absent or repeated"
 abbrev pub anyNotOnce : List Rule → Fields → Bool
 anyNotOnce [] fs = false
 anyNotOnce (rule t once lengths ∷ rs) fs = (once && not (eqb (length (bodies t fs)) 1)) || anyNotOnce rs fs
 
+-- N1
 unfoldable pub badFields : Fields → Bool
 badFields fs = badFrom 0 fs || anyNotOnce rules fs

@@ -17,41 +17,43 @@ use Rattle.text.specs.Text.{ascii}
 use Rattle.text.specs.Fields.{lettersOf, decimal, signed}
 use Rattle.rows.specs.Kinds.{Kind, meanRow, blocksRow, errorRow, keptRow}
 
+-- W9
 abbrev pub space : ℕ
 space = 32
 
+-- W10
 abbrev pub newline : ℕ
 newline = 10
 
--- "Fields are parted by one space, and each line ends with a newline byte."
+-- W9, W10: "Fields are parted by one space, and each line ends with a newline byte."
 unfoldable pub lineOf : List (List ℕ) → List ℕ
 lineOf [] = newline ∷ []
 lineOf (f ∷ []) = f ++ (newline ∷ [])
 lineOf (f ∷ g ∷ fs) = f ++ (space ∷ lineOf (g ∷ fs))
 
--- "label (`mean` for row 0, else the row's letters, A first)"
+-- W6: "label (`mean` for row 0, else the row's letters, A first)"
 unfoldable pub labelOf : ℕ → List ℕ
 labelOf w = cond (eqb w 0) (ascii "mean") (lettersOf w)
 
--- "and, if so, `error` or `blocks`"
+-- W7: "and, if so, `error` or `blocks`"
 unfoldable pub kindWords : Kind → List (List ℕ)
 kindWords errorRow = ascii "error" ∷ []
 kindWords blocksRow = ascii "blocks" ∷ []
 kindWords meanRow = []
 kindWords keptRow = []
 
--- "Row lines [..] hold label [..], degrees, numerator and, if so, `error` or `blocks`."
+-- W6, W7: "Row lines [..] hold label [..], degrees, numerator and, if so, `error` or `blocks`."
 unfoldable pub rowLine : ℕ → ℕ → ℕ → Kind → List ℕ
 rowLine w degrees numerator c = lineOf (labelOf w ∷ decimal degrees ∷ decimal numerator ∷ kindWords c)
 
--- "`over` gives the denominator"; and `refused` gives a number
+-- W11: "`over` gives the denominator"; W3: and `refused` gives a number
 unfoldable pub namedLine : List ℕ → ℕ → List ℕ
 namedLine name n = lineOf (name ∷ decimal n ∷ [])
 
--- "The `blocks`, `error` and `total` lines below them hold degrees and numerator."
+-- W8: "The `blocks`, `error` and `total` lines below them hold degrees and numerator."
 unfoldable pub sourceLine : List ℕ → ℕ → ℕ → List ℕ
 sourceLine name degrees numerator = lineOf (name ∷ decimal degrees ∷ decimal numerator ∷ [])
 
--- "`check` the sum of totals, then the number from the readings"
+-- W12: "`check` the sum of totals, then the number from the readings"
 unfoldable pub checkLine : ℤ → ℤ → List ℕ
 checkLine totals readings = lineOf (ascii "check" ∷ signed totals ∷ signed readings ∷ [])

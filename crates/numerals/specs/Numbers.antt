@@ -9,11 +9,11 @@ use lib.Dec.{ltb}
 use lib.IntN.{ℤ, pos, negℤ}
 use lib.ListN.{length}
 
--- "All numbers are big-endian."
+-- S2: "All numbers are big-endian."
 unfoldable pub big : List ℕ → ℕ
 big [] = 0
 big (b ∷ bytes) = b * 256 ^ length bytes + big bytes
 
--- "in two's complement": x from the half of 2 ^ bits on stands for x - 2 ^ bits
+-- S7: "in two's complement": x from the half of 2 ^ bits on stands for x - 2 ^ bits
 unfoldable pub twos : ℕ → ℕ → ℤ
 twos bits x = cond (ltb x (2 ^ (bits - 1))) (pos x) (negℤ (pos (2 ^ bits - x)))

@@ -1,4 +1,4 @@
--- "What is turned away": the refusals that concern a plan, 2 to 8.
+-- What section 9 of the rules refuses of a plan: refusals 2 to 8.
 --
 --   badLevels, badFactors, badCounts    refusals 2, 3 and 4
 --   badWord, badSign, badWords          refusal 5; refusal 6 is `repeated` of words
@@ -24,42 +24,47 @@ use Rattle.plan.specs.Plan.{addedWords, addedSigns, blockWords, factorsO
 
 -- ---- the conditions
 
--- 2: "levels other than 2 or 3"
+-- N2: "levels other than 2 or 3"; P1: "levels (2 or 3)"
 unfoldable pub badLevels : ℕ → Bool
 badLevels levels = not (eqb levels 2 || eqb levels 3)
 
--- 3: "k out of range", "1 to 10 at two levels, 1 to 6 at three"
+-- N3: "k out of range"; P2: "1 to 10 at two levels, 1 to 6 at three"
 unfoldable pub badFactors : ℕ → ℕ → Bool
 badFactors levels k = eqb k 0 || cond (eqb levels 2) (ltb mostTwo k) (ltb mostThree k)
 
--- 4: "over 6 added, over 4 block words, or either at three levels"
+-- N4: "over 6 added, over 4 block words, or either at three levels"
+-- P3: "up to 6 added factors and up to 4 block words"; P4: "Added factors and block words belong to two levels only."
 unfoldable pub badCounts : ℕ → ℕ → ℕ → Bool
 badCounts levels added blocks = ltb mostAdded added || (ltb mostBlocks blocks || cond (eqb levels 3) (ltb 0 added || ltb 0 blocks) false)
 
--- 5: "letter beyond k, added word under two letters, sign over 1, empty block word"; an empty word is one under one letter
+-- N5: "letter beyond k, added word under two letters, sign over 1, empty block word"; an empty word is one under one letter
+-- P7: "a word of two or more letters"; R3: "A block word is not empty."
 unfoldable pub badWord : ℕ → ℕ → ℕ → Bool
 badWord k least w = beyond k w || ltb (letters w) least
 
+-- N5: "sign over 1"; P7: "a sign, 0 or 1"
 unfoldable pub badSign : ℕ → Bool
 badSign s = ltb 1 s
 
+-- N5
 unfoldable pub badWords : ℕ → List ℕ → List ℕ → List ℕ → Bool
 badWords k words signs blocks = any (badWord k 2) words || (any badSign signs || any (badWord k 1) blocks)
 
--- 6: "two added factors with one word" is `repeated`
+-- N6: "two added factors with one word" is `repeated`
 
--- 7: "some one or more block words combine to the empty word"
+-- N7: "some one or more block words combine to the empty word"
 unfoldable pub dependent : List ℕ → Bool
 dependent blocks = combinesTo 0 blocks
 
--- 8: "a confounded effect is one letter or an added factor's word"; these are the words of the plan's factors, base and added
+-- N8: "a confounded effect is one letter or an added factor's word"; these are the words of the plan's factors, base and added
 unfoldable pub factorWord : ℕ → List ℕ → Bool
 factorWord w words = eqb (letters w) 1 || among w words
 
+-- N8
 unfoldable pub losesFactor : List ℕ → List ℕ → Bool
 losesFactor words blocks = someCombination blocks (λ w. factorWord w words)
 
--- the refusals on the words, for themselves
+-- N5 to N8: the refusals on the words, for themselves
 abbrev pub wordRefusals : ℕ → List ℕ → List ℕ → List ℕ → List Refusal
 wordRefusals k words signs blocks =
     refusal 5 (badWords k words signs blocks)
@@ -68,7 +73,7 @@ wordRefusals k words signs blocks =
     ∷ refusal 8 (losesFactor words blocks)
     ∷ []
 
--- "The plan check gives 2 to 8"
+-- L3: "The plan check gives 2 to 8"
 abbrev pub planRefusals : Plan → List Refusal
 planRefusals p =
     refusal 2 (badLevels (p .levels))
@@ -76,10 +81,11 @@ planRefusals p =
     ∷ refusal 4 (badCounts (p .levels) (p .added) (p .blocks))
     ∷ wordRefusals (p .k) (addedWords p) (addedSigns p) (blockWords p)
 
+-- L1, L3
 unfoldable pub planRefused : Plan → ℕ
 planRefused p = lowest (planRefusals p)
 
--- the number of a call on a plan: the plan's own, and only where that is 0 the lowest of further refusals
+-- L4: "every call that takes a plan or a sheet gives these too": the plan's own number, or where that is 0 the lowest of further refusals
 unfoldable pub withPlan : Plan → List Refusal → ℕ
 withPlan p further = cond (eqb (planRefused p) 0) (lowest further) (planRefused p)
 
@@ -93,13 +99,13 @@ confoundedAccepted p w = cond (eqb (planRefused p) 0) (confoundedIn p w) false
 unfoldable pub runCount : Plan → ℕ
 runCount p = cond (badLevels (p .levels) || badFactors (p .levels) (p .k)) 0 (runsOf p)
 
--- how far apart the values of the factor at position f lie, "levels to the power f", and 0 where there is none or `runCount` is 0
+-- T7: how far apart the values of the factor at position f lie, "levels to the power f", and 0 where there is none or `runCount` is 0
 unfoldable pub spacingAt : Plan → ℕ → ℕ
 spacingAt p f = cond (badLevels (p .levels) || badFactors (p .levels) (p .k)) 0 (cond (leb (p .k) f) 0 (spacing (factorsOf p) f))
 
 -- ---- the answer
 
--- an accepted plan has no values
+-- F12: an accepted plan has no values
 abbrev pub checkOutcome : Check → Outcome Unit
 checkOutcome check.Accepted = given tt
 checkOutcome (check.Refused n) = refused n

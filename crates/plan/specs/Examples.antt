@@ -66,7 +66,7 @@ plan levels k words signs blocks = record {
 
 -- ---- refusals
 
--- the small inputs of refusals 2 to 8, in the order of the table; refusals 7 and 8 "with k = 3"
+-- N2 to N8: the small inputs, in the order of the table; X8: those of refusals 7 and 8 "with k = 3"
 abbrev smallInputs : List Plan
 smallInputs =
     plan 4 1 [] [] []
@@ -82,23 +82,23 @@ small-inputs : map planRefused smallInputs ≡ 2 ∷ 3 ∷ 4 ∷ 5 ∷ 6 ∷ 7 �
 unfolding planRefused badLevels badFactors mostTwo mostThree badCounts badWords badWord badSign repeated dependent losesFactor factorWord any among beyond letters combined times someCombination combinesTo some bits Σℕ
 small-inputs = refl
 
--- other ways into a refusal, and plans to which two refusals apply, of which the lower counts
+-- N3 to N8, L1: other ways into a refusal, and plans to which two refusals apply, of which the lower counts
 abbrev others : List Plan
 others =
-    -- no factor; eleven at two levels
+    -- N3: no factor; eleven at two levels
     plan 2 0 [] [] []
     ∷ plan 2 11 [] [] []
-    -- seven added factors; five block words
+    -- N4: seven added factors; five block words
     ∷ plan 2 4 (replicate 7 AB) (replicate 7 0) []
     ∷ plan 2 4 [] [] (replicate 5 AB)
-    -- an added word of one letter, a letter of it beyond k, a sign over 1, an empty block word
+    -- N5: an added word of one letter, a letter of it beyond k, a sign over 1, an empty block word
     ∷ plan 2 3 (A ∷ []) (0 ∷ []) []
     ∷ plan 2 3 (AD ∷ []) (0 ∷ []) []
     ∷ plan 2 3 (AB ∷ []) (2 ∷ []) []
     ∷ plan 2 3 [] [] (0 ∷ [])
-    -- a confounded effect is an added factor's word
+    -- N8: a confounded effect is an added factor's word
     ∷ plan 2 3 (BC ∷ []) (0 ∷ []) (BC ∷ [])
-    -- 4 and 5, 5 and 7, 6 and 8
+    -- L1: 4 and 5, 5 and 7, 6 and 8
     ∷ plan 3 2 [] [] (C ∷ [])
     ∷ plan 2 2 [] [] (C ∷ C ∷ [])
     ∷ plan 2 3 (AB ∷ AB ∷ []) (0 ∷ 0 ∷ []) (A ∷ [])
@@ -110,7 +110,8 @@ other-refused = refl
 
 -- ---- accepted plans
 
--- "k = 4, block words AD, ABC: accepted, BCD confounded too."; the largest plans of both level counts; D = ABC with either sign
+-- X7: "k = 4, block words AD, ABC: accepted, BCD confounded too."; P2: the largest plans of both level counts;
+-- X5: D = ABC with either sign
 abbrev acceptedPlans : List Plan
 acceptedPlans =
     plan 2 4 [] [] (AD ∷ ABC ∷ [])
@@ -124,14 +125,14 @@ all-accepted : map planRefused acceptedPlans ≡ 0 ∷ 0 ∷ 0 ∷ 0 ∷ 0 ∷ [
 unfolding planRefused badLevels badFactors mostTwo mostThree badCounts badWords badWord badSign repeated dependent losesFactor factorWord any among beyond letters combined times someCombination combinesTo some bits Σℕ
 all-accepted = refl
 
--- of the sixteen effects of that plan just AD, ABC and BCD are confounded
+-- X7: of the sixteen effects of that plan just AD, ABC and BCD are confounded
 BCD-lost : tab 16 (confoundedIn (plan 2 4 [] [] (AD ∷ ABC ∷ []))) ≡ tab 16 (λ w. eqb w AD || (eqb w ABC || eqb w BCD))
 unfolding combinesTo someCombination combined times some bits Σℕ tabFrom
 BCD-lost = refl
 
 -- ---- choices
 
--- the four choices of AD and ABC: none, each by itself, and both; and of AB, BC, CD the choice 5, the first and the third
+-- R5: the four choices of AD and ABC: none, each by itself, and both; and of AB, BC, CD the choice 5, the first and the third
 by-choice : tab 4 (λ c. combined 0 c (AD ∷ ABC ∷ [])) ++ (combined 0 5 (AB ∷ BC ∷ CD ∷ []) ∷ []) ≡ 0 ∷ AD ∷ ABC ∷ BCD ∷ 15 ∷ []
 unfolding combined times bits Σℕ tabFrom
 by-choice = refl

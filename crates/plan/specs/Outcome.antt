@@ -14,20 +14,22 @@ use lib.Dec.{eqb, ltb}
 pub data Refusal : Type 0 where
   refusal : ℕ → Bool → Refusal
 
--- "The lowest number that applies is returned alone": of refusals in rising order the first that holds, 0 where none does
+-- L1: "The lowest number that applies is returned alone": of refusals in rising order the first that holds, 0 where none does
 abbrev pub lowest : List Refusal → ℕ
 lowest [] = 0
 lowest (refusal n holds ∷ rest) = cond holds n (lowest rest)
 
--- where the numbers rise, the first that holds is the lowest (`Laws/Lowest.antt`)
+-- L1: where the numbers rise, the first that holds is the lowest (`Laws/Lowest.antt`)
 abbrev pub rising : ℕ → List Refusal → Bool
 rising last [] = true
 rising last (refusal n holds ∷ rest) = ltb last n && rising n rest
 
+-- L1
 abbrev pub applies : ℕ → List Refusal → Bool
 applies m [] = false
 applies m (refusal n holds ∷ rest) = (eqb m n && holds) || applies m rest
 
+-- D1.6: "it refuses faulty input with one of thirteen numbers"
 pub data Outcome (A : Type 0) : Type 0 where
   given : A → Outcome A
   refused : ℕ → Outcome A
@@ -40,6 +42,6 @@ refusedOf (refused n) = n
 abbrev pub outcome : {A : Type 0} → ℕ → A → Outcome A
 outcome n v = cond (eqb n 0) (given v) (refused n)
 
--- "and no lent place changes"
+-- L2: "and no lent place changes"; D1.8: "writes nothing at all"
 abbrev pub written : {A : Type 0} → ℕ → A → A → A
 written n new old = cond (eqb n 0) new old

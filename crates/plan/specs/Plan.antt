@@ -19,30 +19,32 @@ use Rattle.contrasts.specs.Totals.{size}
 use Rattle.plan.specs.declared.types.Plan.{Plan}
 use Rattle.words.specs.Words.{combined}
 
--- "Places beyond a plan's counts are ignored"
+-- P10: "Places beyond a plan's counts are ignored"
 abbrev pub addedWords : Plan → List ℕ
 addedWords p = take (p .added) (p .words)
 
+-- P10
 abbrev pub addedSigns : Plan → List ℕ
 addedSigns p = take (p .added) (p .signs)
 
+-- P10
 abbrev pub blockWords : Plan → List ℕ
 blockWords p = take (p .blocks) (p .blockwords)
 
--- "k base factors", each of two levels, or each of three
+-- P2: "k base factors", each of two levels, or each of three
 unfoldable pub factorsOf : Plan → List Factor
 factorsOf p = replicate (p .k) (ofLevels (p .levels))
 
--- "There are N runs: levels to the power k."
+-- R1: "There are N runs: levels to the power k."
 abbrev pub runsOf : Plan → ℕ
 runsOf p = size (factorsOf p)
 
--- "Base factors have letters from A on, added factors the letters that follow."
+-- P5: "Base factors have letters from A on, added factors the letters that follow."
 abbrev pub allLetters : Plan → ℕ
 allLetters p = p .k + length (addedWords p)
 
--- "combinations of one or more block words": the choices of one or more of n words are the numbers from 1 to 2 ^ n - 1. Of AD and ABC the
--- choice 1 is AD, 2 is ABC, and 3, both, combines to BCD; 0 takes none.
+-- R6: "combinations of one or more block words": the choices of one or more of n words are the numbers from 1 to 2 ^ n - 1. Of AD and ABC
+-- the choice 1 is AD, 2 is ABC, and 3, both, combines to BCD; 0 takes none.
 unfoldable pub someCombination : List ℕ → (ℕ → Bool) → Bool
 someCombination ws f = some (2 ^ length ws) (λ c. ltb 0 c && f (combined 0 c ws))
 
@@ -50,6 +52,6 @@ someCombination ws f = some (2 ^ length ws) (λ c. ltb 0 c && f (combined 0 c ws
 unfoldable pub combinesTo : ℕ → List ℕ → Bool
 combinesTo w ws = someCombination ws (λ v. eqb v w)
 
--- "The confounded effects are all combinations of one or more block words."
+-- R6: "The confounded effects are all combinations of one or more block words."
 abbrev pub confoundedIn : Plan → ℕ → Bool
 confoundedIn p w = combinesTo w (blockWords p)

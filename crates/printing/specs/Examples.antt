@@ -40,6 +40,7 @@ rulesSheet =
     ∷ 4 ∷ 0 ∷ 16 ∷ 0 ∷ 0 ∷ 0 ∷ 3 ∷ 0 ∷ 0 ∷ 0 ∷ 5 ∷ 0 ∷ 0 ∷ 0 ∷ 4 ∷ 0 ∷ 0 ∷ 0 ∷ 8
     ∷ 5 ∷ 0 ∷ 4 ∷ 0 ∷ 0 ∷ 0 ∷ 1 ∷ []
 
+-- W4
 pub rules-text : textOf rulesSheet ≡ ascii "over 4\nmean 1 400\nA 1 36\nB 1 16\nAB 1 4 error\nblocks 0 0\nerror 1 4\ntotal 4 456\ncheck 12 12\n"
 unfolding textOf printed printRefused sheetTable tableText rowLines rowLine namedLine sourceLine checkLine lineOf labelOf kindWords lettersIn letterOf decimalIn tableFigures sourceOf totalSource checksOf rowsOf kindOf kindByMark marksRefused refusedWith planIn readingsOf readingAt twos big fieldsOf parse bodies bodyAt badFields badFrom wrongLength wrongRows anyBeyond isBeyond badMarks badMark withPlan planRefused badLevels badFactors mostTwo mostThree badCounts badWords badWord badSign repeated dependent losesFactor factorWord any among beyond letters combined times someCombination combinesTo some bits Σℕ Σ readingLimit factorsOf size two three tabFrom total coef* divisor* denominator weight* numeratorOf squared checkWeight round rounds rowOf degreesOf sumAt
 rules-text = refl
@@ -47,6 +48,7 @@ rules-text = refl
 abbrev pub threeSheet : List ℕ
 threeSheet = 1 ∷ 0 ∷ 2 ∷ 3 ∷ 1 ∷ 4 ∷ 0 ∷ 12 ∷ 0 ∷ 0 ∷ 0 ∷ 2 ∷ 0 ∷ 0 ∷ 0 ∷ 5 ∷ 0 ∷ 0 ∷ 0 ∷ 3 ∷ 5 ∷ 0 ∷ 2 ∷ 0 ∷ 0 ∷ []
 
+-- X2
 pub three-text : textOf threeSheet ≡ ascii "over 6\nmean 1 200\nA 2 28\nblocks 0 0\nerror 0 0\ntotal 3 228\ncheck 4 4\n"
 unfolding textOf printed printRefused sheetTable tableText rowLines rowLine namedLine sourceLine checkLine lineOf labelOf kindWords lettersIn letterOf decimalIn tableFigures sourceOf totalSource checksOf rowsOf kindOf kindByMark marksRefused refusedWith planIn readingsOf readingAt twos big fieldsOf parse bodies bodyAt badFields badFrom wrongLength wrongRows anyBeyond isBeyond badMarks badMark withPlan planRefused badLevels badFactors mostTwo mostThree badCounts badWords badWord badSign repeated dependent losesFactor factorWord any among beyond letters combined times someCombination combinesTo some bits Σℕ Σ readingLimit factorsOf size two three tabFrom total coef* divisor* denominator weight* numeratorOf squared checkWeight round rounds rowOf degreesOf sumAt
 three-text = refl
@@ -61,6 +63,7 @@ blocked-text : textOf blocked ≡ ascii "over 4\nmean 1 16\nA 1 0\nB 1 100 error
 unfolding textOf printed printRefused sheetTable tableText rowLines rowLine namedLine sourceLine checkLine lineOf labelOf kindWords lettersIn letterOf decimalIn tableFigures sourceOf totalSource checksOf rowsOf kindOf kindByMark marksRefused refusedWith planIn readingsOf readingAt twos big fieldsOf parse bodies bodyAt badFields badFrom wrongLength wrongRows anyBeyond isBeyond badMarks badMark withPlan planRefused badLevels badFactors mostTwo mostThree badCounts badWords badWord badSign repeated dependent losesFactor factorWord any among beyond letters combined times someCombination combinesTo some bits Σℕ Σ readingLimit factorsOf size two three tabFrom total coef* divisor* denominator weight* numeratorOf squared checkWeight round rounds rowOf degreesOf sumAt
 blocked-text = refl
 
+-- W3, N1, N2, N13
 refused-texts : map textOf ([] ∷ (1 ∷ 0 ∷ 2 ∷ 4 ∷ 1 ∷ 4 ∷ 0 ∷ 0 ∷ 5 ∷ 0 ∷ 0 ∷ []) ∷ (1 ∷ 0 ∷ 2 ∷ 2 ∷ 1 ∷ 4 ∷ 0 ∷ 8 ∷ 0 ∷ 0 ∷ 0 ∷ 1 ∷ 0 ∷ 0 ∷ 0 ∷ 1 ∷ 5 ∷ 0 ∷ 2 ∷ 1 ∷ 0 ∷ []) ∷ [])
     ≡ ascii "refused 1\n" ∷ ascii "refused 2\n" ∷ ascii "refused 13\n" ∷ []
 unfolding textOf printed printRefused sheetTable tableText rowLines rowLine namedLine sourceLine checkLine lineOf labelOf kindWords lettersIn letterOf decimalIn tableFigures sourceOf totalSource checksOf rowsOf kindOf kindByMark marksRefused refusedWith planIn readingsOf readingAt twos big fieldsOf parse bodies bodyAt badFields badFrom wrongLength wrongRows anyBeyond isBeyond badMarks badMark withPlan planRefused badLevels badFactors mostTwo mostThree badCounts badWords badWord badSign repeated dependent losesFactor factorWord any among beyond letters combined times someCombination combinesTo some bits Σℕ Σ readingLimit factorsOf size two three tabFrom total coef* divisor* denominator weight* numeratorOf squared checkWeight round rounds rowOf degreesOf sumAt

@@ -12,6 +12,6 @@ use Rattle.printing.specs.Printed.{textOf}
 abbrev pub Holds : List ℕ → List ℕ → ℕ → Type 0
 Holds whole buffer count = take count buffer ≡ take (length buffer) whole
 
--- "reads one sheet from standard input": the sheet is the input and not a part of it
+-- W1: "reads one sheet from standard input": the sheet is the input and not a part of it
 abbrev pub Decides : List ℕ → ℕ → Type 0
 Decides buffer count = (whole : List ℕ) → Holds whole buffer count → textOf (take count buffer) ≡ textOf whole

@@ -26,15 +26,16 @@ use Rattle.anova.specs.Table.{tableFigures, rowsOf}
 
 -- ---- the table
 
+-- W7
 abbrev pub lineOfRow : Plan → List ℕ → List ℕ → ℕ → List ℕ
 lineOfRow p marks rows w = rowLine w (degreesOf (factorsOf p) w) (getD rows w 0) (kindOf p marks w)
 
--- "Row lines, in row order"
+-- W5: "Row lines, in row order"
 unfoldable pub rowLines : Plan → List ℕ → List ℕ → ℕ → List ℕ
 rowLines p marks rows zero = []
 rowLines p marks rows (suc w) = rowLines p marks rows w ++ lineOfRow p marks rows w
 
--- the line `over`, the row lines, then "The `blocks`, `error` and `total` lines below them", and the line `check`
+-- W5, W8, W11, W12: the line `over`, the row lines, then "The `blocks`, `error` and `total` lines below them", and the line `check`
 unfoldable pub tableText : Plan → List ℕ → Figures → List ℕ → List ℕ
 tableText p marks f rows =
     namedLine (ascii "over") (f .denominator)
@@ -46,7 +47,7 @@ tableText p marks f rows =
 
 -- ---- the sheet
 
--- "any refusal prints that line alone with its number"
+-- W3: "any refusal prints that line alone with its number"
 unfoldable pub printed : ℕ → List ℕ → List ℕ
 printed n t = cond (eqb n 0) t (namedLine (ascii "refused") n)
 
@@ -59,13 +60,14 @@ sheetTable sheet =
     (tableFigures (planIn (fieldsOf sheet)) (readingsIn (fieldsOf sheet)) (marksIn (fieldsOf sheet)))
     (rowsOf (planIn (fieldsOf sheet)) (readingsIn (fieldsOf sheet)))
 
--- "Over 5,187 bytes it prints `refused 1`"
+-- W2: "Over 5,187 bytes it prints `refused 1`"
 abbrev pub longestSheet : ℕ
 longestSheet = 5187
 
--- else the number is that of the sheet; there is no column that could be too narrow
+-- W2: else the number is that of the sheet; there is no column that could be too narrow
 unfoldable pub printRefused : List ℕ → ℕ
 printRefused sheet = cond (ltb longestSheet (length sheet)) 1 (marksRefused sheet)
 
+-- W2 to W12
 unfoldable pub textOf : List ℕ → List ℕ
 textOf sheet = printed (printRefused sheet) (sheetTable sheet)

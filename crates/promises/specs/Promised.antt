@@ -1,5 +1,5 @@
--- What each call promises, whole: its answer, and every slice that it was lent to write, at exit. So a program keeps the call's promise where it
--- comes to the same for every input. That these are the calls' own promises is proved by the functions of src/, each of which is a call.
+-- What each call promises, whole: its answer, and every slice that it was lent to write, at exit. So a program keeps the call's promise
+-- where it comes to the same for every input. That these are the calls' own promises is proved by the functions of src/, each being a call.
 --
 --   Left, Read, Tabled, Printed       what a call leaves: an answer and a column; a plan too; a table with totals and rows; a text and its length
 --   promisedCheck p                   the plan check
@@ -31,6 +31,7 @@ use Rattle.printing.specs.Printed.{textOf}
 
 -- ---- what calls leave
 
+-- C1: "every public call states its result and all the slices it was handed, refusals too"
 pub record Left : Type 0 where
   pub answer : Outcome Unit
   pub column : List ℤ
@@ -52,29 +53,34 @@ pub record Printed : Type 0 where
 
 -- ---- the calls
 
+-- L3
 abbrev pub promisedCheck : Plan → Outcome Unit
 promisedCheck p = outcome (planRefused p) tt
 
--- the letters that are high, and the block
+-- R7 to R9: the letters that are high, and the block
 abbrev pub promisedRun : Plan → ℕ → Outcome (ℕ × ℕ)
 promisedRun p r = outcome (runRefused p r) (runValues p r)
 
--- the base word, and whether the sign turns
+-- E8: the base word, and whether the sign turns
 abbrev pub promisedAlias : Plan → ℕ → Outcome (ℕ × Bool)
 promisedAlias p e = outcome (aliasRefused p e) (aliasValues p e)
 
+-- T13, T14
 abbrev pub promisedPass : Plan → ℕ → List ℤ → Left
 promisedPass p f column = record { answer = outcome (passRefused p f column) tt; column = passColumn p f column }
 
+-- T13, T14
 abbrev pub promisedStep : Plan → List ℤ → List ℤ → Left
 promisedStep p from to = record { answer = outcome (stepRefused p from to) tt; column = stepColumn p from to }
 
+-- T2
 abbrev pub promisedTotals : Plan → List ℤ → List ℤ → Left
 promisedTotals p readings totals = record {
   answer = outcome (totalsRefused p readings totals) tt;
   column = totalsColumn p readings totals;
 }
 
+-- V11 to V13
 abbrev pub promisedTable : Plan → List ℤ → List ℕ → List ℤ → List ℕ → Tabled
 promisedTable p readings marks totals rows = record {
   answer = outcome (tableRefused p readings marks totals rows) (tableFigures p readings marks);
@@ -82,9 +88,11 @@ promisedTable p readings marks totals rows = record {
   rows = tableRows p readings marks totals rows;
 }
 
+-- E1
 abbrev pub promisedEstimate : Plan → ℕ → ℤ → Outcome Value
 promisedEstimate p e total = outcome (estimateRefused p e total) (estimateValue p e total)
 
+-- S9 to S11
 abbrev pub promisedRead : List ℕ → List ℤ → Read
 promisedRead sheet column = record {
   answer = outcome (readRefused sheet (length column)) tt;
@@ -92,8 +100,10 @@ promisedRead sheet column = record {
   column = readColumn sheet column;
 }
 
+-- S12, S13
 abbrev pub promisedMarks : List ℕ → List ℕ
 promisedMarks sheet = marksOf sheet
 
+-- W2 to W12
 abbrev pub promisedPrint : List ℕ → List ℕ → Printed
 promisedPrint sheet text = record { count = length (textOf sheet); buffer = textOf sheet ++ drop (length (textOf sheet)) text }

@@ -19,31 +19,31 @@ use Rattle.contrasts.specs.Limits.{mostTwo}
 use Rattle.plan.specs.declared.types.Plan.{Plan}
 use Rattle.plan.specs.Plan.{confoundedIn}
 
--- "There are R rows, 2 to the power k, numbered by their set of base letters."
+-- V1: "There are R rows, 2 to the power k, numbered by their set of base letters."
 abbrev pub rowsIn : Plan → ℕ
 rowsIn p = 2 ^ p .k
 
 unfoldable pub rowCount : Plan → ℕ
 rowCount p = cond (ltb mostTwo (p .k)) 0 (rowsIn p)
 
--- 11: "[..] rows or marks not [..] R, R long"
+-- N11: "[..] rows or marks not [..] R, R long"
 unfoldable pub wrongRows : Plan → ℕ → Bool
 wrongRows p n = not (eqb n (rowsIn p))
 
 -- ---- kinds
 
--- "Row 0 is the mean. Confounded rows are blocks. Rows with mark 1 are error; mark 0 keeps any other row."
+-- V6 to V9: "Row 0 is the mean. Confounded rows are blocks. Rows with mark 1 are error; mark 0 keeps any other row."
 pub data Kind : Type 0 where
   meanRow : Kind
   blocksRow : Kind
   errorRow : Kind
   keptRow : Kind
 
--- "Rows with mark 1 are error; mark 0 keeps any other row."
+-- V8, V9: "Rows with mark 1 are error; mark 0 keeps any other row."
 unfoldable pub kindByMark : ℕ → Kind
 kindByMark m = cond (eqb m 1) errorRow keptRow
 
--- "Row 0 is the mean. Confounded rows are blocks."
+-- V6, V7: "Row 0 is the mean. Confounded rows are blocks."
 unfoldable pub kindOf : Plan → List ℕ → ℕ → Kind
 kindOf p marks w = cond (eqb w 0) meanRow (cond (confoundedIn p w) blocksRow (kindByMark (getD marks w 0)))
 
@@ -67,9 +67,10 @@ kindsOf p marks = tab 1024 (λ w. codeOf (kindOf p marks w))
 
 -- ---- refusal 13
 
--- 13: "mark over 1, or mark 1 on the mean or a blocks row"
+-- N13: "mark over 1, or mark 1 on the mean or a blocks row"
 unfoldable pub badMark : Plan → ℕ → ℕ → Bool
 badMark p w m = ltb 1 m || (eqb m 1 && (eqb w 0 || confoundedIn p w))
 
+-- N13
 unfoldable pub badMarks : Plan → List ℕ → Bool
 badMarks p marks = some (length marks) (λ w. badMark p w (getD marks w 0))

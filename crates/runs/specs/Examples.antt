@@ -19,29 +19,32 @@ use Rattle.plan.specs.Plan.{factorsOf, someCombination, combinesTo}
 use Rattle.plan.specs.Check.{badLevels, badFactors, badCounts, badWord, badSign, badWords, dependent, factorWord, losesFactor, planRefused, withPlan}
 use Rattle.runs.specs.Run.{highBy, highIn, highLetters, blockNumber, runRefused}
 
--- the eight runs (1), a, b, ab, c, ac, bc, abc; D is 8
+-- P8: the eight runs (1), a, b, ab, c, ac, bc, abc; D is 8
 high-D : tab 8 (highLetters 3 (ABC ∷ []) (0 ∷ [])) ≡ 0 ∷ 9 ∷ 10 ∷ 3 ∷ 12 ∷ 5 ∷ 6 ∷ 15 ∷ []
 unfolding highLetters highIn highBy oddIn shared bits Σℕ tabFrom
 high-D = refl
 
+-- P9
 high-turned : tab 8 (highLetters 3 (ABC ∷ []) (1 ∷ [])) ≡ 8 ∷ 1 ∷ 2 ∷ 11 ∷ 4 ∷ 13 ∷ 14 ∷ 7 ∷ []
 unfolding highLetters highIn highBy oddIn shared bits Σℕ tabFrom
 high-turned = refl
 
--- bit 0 for the first block word
+-- R4: bit 0 for the first block word
 two-blocks : tab 8 (blockNumber (ABC ∷ [])) ≡ 0 ∷ 1 ∷ 1 ∷ 0 ∷ 1 ∷ 0 ∷ 0 ∷ 1 ∷ []
 unfolding blockNumber oddIn shared bits Σℕ tabFrom
 two-blocks = refl
 
+-- R4
 four-blocks : tab 16 (blockNumber (AD ∷ ABC ∷ [])) ≡ 0 ∷ 3 ∷ 2 ∷ 1 ∷ 2 ∷ 1 ∷ 0 ∷ 3 ∷ 1 ∷ 2 ∷ 3 ∷ 0 ∷ 3 ∷ 0 ∷ 1 ∷ 2 ∷ []
 unfolding blockNumber oddIn shared bits Σℕ tabFrom
 four-blocks = refl
 
+-- N9: "levels 3, k = 1"
 refusal-9 : runRefused (plan 3 1 [] [] []) 0 ≡ 9
 unfolding runRefused withPlan planRefused badLevels badFactors mostTwo mostThree badCounts badWords badWord badSign repeated dependent losesFactor factorWord any among beyond letters combined times someCombination combinesTo some bits Σℕ
 refusal-9 = refl
 
--- k = 2: runs 3 and 4
+-- N10: k = 2, runs 3 and 4
 refusal-10 : tab 2 (λ i. runRefused (plan 2 2 [] [] []) (3 + i)) ≡ 0 ∷ 10 ∷ []
 unfolding runRefused withPlan planRefused badLevels badFactors mostTwo mostThree badCounts badWords badWord badSign repeated dependent losesFactor factorWord any among beyond letters combined times someCombination combinesTo some bits Σℕ tabFrom factorsOf size two
 refusal-10 = refl

@@ -21,34 +21,37 @@ use Rattle.plan.specs.Outcome.{Refusal, refusal, Outcome, given, refused}
 use Rattle.plan.specs.Plan.{addedWords, addedSigns, blockWords, runsOf}
 use Rattle.plan.specs.Check.{withPlan}
 
--- "With sign 0 it is high in a run exactly when an odd number of its word's letters are high. With sign 1 it is the other way round."
+-- P8: "With sign 0 it is high in a run exactly when an odd number of its word's letters are high."
+-- P9: "With sign 1 it is the other way round."
 unfoldable pub highBy : ℕ → ℕ → ℕ → Bool
 highBy sign word r = cond (eqb sign 0) (oddIn r word) (not (oddIn r word))
 
--- "Run numbers have A as the lowest digit, 0 for the low level." "Base factors have letters from A on, added factors the letters that
--- follow."
+-- R2: "Run numbers have A as the lowest digit, 0 for the low level."
+-- P5: "Base factors have letters from A on, added factors the letters that follow."
 unfoldable pub highIn : ℕ → List ℕ → List ℕ → ℕ → ℕ → Bool
 highIn k words signs r i = cond (ltb i k) (has r i) (highBy (getD signs (i - k) 0) (getD words (i - k) 0) r)
 
--- "a 16-bit set of the letters that are high, added factors included"
+-- R8: "a 16-bit set of the letters that are high, added factors included"
 unfoldable pub highLetters : ℕ → List ℕ → List ℕ → ℕ → ℕ
 highLetters k words signs r = wordOf (k + length words) (highIn k words signs r)
 
--- "A run's block number has, for block word j counted from 0, bit j set when an odd number of that word's letters are high."
+-- R4: "A run's block number has, for block word j counted from 0, bit j set when an odd number of that word's letters are high."
 unfoldable pub blockNumber : List ℕ → ℕ → ℕ
 blockNumber words r = wordOf (length words) (λ j. oddIn r (getD words j 0))
 
--- the values of the run call
+-- R8, R9: the values of the run call
 abbrev pub runValues : Plan → ℕ → ℕ × ℕ
 runValues p r = (highLetters (p .k) (addedWords p) (addedSigns p) r, blockNumber (blockWords p) r)
 
--- 9: "estimate, alias or run call asked at three levels"; 10: "run number not in the plan"
+-- L7: "the run and alias calls 9, 10"
+-- N9: "estimate, alias or run call asked at three levels"; N10: "run number not in the plan"
 abbrev pub runRefusals : Plan → ℕ → List Refusal
 runRefusals p r = refusal 9 (eqb (p .levels) 3) ∷ refusal 10 (leb (runsOf p) r) ∷ []
 
 unfoldable pub runRefused : Plan → ℕ → ℕ
 runRefused p r = withPlan p (runRefusals p r)
 
+-- F12
 abbrev pub runOutcome : Run → Outcome (ℕ × ℕ)
 runOutcome (Treatment high block) = given (high, block)
 runOutcome (Refused n) = refused n

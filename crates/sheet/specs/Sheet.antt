@@ -25,7 +25,8 @@ use Rattle.contents.specs.Contents.{planIn, readingsIn, marksIn}
 
 -- ---- what is refused
 
--- 11: "readings [..] or marks not N, [..] R long; [..] reader's column under N", where `narrow` says the last
+-- L5: "the reader gives 1, 11, 12, 13"
+-- N11: "readings [..] or marks not N, [..] R long; [..] reader's column under N", where `narrow` says the last
 abbrev pub sheetRefusals : Fields → Plan → Bool → List Refusal
 sheetRefusals fs p narrow =
     refusal 11 (narrow || (wrongLength p (length (readingsIn fs)) || wrongRows p (length (marksIn fs))))
@@ -33,7 +34,7 @@ sheetRefusals fs p narrow =
     ∷ refusal 13 (badMarks p (marksIn fs))
     ∷ []
 
--- refusal 1 before all others, then the plan's own numbers, then these
+-- L5: refusal 1 before all others, then the plan's own numbers, then these
 unfoldable pub refusedWith : Fields → Plan → Bool → ℕ
 refusedWith fs p narrow = cond (badFields fs) 1 (withPlan p (sheetRefusals fs p narrow))
 
@@ -42,18 +43,19 @@ sheetRefused fs narrow = refusedWith fs (planIn fs) narrow
 
 -- ---- the reader, of a sheet and a column
 
--- "reader's column under N"
+-- N11: "reader's column under N"
 unfoldable pub readRefused : List ℕ → ℕ → ℕ
 readRefused sheet room = sheetRefused (fieldsOf sheet) (ltb room (runsOf (planIn (fieldsOf sheet))))
 
+-- C3: the rules leave free what plan a refused sheet has
 abbrev pub noPlan : Plan
 noPlan = record { levels = 0; k = 0; added = 0; words = replicate mostAdded 0; signs = replicate mostAdded 0; blocks = 0; blockwords = replicate mostBlocks 0 }
 
--- "The reader returns the plan"
+-- S9: "The reader returns the plan"
 unfoldable pub readPlan : List ℕ → ℕ → Plan
 readPlan sheet room = written (readRefused sheet room) (planIn (fieldsOf sheet)) noPlan
 
--- "and fills the first N places of a lent i32 column of N or more; later places keep their numbers"
+-- S10, S11: "and fills the first N places of a lent i32 column of N or more; later places keep their numbers"
 unfoldable pub readColumn : List ℕ → List ℤ → List ℤ
 readColumn sheet column =
     written
@@ -63,11 +65,11 @@ readColumn sheet column =
 
 -- ---- the marks call
 
--- "11 (without the column)"
+-- L6: "11 (without the column)"
 unfoldable pub marksRefused : List ℕ → ℕ
 marksRefused sheet = sheetRefused (fieldsOf sheet) false
 
--- "hands back the marks as the part of the sheet that holds them; [..] if the sheet is refused, an empty part"; its bytes, and not
--- where they lie (docs/DECISIONS.md 76)
+-- S12, S13: "hands back the marks as the part of the sheet that holds them; [..] if the sheet is refused, an empty part"; its bytes, and
+-- not where they lie (docs/DECISIONS.md 76)
 unfoldable pub marksOf : List ℕ → List ℕ
 marksOf sheet = written (marksRefused sheet) (marksIn (fieldsOf sheet)) []

@@ -35,14 +35,17 @@ readings = pos 3 ∷ pos 5 ∷ pos 4 ∷ pos 8 ∷ []
 abbrev other : List ℤ
 other = pos 409_600_001 ∷ pos 7 ∷ pos 7 ∷ pos 7 ∷ []
 
+-- X1
 four-steps : stepColumn four (stepColumn four readings other) other ≡ pos 20 ∷ neg 6 ∷ neg 4 ∷ pos 2 ∷ []
 unfolding stepColumn columnsRefused withPlan planRefused badLevels badFactors mostTwo mostThree badCounts badWords badWord badSign repeated dependent losesFactor factorWord any among beyond letters combined times someCombination combinesTo some bits Σℕ wrongLength anyBeyond isBeyond valueLimit factorsOf size two stepOf step Σ tabFrom
 four-steps = refl
 
+-- X2
 three-step : stepColumn (plan 3 1 [] [] []) (pos 2 ∷ pos 5 ∷ pos 3 ∷ []) (pos 0 ∷ pos 0 ∷ pos 0 ∷ []) ≡ pos 10 ∷ neg 1 ∷ neg 5 ∷ []
 unfolding stepColumn columnsRefused withPlan planRefused badLevels badFactors mostTwo mostThree badCounts badWords badWord badSign repeated dependent losesFactor factorWord any among beyond letters combined times someCombination combinesTo some bits Σℕ wrongLength anyBeyond isBeyond valueLimit factorsOf size three stepOf step Σ tabFrom
 three-step = refl
 
+-- N11, N12
 small-inputs : stepRefused four (pos 3 ∷ []) other
     ∷ stepRefused four readings (pos 3 ∷ [])
     ∷ stepRefused four other readings

@@ -14,13 +14,14 @@ use Rattle.plan.specs.Outcome.{Refusal, written}
 use Rattle.plan.specs.Plan.{runsOf}
 use Rattle.columns.specs.Refusals.{columnsRefusals, columnsRefused}
 
--- 11: "pass or step column not N"; 12: "pass or step value beyond 409,600,000 either way"
+-- L10: "the step 11, 12"
+-- N11: "pass or step column not N"; N12: "pass or step value beyond 409,600,000 either way"
 abbrev pub stepRefusals : Plan → List ℤ → List ℤ → List Refusal
 stepRefusals p from to = columnsRefusals valueLimit p from to
 
 abbrev pub stepRefused : Plan → List ℤ → List ℤ → ℕ
 stepRefused p from to = columnsRefused valueLimit p from to
 
--- "the step reads one column of N and writes another"
+-- T14: "the step reads one column of N and writes another"
 unfoldable pub stepColumn : Plan → List ℤ → List ℤ → List ℤ
 stepColumn p from to = written (stepRefused p from to) (stepOf (runsOf p) (ofLevels (p .levels)) from) to

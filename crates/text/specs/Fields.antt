@@ -17,11 +17,12 @@ use Rattle.text.specs.Text.{ascii}
 unfoldable pub letterOf : ℕ → ℕ → List ℕ
 letterOf w i = cond (has w i) ((65 + i) ∷ []) []
 
--- "the row's letters, A first"
+-- W6: "the row's letters, A first"
 unfoldable pub lettersIn : ℕ → ℕ → List ℕ
 lettersIn zero w = []
 lettersIn (suc i) w = lettersIn i w ++ letterOf w i
 
+-- W6
 abbrev pub lettersOf : ℕ → List ℕ
 lettersOf w = lettersIn 16 w
 

@@ -18,17 +18,19 @@ use Rattle.algebra.specs.Naturals.{Σℕ}
 use Rattle.algebra.specs.Bits.{bit, bits, isSet}
 use Rattle.algebra.specs.Search.{some}
 
--- "A word is a 16-bit set of base letters, bit 0 for A."
+-- P6: "A word is a 16-bit set of base letters, bit 0 for A."
 abbrev pub letter : ℕ → ℕ → ℕ
 letter w i = bit w i
 
+-- P6
 abbrev pub has : ℕ → ℕ → Bool
 has w i = isSet w i
 
+-- P6
 unfoldable pub letters : ℕ → ℕ
 letters w = Σℕ 16 (letter w)
 
--- "letter beyond k"
+-- N5: "letter beyond k"
 unfoldable pub beyond : ℕ → ℕ → Bool
 beyond n w = some 16 (λ i. leb n i && has w i)
 
@@ -41,16 +43,16 @@ odd n = eqb (n % 2) 1
 unfoldable pub shared : ℕ → ℕ → ℕ
 shared a b = Σℕ 16 (λ i. letter a i * letter b i)
 
--- "an odd number of its word's letters are high": of the run's letters that are high, and the word's
+-- P8: "an odd number of its word's letters are high": of the run's letters that are high, and the word's
 unfoldable pub oddIn : ℕ → ℕ → Bool
 oddIn run w = odd (shared run w)
 
--- how often letter i occurs in the word w and those of the words ws that are chosen; a choice is a set of their places, bit j for word j. Of AB,
--- BC, CD the choice 5, bits 0 and 2, takes AB and CD, which combine to ABCD.
+-- how often letter i occurs in the word w and those of the words ws that are chosen; a choice is a set of their places, bit j for word j.
+-- Of AB, BC, CD the choice 5, bits 0 and 2, takes AB and CD, which combine to ABCD.
 unfoldable pub times : ℕ → ℕ → List ℕ → ℕ → ℕ
 times w choice ws i = letter w i + Σℕ (length ws) (λ j. letter choice j * letter (getD ws j 0) i)
 
--- "Combining words keeps the letters that occur an odd number of times."
+-- R5: "Combining words keeps the letters that occur an odd number of times."
 unfoldable pub combined : ℕ → ℕ → List ℕ → ℕ
 combined w choice ws = wordOf 16 (λ i. odd (times w choice ws i))
 
@@ -60,6 +62,6 @@ any f ws = some (length ws) (λ j. f (getD ws j 0))
 unfoldable pub among : ℕ → List ℕ → Bool
 among w ws = any (λ v. eqb v w) ws
 
--- one word is there twice: it is among those before it
+-- N6: one word is there twice: it is among those before it
 unfoldable pub repeated : List ℕ → Bool
 repeated ws = some (length ws) (λ j. among (getD ws j 0) (take j ws))

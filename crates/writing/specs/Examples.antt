@@ -33,6 +33,7 @@ use Rattle.writing.specs.Writer.{bytes, bytesOf, each, readingBytes, she
 abbrev four : List ℤ
 four = pos 3 ∷ pos 5 ∷ pos 4 ∷ pos 8 ∷ []
 
+-- W4
 abbrev sample : List ℕ
 sample =
     1 ∷ 0 ∷ 2 ∷ 2 ∷ 2
@@ -43,7 +44,7 @@ sample-written : sheetOf (plan 2 2 [] [] []) four (0 ∷ 0 ∷ 0 ∷ 1 ∷ []) �
 unfolding sheetOf sheetFields bytesOf each readingBytes bytes
 sample-written = refl
 
--- the plan; the first four of six places; the marks
+-- S9 to S12: the plan; the first four of six places; the marks
 sample-plan : readPlan sample 6 ≡ plan 2 2 [] [] []
 unfolding readPlan readRefused refusedWith planIn readingsOf readingAt twos big fieldsOf parse bodies bodyAt badFields badFrom wrongLength wrongRows anyBeyond isBeyond badMarks badMark withPlan planRefused badLevels badFactors mostTwo mostThree badCounts badWords badWord badSign repeated dependent losesFactor factorWord any among beyond letters combined times someCombination combinesTo some bits Σℕ readingLimit factorsOf size two three tabFrom
 sample-plan = refl
@@ -56,12 +57,12 @@ sample-marks : marksOf sample ≡ 0 ∷ 0 ∷ 0 ∷ 1 ∷ []
 unfolding marksOf marksRefused refusedWith planIn readingsOf readingAt twos big fieldsOf parse bodies bodyAt badFields badFrom wrongLength wrongRows anyBeyond isBeyond badMarks badMark withPlan planRefused badLevels badFactors mostTwo mostThree badCounts badWords badWord badSign repeated dependent losesFactor factorWord any among beyond letters combined times someCombination combinesTo some bits Σℕ readingLimit factorsOf size two three tabFrom
 sample-marks = refl
 
--- a column of three places: nothing is written, and the plan is all zeros
+-- N11, L2: a column of three places: nothing is written, and the plan is all zeros
 narrow : (readRefused sample 3 ≡ 11) × (readPlan sample 3 ≡ noPlan) × (readColumn sample (replicate 3 (pos 9)) ≡ replicate 3 (pos 9))
 unfolding readPlan readColumn readRefused refusedWith planIn readingsOf readingAt twos big fieldsOf parse bodies bodyAt badFields badFrom wrongLength wrongRows anyBeyond isBeyond badMarks badMark withPlan planRefused badLevels badFactors mostTwo mostThree badCounts badWords badWord badSign repeated dependent losesFactor factorWord any among beyond letters combined times someCombination combinesTo some bits Σℕ readingLimit factorsOf size two three tabFrom
 narrow = (refl, refl, refl)
 
--- the small inputs of refusals 1 to 8, 11, 12 and 13; and seven added factors
+-- N1 to N8, N11 to N13: the small inputs; and seven added factors
 abbrev refusedSheets : List (List ℕ)
 refusedSheets =
     []
@@ -82,7 +83,7 @@ small-inputs : map (λ sheet. readRefused sheet 8) refusedSheets ≡ 1 ∷ 2 ∷
 unfolding sheetOf sheetFields bytesOf each readingBytes bytes readRefused refusedWith planIn readingsOf readingAt twos big fieldsOf parse bodies bodyAt badFields badFrom wrongLength wrongRows anyBeyond isBeyond badMarks badMark withPlan planRefused badLevels badFactors mostTwo mostThree badCounts badWords badWord badSign repeated dependent losesFactor factorWord any among beyond letters combined times someCombination combinesTo some bits Σℕ readingLimit factorsOf size two three tabFrom
 small-inputs = refl
 
--- "if the sheet is refused, an empty part"; of `sample`, which only a narrow column has refused, it gives the marks all the same
+-- S13: "if the sheet is refused, an empty part"; of `sample`, which only a narrow column has refused, it gives the marks all the same
 no-marks : map marksOf refusedSheets ≡ replicate 12 []
 unfolding sheetOf sheetFields bytesOf each readingBytes bytes marksOf marksRefused refusedWith planIn readingsOf readingAt twos big fieldsOf parse bodies bodyAt badFields badFrom wrongLength wrongRows anyBeyond isBeyond badMarks badMark withPlan planRefused badLevels badFactors mostTwo mostThree badCounts badWords badWord badSign repeated dependent losesFactor factorWord any among beyond letters combined times someCombination combinesTo some bits Σℕ readingLimit factorsOf size two three tabFrom
 no-marks = refl

@@ -20,12 +20,12 @@ use Rattle.contrasts.specs.Limits.{mostAdded, mostBlocks}
 use Rattle.plan.specs.declared.types.Plan.{Plan}
 use Rattle.fields.specs.Fields.{Fields, end, cut, field}
 
--- "All numbers are big-endian."
+-- S2: "All numbers are big-endian."
 unfoldable pub bytes : ℕ → ℕ → List ℕ
 bytes zero x = []
 bytes (suc n) x = (x / 256 ^ n) % 256 ∷ bytes n x
 
--- "Each field is a one-byte tag, a two-byte length and its body."
+-- S1: "Each field is a one-byte tag, a two-byte length and its body."
 unfoldable pub bytesOf : Fields → List ℕ
 bytesOf end = []
 bytesOf cut = []
@@ -35,25 +35,25 @@ unfoldable pub each : ℕ → ℕ → (ℕ → List ℕ) → Fields → Fields
 each t zero body rest = rest
 each t (suc n) body rest = field t (body 0) (each t n (λ i. body (suc i)) rest)
 
--- "in two's complement"
+-- S7: "in two's complement"
 abbrev pub complement : ℤ → ℕ
 complement (pos n) = n
 complement (negsuc n) = 2 ^ 32 - suc n
 
--- "readings, 4 bytes each"
+-- S7: "readings, 4 bytes each"
 unfoldable pub readingBytes : List ℤ → List ℕ
 readingBytes [] = []
 readingBytes (x ∷ xs) = bytes 4 (complement x) ++ readingBytes xs
 
--- "word, sign byte"
+-- S5: "word, sign byte"
 abbrev pub addedBody : Plan → ℕ → List ℕ
 addedBody p i = bytes 2 (getD (p .words) i 0) ++ (getD (p .signs) i 0 ∷ [])
 
--- "the word"
+-- S6: "the word"
 abbrev pub blockBody : Plan → ℕ → List ℕ
 blockBody p i = bytes 2 (getD (p .blockwords) i 0)
 
--- "Tag 1, once [..]. Tag 2, per added factor [..]. Tag 3, per block word [..]. Tag 4, once [..]. Tag 5, once [..]."
+-- S4 to S8: "Tag 1, once [..]. Tag 2, per added factor [..]. Tag 3, per block word [..]. Tag 4, once [..]. Tag 5, once [..]."
 unfoldable pub sheetFields : Plan → List ℤ → List ℕ → Fields
 sheetFields p xs marks =
     field 1 (p .levels ∷ p .k ∷ []) (each 2 (p .added) (addedBody p) (each 3 (p .blocks) (blockBody p) (field 4 (readingBytes xs) (field 5 marks end))))
@@ -61,7 +61,7 @@ sheetFields p xs marks =
 unfoldable pub sheetOf : Plan → List ℤ → List ℕ → List ℕ
 sheetOf p xs marks = bytesOf (sheetFields p xs marks)
 
--- "Places beyond a plan's counts are ignored; the reader sets them to 0."
+-- P10, P11: "Places beyond a plan's counts are ignored; the reader sets them to 0."
 unfoldable pub settled : Plan → Plan
 settled p = record {
   levels = p .levels;

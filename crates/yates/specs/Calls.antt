@@ -17,24 +17,26 @@ use Rattle.plan.specs.Outcome.{Refusal, refusal, written}
 use Rattle.plan.specs.Plan.{factorsOf}
 use Rattle.columns.specs.Refusals.{wrongLength, anyBeyond, columnsRefusals, columnsRefused}
 
--- 10: "pass factor [..] not a base factor"; 11: "pass or step column not N"; 12: "pass or step value beyond 409,600,000 either way"
+-- L9: "the pass 10, 11, 12"
+-- N10: "pass factor [..] not a base factor"; N11: "pass or step column not N";
+-- N12: "pass or step value beyond 409,600,000 either way"
 abbrev pub passRefusals : Plan → ℕ → List ℤ → List Refusal
 passRefusals p f xs = refusal 10 (leb (p .k) f) ∷ refusal 11 (wrongLength p (length xs)) ∷ refusal 12 (anyBeyond valueLimit xs) ∷ []
 
 unfoldable pub passRefused : Plan → ℕ → List ℤ → ℕ
 passRefused p f xs = withPlan p (passRefusals p f xs)
 
--- "The pass works in one column of N"
+-- T14: "The pass works in one column of N"
 unfoldable pub passColumn : Plan → ℕ → List ℤ → List ℤ
 passColumn p f xs = written (passRefused p f xs) (passOf (factorsOf p) f xs) xs
 
--- 11: "readings, totals [..] not N [..] long"; 12: "reading beyond 100,000 either way"
+-- N11: "readings, totals [..] not N [..] long"; N12: "reading beyond 100,000 either way"
 abbrev pub totalsRefusals : Plan → List ℤ → List ℤ → List Refusal
 totalsRefusals p readings totals = columnsRefusals readingLimit p readings totals
 
 abbrev pub totalsRefused : Plan → List ℤ → List ℤ → ℕ
 totalsRefused p readings totals = columnsRefused readingLimit p readings totals
 
--- "Totals are i64, N of them."
+-- T2: "Totals are i64, N of them."
 unfoldable pub totalsColumn : Plan → List ℤ → List ℤ → List ℤ
 totalsColumn p readings totals = written (totalsRefused p readings totals) (totalsOf (factorsOf p) readings) totals

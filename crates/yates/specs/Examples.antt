@@ -37,23 +37,28 @@ three-runs = plan 3 1 [] [] []
 abbrev readings : List ℤ
 readings = pos 3 ∷ pos 5 ∷ pos 4 ∷ pos 8 ∷ []
 
+-- X1
 four-passes : passColumn four 1 (passColumn four 0 readings) ≡ pos 20 ∷ neg 6 ∷ neg 4 ∷ pos 2 ∷ []
 unfolding passColumn passRefused withPlan planRefused badLevels badFactors mostTwo mostThree badCounts badWords badWord badSign repeated dependent losesFactor factorWord any among beyond letters combined times someCombination combinesTo some bits Σℕ wrongLength anyBeyond isBeyond valueLimit factorsOf size two passOf passFrom passAt Σ tabFrom
 four-passes = refl
 
+-- X1
 four-turned : passColumn four 0 (passColumn four 1 readings) ≡ pos 20 ∷ neg 6 ∷ neg 4 ∷ pos 2 ∷ []
 unfolding passColumn passRefused withPlan planRefused badLevels badFactors mostTwo mostThree badCounts badWords badWord badSign repeated dependent losesFactor factorWord any among beyond letters combined times someCombination combinesTo some bits Σℕ wrongLength anyBeyond isBeyond valueLimit factorsOf size two passOf passFrom passAt Σ tabFrom
 four-turned = refl
 
+-- X1
 four-totals : totalsColumn four readings readings ≡ pos 20 ∷ neg 6 ∷ neg 4 ∷ pos 2 ∷ []
 unfolding totalsColumn columnsRefused withPlan planRefused badLevels badFactors mostTwo mostThree badCounts badWords badWord badSign repeated dependent losesFactor factorWord any among beyond letters combined times someCombination combinesTo some bits Σℕ wrongLength anyBeyond isBeyond readingLimit factorsOf size two totalsOf total coef* Σ tabFrom
 four-totals = refl
 
+-- X2
 three-totals : totalsColumn three-runs (pos 2 ∷ pos 5 ∷ pos 3 ∷ []) (pos 0 ∷ pos 0 ∷ pos 0 ∷ []) ≡ pos 10 ∷ neg 1 ∷ neg 5 ∷ []
 unfolding totalsColumn columnsRefused withPlan planRefused badLevels badFactors mostTwo mostThree badCounts badWords badWord badSign repeated dependent losesFactor factorWord any among beyond letters combined times someCombination combinesTo some bits Σℕ wrongLength anyBeyond isBeyond readingLimit factorsOf size three totalsOf total coef* Σ tabFrom
 three-totals = refl
 
--- "k = 2, pass of C", "k = 2, 3 readings", "reading 100,001"; then a pass to which 10, 11 and 12 apply, and a totals call to which 11 and 12 do
+-- N10: "k = 2, pass of C"; N11: "k = 2, 3 readings"; N12: "reading 100,001"
+-- L1: then a pass to which 10, 11 and 12 apply, and a totals call to which 11 and 12 do
 small-inputs : passRefused four 2 readings
     ∷ totalsRefused four (pos 3 ∷ pos 5 ∷ pos 4 ∷ []) readings
     ∷ totalsRefused four (pos 3 ∷ pos 5 ∷ pos 4 ∷ pos 100_001 ∷ []) readings
@@ -64,6 +69,7 @@ small-inputs : passRefused four 2 readings
 unfolding passRefused columnsRefused withPlan planRefused badLevels badFactors mostTwo mostThree badCounts badWords badWord badSign repeated dependent losesFactor factorWord any among beyond letters combined times someCombination combinesTo some bits Σℕ wrongLength anyBeyond isBeyond readingLimit valueLimit factorsOf size two
 small-inputs = refl
 
+-- N12
 at-limits : passRefused (plan 2 1 [] [] []) 0 (pos 409_600_000 ∷ neg 409_600_000 ∷ [])
     ∷ passRefused (plan 2 1 [] [] []) 0 (pos 0 ∷ neg 409_600_001 ∷ [])
     ∷ totalsRefused (plan 2 1 [] [] []) (pos 100_000 ∷ neg 100_000 ∷ []) (pos 0 ∷ pos 0 ∷ [])
@@ -73,6 +79,7 @@ at-limits : passRefused (plan 2 1 [] [] []) 0 (pos 409_600_000 ∷ neg 409_600_0
 unfolding passRefused columnsRefused withPlan planRefused badLevels badFactors mostTwo mostThree badCounts badWords badWord badSign repeated dependent losesFactor factorWord any among beyond letters combined times someCombination combinesTo some bits Σℕ wrongLength anyBeyond isBeyond readingLimit valueLimit factorsOf size two
 at-limits = refl
 
+-- T25, L2
 unchanged : passColumn four 2 readings ≡ readings
 unfolding passColumn passRefused withPlan planRefused badLevels badFactors mostTwo mostThree badCounts badWords badWord badSign repeated dependent losesFactor factorWord any among beyond letters combined times someCombination combinesTo some bits Σℕ wrongLength anyBeyond isBeyond valueLimit factorsOf size two
 unchanged = refl
