@@ -11,6 +11,7 @@
 #   the map     docs/MAP.md has the groups of crates.txt, in its order: a heading ### for each, and a table with the head
 #               cell `crate` and one row for each crate
 #   arrows      what a crate depends on stands above it in crates.txt; and it depends on every crate that it names
+#   inner       no crate names the folder Inner of another
 #   sizes       README.md and the cells of docs/CLAIMS.md are short
 #   rules       numbers of rules are of docs/RULES.md where a comment in specs, or a cell or an item of a document, begins
 #               with them, as T9: or P8, P9: or V6 to V9 alone; and each rule has a row in docs/CLAIMS.md
@@ -399,6 +400,14 @@ def check_arrows(repository):
     return found + [(CRATES, 1, "crates/%s is not listed" % name) for name in sorted(folders - set(above))]
 
 
+def check_inner(repository):
+    """Files that name what only the functions of another crate ask or leave."""
+    return [(path, 1, "it names the folder Inner of the crate %s" % name)
+            for path, text in repository.own_text.items() if path.startswith("crates/")
+            for name in sorted(set(re.findall(r"Rattle·(\w+)(?:·specs)?(?:\.\w+)*\.Inner\b", text)))
+            if name != path.split("/")[1]]
+
+
 def check_sizes(repository):
     """What is longer than it may be."""
     found, count = [], len(read("README.md").splitlines())
@@ -462,7 +471,7 @@ def check_rules(repository):
 def complaints(repository):
     """All that is wrong, as file, line and words, and how many citations were compared."""
     found, count = [], 0
-    for check in (check_map, check_arrows, check_sizes, check_rules):
+    for check in (check_map, check_arrows, check_inner, check_sizes, check_rules):
         found += check(repository)
     for document in ["README.md"] + [path for path in repository.files if fnmatchcase(path, "docs/*.md")]:
         found += check_links(document)
