@@ -1,10 +1,9 @@
 -- What the table call hands to the walk, and what the walk makes of it.
 --
---   totals-made        the totals, as the totals call leaves them
---   Lists              the lists that the walk is handed
---   walk-ready         the walk stays within them, and no sum wraps
---   sums-made          what it leaves are the sums of the table
---   rows-made          and its rows
+--   totals-made           the totals, as the totals call leaves them
+--   Lists, lists-made     the lists that the walk is handed
+--   walk-ready            the walk stays within them, and no sum wraps
+--   sums-made, rows-made  what it leaves are the sums of the table, and its rows
 use mathlib.Core.Path.{_≡_, refl, sym, _∙_, ap}
 use mathlib.Core.Bool.{true, cond}
 use mathlib.Core.List.{List}
@@ -43,7 +42,7 @@ use Rattle.anova.specs.declared.walks.Sums.{Sums}
 use Rattle.anova.specs.Laws.Admitted.{rows-power, limit-fits, within-limit}
 use Rattle.anova.specs.Inner.Ready.{Walkable, TableReady}
 use Rattle.anova.specs.Table.{sourceOf, rowsOf}
-use Rattle.anova.specs.Inner.Walk.{walkNumerator, walkRow, walkKind, rowsAfter, numeratorsAfter, degreesAfter, zeros, sumsOf}
+use Rattle.anova.specs.Inner.Walk.{walkNumerator, walkRow, walkKind, rowsAfter, numeratorsAfter, degreesAfter, Walked, zeros, sumsOf}
 
 -- ---- the lists that the walk is handed
 
@@ -64,6 +63,19 @@ module _ {p : Plan} {readings : List ℤ} {marks : List ℕ} {totals : List ℤ}
       e
       ∙ sym (written-new (totalsRefused p readings totals) (totalsOf (factorsOf p) readings) totals
       (admits (record { plan = a .plan; whole = a .whole; same = a .same; within = a .within })))
+
+  pub lists-made : {ts : List ℤ} {effects : List ℕ} {d : ℕ} {ds kinds rs : List ℕ}
+      → ts ≡ totalsColumn p readings totals → effects ≡ effectRows p → d ≡ denominator (factorsOf p) → ds ≡ effectDivisors p
+      → kinds ≡ kindsOf p marks → rs ≡ zeros (length rows) → Lists p readings marks (length rows) ts effects d ds kinds rs
+  lists-made t e d s k r =
+      record {
+        totals-are = totals-made t;
+        effects-are = e;
+        denominator-is = d;
+        divisors-are = s;
+        kinds-are = k;
+        rows-are = r;
+      }
 
   -- ---- the walk
 
@@ -135,11 +147,6 @@ module _ {p : Plan} {readings : List ℤ} {marks : List ℕ} {totals : List ℤ}
 
     -- ---- what it leaves
 
-    pub rows-made : {zs : List ℕ} → zs ≡ rowsAfter ts effects d ds (length rs) (length ts) → zs ≡ rowsOf p readings
-    unfolding rowsAfter rowsOf
-    rows-made e =
-        e ∙ rw (long, rows-count) (sorted-cong (λ e h. row-is h) (λ e h. numerator-is h) (rowsIn p))
-
     numerators-made : {ns : List ℕ} → ns ≡ numeratorsAfter ts effects d ds kinds (length ts) → ns ≡ tab 4 (λ n. sourceOf p readings marks (kindIn n) .numerator)
     unfolding numeratorsAfter sourceOf
     numerators-made e =
@@ -159,8 +166,17 @@ module _ {p : Plan} {readings : List ℤ} {marks : List ℕ} {totals : List ℤ}
     sum-made : {s : ℤ} → s ≡ Σ (length ts) (read ts) → s ≡ Σ (runsOf p) (total (factorsOf p) (read readings))
     sum-made e = e ∙ rw long (Σ-cong (runsOf p) (λ e h. total-is h))
 
-    pub sums-made : (s : Sums) → s .numerators ≡ numeratorsAfter ts effects d ds kinds (length ts) → s .degrees ≡ degreesAfter effects kinds (length ts)
-        → s .totals ≡ Σ (length ts) (read ts) → s ≡ sumsOf p readings marks
-    unfolding sumsOf
-    sums-made s n d t =
-        λ i. record { numerators = numerators-made n i; degrees = degrees-made d i; totals = sum-made t i }
+    module _ {s : Sums} {zs : List ℕ} (walked : Walked ts effects d ds kinds rs s zs) where
+      pub sums-made : s ≡ sumsOf p readings marks
+      unfolding sumsOf
+      sums-made =
+          λ i. record {
+            numerators = numerators-made (walked .numerators-are) i;
+            degrees = degrees-made (walked .degrees-are) i;
+            totals = sum-made (walked .totals-are) i;
+          }
+
+      pub rows-made : zs ≡ rowsOf p readings
+      unfolding rowsAfter rowsOf
+      rows-made =
+          walked .rows-are ∙ rw (long, rows-count) (sorted-cong (λ e h. row-is h) (λ e h. numerator-is h) (rowsIn p))

@@ -1,7 +1,7 @@
 -- What the table call refuses, as the code judges it.
 --
 --   readings-wrong, totals-wrong, rows-not, by-marks    refusal 11, length by length, of an accepted plan
---   table-stopped, table-completed                        a call that is refused, and one that is not
+--   table-stopped, table-completed                      a call that is refused, and one that is not
 use mathlib.Core.Path.{_≡_, refl, _∙_, ap}
 use mathlib.Core.Bool.{true, not}
 use mathlib.Core.List.{List}

@@ -140,8 +140,16 @@ module _ {k : ℕ} {xs : List ℤ} (pre : Rounds k xs) where
           rw (third, w .long, pre .whole, ← (pow-succ' 3 (k - (i + 1))), ← next)
           (pow-le-pow-right {n = 3} (lit< tt) {i = k - i} {j = k} (omega arith))
 
+      -- a round makes a number no more than 5 times as large, and there are at most five before the last
+      at-most-five : 5 ^ i ≤ 5 ^ 5
+      at-most-five = pow-le-pow-right {n = 5} (lit< tt) {i = i} {j = 5} (omega (arith, pre .most))
+
       pub left-sets : Sets (sets / 3) ys
-      left-sets = record { whole = room; within = λ j. le-trans (w .within j) (le-trans (mul-le-mul-right readingLimit (pow-le-pow-right {n = 5} (lit< tt) {i = i} {j = 5} (omega (arith, pre .most)))) five-rounds) }
+      left-sets =
+          record {
+            whole = room;
+            within = λ j. le-trans (w .within j) (le-trans (mul-le-mul-right readingLimit at-most-five) five-rounds);
+          }
 
       pub left-more : {zs : List ℤ} → zs ≡ afterRound (sets / 3) ys → Left k xs (i + 1) (sets / 3) zs
       left-more e =
@@ -150,5 +158,10 @@ module _ {k : ℕ} {xs : List ℤ} (pre : Rounds k xs) where
             last = third;
             long = rw e (after-long (sets / 3) ys) ∙ w .long;
             within = rw (e, add-one i, pow-succ' 5 i, mul-assoc 5 (5 ^ i) readingLimit) (after-within (sets / 3) ys (5 ^ i * readingLimit) (w .within));
-            same = rw e (after-rounds (k - (i + 1)) (sets / 3) ys third (omega (arith, room)) ∙ ap (λ n. rounds (replicate n three) (read ys)) (sym next) ∙ w .same);
+            same =
+                rw e (
+                after-rounds (k - (i + 1)) (sets / 3) ys third (omega (arith, room))
+                ∙ ap (λ n. rounds (replicate n three) (read ys)) (sym next)
+                ∙ w .same
+                );
           }

@@ -28,7 +28,7 @@ use Rattle.algebra.specs.Sum.{Σ}
 use Rattle.algebra.specs.Laws.Tab.{length-tab, getD-tab}
 use Rattle.contrasts.specs.Columns.{read}
 use Rattle.anova.specs.Inner.Ready.{Weighable, Walkable}
-use Rattle.anova.specs.Inner.Walk.{walkNumerator, walkRow, walkKind, rowsAfter, numeratorsAfter, degreesAfter, zeros}
+use Rattle.anova.specs.Inner.Walk.{walkNumerator, walkRow, walkKind, rowsAfter, numeratorsAfter, degreesAfter, Walked, zeros}
 
 -- ---- rows of 0
 
@@ -102,29 +102,48 @@ module _ {ts : List ℤ} {effects : List ℕ} {d : ℕ} {ds kinds rows₀ : List
     unfolding rowsAfter
     rows-long = rw (w .rows-so) (length-tab (length rows₀) _)
 
-    pub walking-all : length ts ≤ e
-        → (ns ≡ numeratorsAfter ts effects d ds kinds (length ts))
-        × ((gs ≡ degreesAfter effects kinds (length ts))
-        × ((toZ w64 s ≡ Σ (length ts) (read ts))
-        × (rows ≡ rowsAfter ts effects d ds (length rows₀) (length ts))))
+    pub walking-all : length ts ≤ e → Walked ts effects d ds kinds rows₀ (record { numerators = ns; degrees = gs; totals = toZ w64 s }) rows
     walking-all h =
-        let z : e ≡ length ts = omega (arith, w .upto) in (
-          w .numerators-so ∙ rw z refl,
-          (
-            w .degrees-so ∙ rw z refl,
-            (rw (w .sum-so, z) (back (Σ (length ts) (read ts)) (sum-small (length ts) (omega arith))), w .rows-so ∙ rw z refl),
-          ),
-        )
+        let z : e ≡ length ts = omega (arith, w .upto) in
+        record {
+          numerators-are = w .numerators-so ∙ rw z refl;
+          degrees-are = w .degrees-so ∙ rw z refl;
+          totals-are = rw (w .sum-so, z) (back (Σ (length ts) (read ts)) (sum-small (length ts) (omega arith)));
+          rows-are = w .rows-so ∙ rw z refl;
+        }
 
     module _ (low : e < length ts) where
-      pub weighable : Weighable (read ts e) (d / getD ds e 0)
+      -- the total, as code holds it
+      total-is : wrap (read ts e) ≡ read ts e
+      total-is = back (read ts e) (omega (arith, pre .sum-fits, below e low, Σℕ-term (length ts) (walkNumerator ts d ds) e low))
+
+      pub weighable : Weighable (wrap (read ts e)) (d / getD ds e 0)
       weighable =
           let n = Σℕ-term (length ts) (walkNumerator ts d ds) e low in
           let q = natAbs (read ts e) * natAbs (read ts e) in
           let p = mul-le-mul-left q (pre .weights-some e low) in
-          record { square-fits = omega (arith, pre .sum-fits, n, p, mul-one q); product-fits = omega (arith, pre .sum-fits, n) }
+          rw total-is (record { square-fits = omega (arith, pre .sum-fits, n, p, mul-one q); product-fits = omega (arith, pre .sum-fits, n) })
 
-      module _ {n : ℕ} (own : n ≡ walkNumerator ts d ds e) where
+      pub degree-fits : getD gs (walkKind effects kinds e) 0 + 1 ≤ length ts
+      unfolding degreesAfter
+      degree-fits =
+          rw (sorted-at 4 (walkKind effects kinds) (λ i. 1) e (w .degrees-so) (walkKind effects kinds e) (pre .four-kinds e low))
+          (omega (arith, sum-next (walkKind effects kinds) (λ i. 1) e (length ts) low, Σℕ-ones (length ts)))
+
+      next-sum : Σ e (read ts) +ℤ read ts e ≡ Σ (suc e) (read ts)
+      unfolding Σ
+      next-sum = refl
+
+      summed : toZ w64 s +ℤ wrap (read ts e) ≡ Σ (suc e) (read ts)
+      summed = rw (w .sum-so, back (Σ e (read ts)) (sum-small e (omega arith)), total-is) next-sum
+
+      pub check-fits : SFits w64 (toZ w64 s +ℤ wrap (read ts e))
+      check-fits = rw summed (fits (Σ (suc e) (read ts)) (sum-small (suc e) low))
+
+      module _ {n : ℕ} (told : n ≡ natAbs (wrap (read ts e)) * natAbs (wrap (read ts e)) * (d / getD ds e 0)) where
+        own : n ≡ walkNumerator ts d ds e
+        own = told ∙ rw total-is refl
+
         pub row-fits : getD rows (walkRow effects e) 0 + n < 2 ^ 63
         unfolding rowsAfter
         row-fits =
@@ -136,24 +155,6 @@ module _ {ts : List ℤ} {effects : List ℕ} {d : ℕ} {ds kinds rows₀ : List
         kind-fits =
             rw (sorted-at 4 (walkKind effects kinds) (walkNumerator ts d ds) e (w .numerators-so) (walkKind effects kinds e) (pre .four-kinds e low), own)
             (omega (arith, pre .sum-fits, sum-next (walkKind effects kinds) (walkNumerator ts d ds) e (length ts) low))
-
-        pub degree-fits : getD gs (walkKind effects kinds e) 0 + 1 ≤ length ts
-        unfolding degreesAfter
-        degree-fits =
-            rw (sorted-at 4 (walkKind effects kinds) (λ i. 1) e (w .degrees-so) (walkKind effects kinds e) (pre .four-kinds e low))
-            (omega (arith, sum-next (walkKind effects kinds) (λ i. 1) e (length ts) low, Σℕ-ones (length ts)))
-
-        next-sum : Σ e (read ts) +ℤ read ts e ≡ Σ (suc e) (read ts)
-        unfolding Σ
-        next-sum = refl
-
-        summed : toZ w64 s +ℤ wrap (read ts e) ≡ Σ (suc e) (read ts)
-        summed =
-            rw (w .sum-so, back (Σ e (read ts)) (sum-small e (omega arith)), back (read ts e) (omega (arith, pre .sum-fits, below e low, Σℕ-term (length ts) (walkNumerator ts d ds) e low)))
-            next-sum
-
-        pub check-fits : SFits w64 (toZ w64 s +ℤ wrap (read ts e))
-        check-fits = rw summed (fits (Σ (suc e) (read ts)) (sum-small (suc e) low))
 
         pub walking-more : Walking ts effects d ds kinds (length rows₀) (e + 1)
             (set rows (walkRow effects e) (getD rows (walkRow effects e) 0 + n))

@@ -1,8 +1,8 @@
 -- The table call: its number, its figures, and the columns that it leaves.
 --
 --   wrongLengths               refusal 11, of all four slices
---   tableRefusals                 the refusals of the call besides those of the plan
---   tableRefused                the lowest number that applies, 0 where the table is made
+--   tableRefusals              the refusals of the call besides those of the plan
+--   tableRefused               the lowest number that applies, 0 where the table is made
 --   sourceOf p xs marks c      degrees and numerator of the rows of the kind c
 --   totalSource p xs           those of the total
 --   checksOf p xs              both check numbers

@@ -118,7 +118,9 @@ fn make(p: Plan, readings: &[i32], marks: &[u8], column: &mut [i64], rows: &mut 
 
 // The table of a plan's readings, with the rows that are marked pooled as error.
 pub fn table(p: Plan, readings: &[i32], marks: &[u8], totals: &mut [i64], rows: &mut [u64]) -> Table
-    ensures { λ r. ⌜ tableOutcome r ≡ outcome (tableRefused p (now (readings .entry)) (now (marks .entry)) (now (totals .entry)) (now (rows .entry))) (tableFigures p (now (readings .entry)) (now (marks .entry))) ⌝ }
+    ensures { λ r. ⌜ tableOutcome r ≡ outcome
+        (tableRefused p (now (readings .entry)) (now (marks .entry)) (now (totals .entry)) (now (rows .entry)))
+        (tableFigures p (now (readings .entry)) (now (marks .entry))) ⌝ }
     ensures { λ _. ⌜ now (totals .exit) ≡ tableTotals p (now (readings .entry)) (now (marks .entry)) (now (totals .entry)) (now (rows .entry)) ⌝ }
     ensures { λ _. ⌜ now (rows .exit) ≡ tableRows p (now (readings .entry)) (now (marks .entry)) (now (totals .entry)) (now (rows .entry)) ⌝ }
 {

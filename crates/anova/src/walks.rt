@@ -4,10 +4,8 @@ ghost use Prim.Native.Nat.{_*_};
 ghost use lib.IntN.{natAbs};
 ghost use lib.ListN.{length};
 use super::squares::square;
-ghost use Rattle.algebra.specs.Sum.{Σ};
-ghost use Rattle.contrasts.specs.Columns.{read};
 ghost use Rattle.anova.specs.Inner.Ready.{Weighable, Walkable};
-ghost use Rattle.anova.specs.Inner.Walk.{zeros, rowsAfter, numeratorsAfter, degreesAfter};
+ghost use Rattle.anova.specs.Inner.Walk.{zeros, Walked};
 
 // Numerators and degrees of the four kinds of rows, by the kind's number, and the sum of the totals.
 pub struct Sums {
@@ -44,10 +42,8 @@ pub fn walk(
     rows: &mut [u64],
 ) -> Sums
     requires { ⌜ Walkable (now totals) (now effects) denominator (now divisors) (now kinds) (now rows) ⌝ }
-    ensures { λ r. ⌜ r .numerators ≡ numeratorsAfter (now (totals .entry)) (now (effects .entry)) denominator (now (divisors .entry)) (now (kinds .entry)) (length (now (totals .entry))) ⌝ }
-    ensures { λ r. ⌜ r .degrees ≡ degreesAfter (now (effects .entry)) (now (kinds .entry)) (length (now (totals .entry))) ⌝ }
-    ensures { λ r. ⌜ r .totals ≡ Σ (length (now (totals .entry))) (read (now (totals .entry))) ⌝ }
-    ensures { λ _. ⌜ now (rows .exit) ≡ rowsAfter (now (totals .entry)) (now (effects .entry)) denominator (now (divisors .entry)) (length (now (rows .entry))) (length (now (totals .entry))) ⌝ }
+    ensures { λ r. ⌜ Walked (now (totals .entry)) (now (effects .entry)) denominator
+        (now (divisors .entry)) (now (kinds .entry)) (now (rows .entry)) r (now (rows .exit)) ⌝ }
 {
     let mut numerators = [0u64; 4];
     let mut degrees = [0u64; 4];

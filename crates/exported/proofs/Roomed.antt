@@ -3,8 +3,8 @@
 --   figures-wrong, by-checks    whether there is room, length by length
 --   room-is                     where there is
 --   room-by-plan, room-eleven   the number of a call without room
---   table-made, table-refused   the table call and its figures as numbers, where there is room
---   without-room, with-room     the whole call
+--   without-room                the whole call where there is no room
+--   table-made, table-refused   the whole call where there is, by what the table call answers
 use mathlib.Core.Path.{_≡_, refl, sym, _∙_, ap}
 use mathlib.Core.Bool.{true, false, not}
 use mathlib.Core.List.{List, [], _∷_}
@@ -26,7 +26,7 @@ use Rattle.anova.specs.declared.types.Figures.{Figures}
 use Rattle.anova.specs.declared.types.Table.{Table}
 use Rattle.anova.specs.declared.types.Table.the-variants.{Made, Refused}
 use Rattle.anova.specs.Table.{tableRefused, tableFigures, tableTotals, tableRows, tableOutcome, rowsOf}
-use Rattle.exported.specs.Handed.{figureNumbers, checkNumbers, wrongRoom, roomRefused, callRefused, callTotals, callRows, callFigures, callChecks}
+use Rattle.exported.specs.Handed.{figureNumbers, checkNumbers, wrongRoom, roomRefused, callRefused, callTotals, callRows, callFigures, callChecks, Handed}
 
 -- ---- the lengths
 
@@ -63,62 +63,59 @@ module _ (p : Plan) where
       by (yes d) = absurd (omega (arith, room-eleven d, e))
       by (no d) = d (room-by-plan refl d ∙ e)
 
--- ---- room
-
-module _ (m : ℕ) (v : Figures) {r : Table} (told : tableOutcome r ≡ outcome m v) where
-  pub table-made : (f : Figures) → r ≡ Made f → (figures : List ℕ) (checks : List ℤ) {fs : List ℕ} {cs : List ℤ} → fs ≡ figureNumbers f → cs ≡ checkNumbers f
-      → (0 ≡ m) × ((fs ≡ written m (figureNumbers v) figures) × (cs ≡ written m (checkNumbers v) checks))
-  table-made f e figures checks a b =
-      let t = given-is m v (ap tableOutcome (sym e) ∙ told) in (
-        sym (t .0),
-        (
-          a ∙ ap figureNumbers (t .1) ∙ written-new m (figureNumbers v) figures (t .0),
-          b ∙ ap checkNumbers (t .1) ∙ written-new m (checkNumbers v) checks (t .0),
-        ),
-      )
-
-  pub table-refused : (n : ℕ) → r ≡ Refused n → (figures : List ℕ) (checks : List ℤ)
-      → (n ≡ m) × ((figures ≡ written m (figureNumbers v) figures) × (checks ≡ written m (checkNumbers v) checks))
-  table-refused n e figures checks =
-      let t = refused-is m v (ap tableOutcome (sym e) ∙ told) in
-      (t .0, (unwritten m (figureNumbers v) figures (t .1), unwritten m (checkNumbers v) checks (t .1)))
-
 -- ---- the whole call
 
+-- where there is room its number is the table's
 module _ (p : Plan) (readings : List ℤ) (marks : List ℕ) (totals : List ℤ) (rows figures : List ℕ) (checks : List ℤ) where
-  -- what the call promises of its number and of the four slices
-  abbrev Called : ℕ → List ℤ → List ℕ → List ℕ → List ℤ → Type 0
-  Called n ts rs fs cs =
-      (n ≡ callRefused p readings marks totals rows figures checks)
-      × ((ts ≡ callTotals p readings marks totals rows figures checks)
-      × ((rs ≡ callRows p readings marks totals rows figures checks)
-      × ((fs ≡ callFigures p readings marks totals rows figures checks)
-      × (cs ≡ callChecks p readings marks totals rows figures checks))))
+  as-table : (length figures ≡ 11) × (length checks ≡ 2)
+      → callRefused p readings marks totals rows figures checks ≡ tableRefused p readings marks totals rows
+  unfolding callRefused wrongRoom
+  as-table room = rw (room .0, room .1) refl
 
-  pub without-room : wrongRoom (length figures) (length checks) ≡ true → {n : ℕ} → n ≡ roomRefused p → Called n totals rows figures checks
+module _ {p : Plan} {readings : List ℤ} {marks : List ℕ} {totals : List ℤ} {rows figures : List ℕ} {checks : List ℤ} where
+  pub without-room : wrongRoom (length figures) (length checks) ≡ true → {n : ℕ} → n ≡ roomRefused p
+      → Handed p readings marks totals rows figures checks n totals rows figures checks
   unfolding callRefused callTotals callRows callFigures callChecks
   without-room w e =
       let h = room-stopped p in
-      rw w (
-        e,
-        (
-          unwritten (roomRefused p) (totalsOf (factorsOf p) readings) totals h,
-          (
-            unwritten (roomRefused p) (rowsOf p readings) rows h,
-            (
-              unwritten (roomRefused p) (figureNumbers (tableFigures p readings marks)) figures h,
-              unwritten (roomRefused p) (checkNumbers (tableFigures p readings marks)) checks h,
-            ),
-          ),
-        ),
-      )
+      record {
+        number = e ∙ rw w refl;
+        totals-left = rw w (unwritten (roomRefused p) (totalsOf (factorsOf p) readings) totals h);
+        rows-left = rw w (unwritten (roomRefused p) (rowsOf p readings) rows h);
+        figures-left = rw w (unwritten (roomRefused p) (figureNumbers (tableFigures p readings marks)) figures h);
+        checks-left = rw w (unwritten (roomRefused p) (checkNumbers (tableFigures p readings marks)) checks h);
+      }
 
-  pub with-room : wrongRoom (length figures) (length checks) ≡ false → {n : ℕ} {ts : List ℤ} {rs fs : List ℕ} {cs : List ℤ}
-      → n ≡ tableRefused p readings marks totals rows
-      → ts ≡ tableTotals p readings marks totals rows
-      → rs ≡ tableRows p readings marks totals rows
-      → fs ≡ written (tableRefused p readings marks totals rows) (figureNumbers (tableFigures p readings marks)) figures
-      → cs ≡ written (tableRefused p readings marks totals rows) (checkNumbers (tableFigures p readings marks)) checks
-      → Called n ts rs fs cs
-  unfolding callRefused callTotals callRows callFigures callChecks tableTotals tableRows
-  with-room w n t r f c = rw w (n, (t, (r, (f, c))))
+  module _ {ts : List ℤ} {rs : List ℕ} (room : (length figures ≡ 11) × (length checks ≡ 2))
+      (t : ts ≡ tableTotals p readings marks totals rows) (r : rs ≡ tableRows p readings marks totals rows) where
+    with-room : {n : ℕ} {fs : List ℕ} {cs : List ℤ}
+        → n ≡ tableRefused p readings marks totals rows
+        → fs ≡ written (tableRefused p readings marks totals rows) (figureNumbers (tableFigures p readings marks)) figures
+        → cs ≡ written (tableRefused p readings marks totals rows) (checkNumbers (tableFigures p readings marks)) checks
+        → Handed p readings marks totals rows figures checks n ts rs fs cs
+    unfolding callTotals callRows callFigures callChecks tableTotals tableRows
+    with-room n f c =
+        let e = as-table p readings marks totals rows figures checks room in
+        record { number = n ∙ sym e; totals-left = rw e t; rows-left = rw e r; figures-left = rw e f; checks-left = rw e c }
+
+    module _ {answer : Table} (told : tableOutcome answer ≡ outcome (tableRefused p readings marks totals rows) (tableFigures p readings marks)) where
+      pub table-made : {f : Figures} → answer ≡ Made f → {fs : List ℕ} {cs : List ℤ} → fs ≡ figureNumbers f → cs ≡ checkNumbers f
+          → Handed p readings marks totals rows figures checks 0 ts rs fs cs
+      table-made is a b =
+          let m = tableRefused p readings marks totals rows in
+          let v = tableFigures p readings marks in
+          let made = given-is m v (ap tableOutcome (sym is) ∙ told) in
+          with-room
+          (sym (made .0))
+          (a ∙ ap figureNumbers (made .1) ∙ written-new m (figureNumbers v) figures (made .0))
+          (b ∙ ap checkNumbers (made .1) ∙ written-new m (checkNumbers v) checks (made .0))
+
+      pub table-refused : {n : ℕ} → answer ≡ Refused n → Handed p readings marks totals rows figures checks n ts rs figures checks
+      table-refused is =
+          let m = tableRefused p readings marks totals rows in
+          let v = tableFigures p readings marks in
+          let stopped = refused-is m v (ap tableOutcome (sym is) ∙ told) in
+          with-room
+          (stopped .0)
+          (unwritten m (figureNumbers v) figures (stopped .1))
+          (unwritten m (checkNumbers v) checks (stopped .1))

@@ -2,9 +2,11 @@
 --
 --   figureNumbers, checkNumbers   the figures as 11 numbers, and the checks as 2, in the order of the slices
 --   wrongRoom m n                 the slices for figures and checks are not 11 and 2 long
---   roomRefused p                  the number of a call that has no such room
---   callRefused                    the lowest number that applies, 0 where the table is made
+--   roomRefused p                 the number of a call that has no such room
+--   callRefused                   the lowest number that applies, 0 where the table is made
 --   callTotals, callRows, callFigures, callChecks    the lent slices at exit
+--   Handed .. n ts rs fs cs       the call answers the number n and leaves these slices
+use mathlib.Core.Path.{_≡_}
 use mathlib.Core.Bool.{Bool, true, not, cond, _||_}
 use mathlib.Core.List.{List, [], _∷_}
 use Prim.Native.Nat.{ℕ}
@@ -66,3 +68,12 @@ module _ (p : Plan) (readings : List ℤ) (marks : List ℕ) (totals : List ℤ)
 
   unfoldable pub callChecks : List ℤ
   callChecks = written callRefused (checkNumbers (tableFigures p readings marks)) checks
+
+  -- ---- what the call answers and leaves
+
+  pub record Handed (n : ℕ) (ts : List ℤ) (rs fs : List ℕ) (cs : List ℤ) : Type 0 where
+    pub number : n ≡ callRefused
+    pub totals-left : ts ≡ callTotals
+    pub rows-left : rs ≡ callRows
+    pub figures-left : fs ≡ callFigures
+    pub checks-left : cs ≡ callChecks

@@ -4,9 +4,7 @@ ghost use lib.ListN.{length};
 use anova::Figures;
 use anova::Table;
 use plan::Plan;
-ghost use Rattle.plan.specs.Outcome.{written};
-ghost use Rattle.anova.specs.Table.{tableRefused, tableFigures, tableTotals, tableRows};
-ghost use Rattle.exported.specs.Handed.{figureNumbers, checkNumbers, wrongRoom};
+ghost use Rattle.exported.specs.Handed.{figureNumbers, checkNumbers, wrongRoom, Handed};
 
 const FIGURES: usize = 11;
 
@@ -91,11 +89,9 @@ pub fn tabulate(
     checks: &mut [i64],
 ) -> u8
     requires { ⌜ (length (now figures) ≡ 11) × (length (now checks) ≡ 2) ⌝ }
-    ensures { λ r. ⌜ r ≡ tableRefused p (now (readings .entry)) (now (marks .entry)) (now (totals .entry)) (now (rows .entry)) ⌝ }
-    ensures { λ _. ⌜ now (totals .exit) ≡ tableTotals p (now (readings .entry)) (now (marks .entry)) (now (totals .entry)) (now (rows .entry)) ⌝ }
-    ensures { λ _. ⌜ now (rows .exit) ≡ tableRows p (now (readings .entry)) (now (marks .entry)) (now (totals .entry)) (now (rows .entry)) ⌝ }
-    ensures { λ _. ⌜ now (figures .exit) ≡ written (tableRefused p (now (readings .entry)) (now (marks .entry)) (now (totals .entry)) (now (rows .entry))) (figureNumbers (tableFigures p (now (readings .entry)) (now (marks .entry)))) (now (figures .entry)) ⌝ }
-    ensures { λ _. ⌜ now (checks .exit) ≡ written (tableRefused p (now (readings .entry)) (now (marks .entry)) (now (totals .entry)) (now (rows .entry))) (checkNumbers (tableFigures p (now (readings .entry)) (now (marks .entry)))) (now (checks .entry)) ⌝ }
+    ensures { λ r. ⌜ Handed p (now (readings .entry)) (now (marks .entry))
+        (now (totals .entry)) (now (rows .entry)) (now (figures .entry)) (now (checks .entry))
+        r (now (totals .exit)) (now (rows .exit)) (now (figures .exit)) (now (checks .exit)) ⌝ }
 {
     match anova::table(p, readings, marks, totals, rows) {
         Table::Made(f) => {

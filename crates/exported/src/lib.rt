@@ -26,7 +26,7 @@ use plan::lowest;
 use yates::Answer;
 ghost use Rattle.yates.specs.Calls.{passRefused, passColumn, totalsRefused, totalsColumn};
 ghost use Rattle.exported.specs.Whole.{wholePlan};
-ghost use Rattle.exported.specs.Handed.{roomRefused, callRefused, callTotals, callRows, callFigures, callChecks};
+ghost use Rattle.exported.specs.Handed.{roomRefused, Handed};
 
 fn whole(levels: u8, k: u8) -> Plan
     ensures { λ r. ⌜ r ≡ wholePlan levels k ⌝ }
@@ -87,11 +87,9 @@ pub extern "C" fn anova_table(
     figures: &mut [u64],
     checks: &mut [i64],
 ) -> u8
-    ensures { λ r. ⌜ r ≡ callRefused (wholePlan levels k) (now (readings .entry)) (now (marks .entry)) (now (totals .entry)) (now (rows .entry)) (now (figures .entry)) (now (checks .entry)) ⌝ }
-    ensures { λ _. ⌜ now (totals .exit) ≡ callTotals (wholePlan levels k) (now (readings .entry)) (now (marks .entry)) (now (totals .entry)) (now (rows .entry)) (now (figures .entry)) (now (checks .entry)) ⌝ }
-    ensures { λ _. ⌜ now (rows .exit) ≡ callRows (wholePlan levels k) (now (readings .entry)) (now (marks .entry)) (now (totals .entry)) (now (rows .entry)) (now (figures .entry)) (now (checks .entry)) ⌝ }
-    ensures { λ _. ⌜ now (figures .exit) ≡ callFigures (wholePlan levels k) (now (readings .entry)) (now (marks .entry)) (now (totals .entry)) (now (rows .entry)) (now (figures .entry)) (now (checks .entry)) ⌝ }
-    ensures { λ _. ⌜ now (checks .exit) ≡ callChecks (wholePlan levels k) (now (readings .entry)) (now (marks .entry)) (now (totals .entry)) (now (rows .entry)) (now (figures .entry)) (now (checks .entry)) ⌝ }
+    ensures { λ r. ⌜ Handed (wholePlan levels k) (now (readings .entry)) (now (marks .entry))
+        (now (totals .entry)) (now (rows .entry)) (now (figures .entry)) (now (checks .entry))
+        r (now (totals .exit)) (now (rows .exit)) (now (figures .exit)) (now (checks .exit)) ⌝ }
 {
     let p = whole(levels, k);
     if wrong_room(figures.len(), checks.len()) {

@@ -13,11 +13,11 @@ use sheet::read;
 use sizes::runs;
 ghost use Rattle.plan.specs.Plan.{runsOf};
 ghost use Rattle.text.specs.Text.{Wrote};
-ghost use Rattle.anova.specs.Table.{tableFigures, rowsOf};
 ghost use Rattle.sheet.specs.Sheet.{marksRefused};
 ghost use Rattle.printing.specs.Inner.Ready.{SheetReady};
+ghost use Rattle.printing.specs.Inner.Written.{madeText};
 ghost use Rattle.printing.specs.Input.{Decides};
-ghost use Rattle.printing.specs.Printed.{printed, tableText, sheetTable, longestSheet, textOf};
+ghost use Rattle.printing.specs.Printed.{printed, sheetTable, longestSheet, textOf};
 
 // The most runs or rows of a plan.
 const MOST: usize = 1024;
@@ -34,7 +34,9 @@ pub const TEXT: usize = 69632;
 // The table of an accepted sheet. The readings are the first of the column.
 fn lend(text: &mut [u8], p: Plan, column: &[i32], marks: &[u8]) -> usize
     requires { ⌜ SheetReady p (now column) (now marks) ⌝ }
-    ensures { λ r. ⌜ Wrote (now (text .entry)) 0 (tableText p (now (marks .entry)) (tableFigures p (take (runsOf p) (now (column .entry))) (now (marks .entry))) (rowsOf p (take (runsOf p) (now (column .entry))))) (now (text .exit)) r ⌝ }
+    ensures { λ r. ⌜ Wrote (now (text .entry)) 0
+        (madeText p (take (runsOf p) (now (column .entry))) (now (marks .entry)))
+        (now (text .exit)) r ⌝ }
 {
     let mut totals = [0i64; MOST];
     let mut rows = [0u64; MOST];

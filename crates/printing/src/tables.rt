@@ -8,9 +8,9 @@ use lines::named_line;
 use lines::source_line;
 use plan::Plan;
 ghost use Rattle.text.specs.Text.{Wrote};
-ghost use Rattle.anova.specs.Table.{tableRefused, tableFigures, rowsOf};
 ghost use Rattle.printing.specs.Inner.Ready.{RowsReady};
-ghost use Rattle.printing.specs.Printed.{printed, tableText};
+ghost use Rattle.printing.specs.Printed.{tableText};
+ghost use Rattle.printing.specs.Inner.Written.{answerText};
 
 // The lines of a table, in their order.
 fn table_text(text: &mut [u8], p: Plan, marks: &[u8], f: Figures, rows: &[u64]) -> usize
@@ -38,7 +38,9 @@ pub fn answer_text(
     totals: &mut [i64],
     rows: &mut [u64],
 ) -> usize
-    ensures { λ r. ⌜ Wrote (now (text .entry)) 0 (printed (tableRefused p (now (readings .entry)) (now (marks .entry)) (now (totals .entry)) (now (rows .entry))) (tableText p (now (marks .entry)) (tableFigures p (now (readings .entry)) (now (marks .entry))) (rowsOf p (now (readings .entry))))) (now (text .exit)) r ⌝ }
+    ensures { λ r. ⌜ Wrote (now (text .entry)) 0
+        (answerText p (now (readings .entry)) (now (marks .entry)) (now (totals .entry)) (now (rows .entry)))
+        (now (text .exit)) r ⌝ }
 {
     match table(p, readings, marks, totals, rows) {
         Table::Made(f) => table_text(text, p, marks, f, rows),

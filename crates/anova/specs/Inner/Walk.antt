@@ -3,10 +3,12 @@
 --   walkNumerator ts d ds e       the numerator of effect e, from its total, the denominator and its divisor
 --   walkRow, walkKind             the row of effect e, and its kind
 --   rowsAfter, numeratorsAfter, degreesAfter    the rows, and the sums of the four kinds, after e totals
+--   Walked ts effects d ds kinds rows s rs    the walk over all totals answers the sums s and leaves the rows rs
 --   sumsOf p xs marks             all sums of the walk, of a plan's readings and marks
 --   zeros n                       a column of n zeros
 --   squaresOf xs                  the sum of the squares of a column
 --   afterRound n xs               a column after a round of n sets
+use mathlib.Core.Path.{_≡_}
 use mathlib.Core.Bool.{cond}
 use mathlib.Core.List.{List}
 use Prim.Native.Nat.{ℕ, _*_, _/_}
@@ -47,6 +49,12 @@ numeratorsAfter ts effects d ds kinds e = sorted 4 (walkKind effects kinds) (wal
 
 unfoldable pub degreesAfter : List ℕ → List ℕ → ℕ → List ℕ
 degreesAfter effects kinds e = sorted 4 (walkKind effects kinds) (λ i. 1) e
+
+pub record Walked (ts : List ℤ) (effects : List ℕ) (d : ℕ) (ds kinds rows : List ℕ) (s : Sums) (rs : List ℕ) : Type 0 where
+  pub numerators-are : s .numerators ≡ numeratorsAfter ts effects d ds kinds (length ts)
+  pub degrees-are : s .degrees ≡ degreesAfter effects kinds (length ts)
+  pub totals-are : s .totals ≡ Σ (length ts) (read ts)
+  pub rows-are : rs ≡ rowsAfter ts effects d ds (length rows) (length ts)
 
 -- the four kinds by their numbers, and the sum of the totals, as the walk leaves them
 unfoldable pub sumsOf : Plan → List ℤ → List ℕ → Sums

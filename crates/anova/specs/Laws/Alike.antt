@@ -1,7 +1,7 @@
 -- Places beyond a plan's counts are ignored by the table call too.
 --
 --   same-refused, same-figures    plans that agree as far as their counts reach get the same answer
---   same-rows                    and the same rows; their totals are those of the same factors
+--   same-rows                     and the same rows; their totals are those of the same factors
 use mathlib.Core.Path.{_≡_, refl}
 use mathlib.Core.List.{List}
 use Prim.Native.Nat.{ℕ}

@@ -75,7 +75,12 @@ unfolding textOf printed sheetTable
 text-fits sheet = by (ℕ-discrete (printRefused sheet) 0)
   where
     by : Dec (printRefused sheet ≡ 0) → length (printed (printRefused sheet) (sheetTable sheet)) ≤ 69632
-    by (yes z) = rw (eq-eqb (printRefused sheet) 0 z) (omega (arith, table-long (planIn (fieldsOf sheet)) (marksIn (fieldsOf sheet)) (tableFigures (planIn (fieldsOf sheet)) (readingsIn (fieldsOf sheet)) (marksIn (fieldsOf sheet))) (rowsOf (planIn (fieldsOf sheet)) (readingsIn (fieldsOf sheet))), rows-few (planIn (fieldsOf sheet)) (accepted-plan sheet z)))
+    by (yes z) =
+        let p = planIn (fieldsOf sheet) in
+        let readings = readingsIn (fieldsOf sheet) in
+        let marks = marksIn (fieldsOf sheet) in
+        let long = table-long p marks (tableFigures p readings marks) (rowsOf p readings) in
+        rw (eq-eqb (printRefused sheet) 0 z) (omega (arith, long, rows-few p (accepted-plan sheet z)))
     by (no z) = rw (ne-eqb (printRefused sheet) 0 z) (omega (arith, named-long (ascii "refused") (printRefused sheet)))
 
 pub text-written : (sheet : List ℕ) {a b : List ℕ} {next : ℕ} → length a ≡ 69632 → Wrote a 0 (textOf sheet) b next

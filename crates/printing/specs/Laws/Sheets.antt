@@ -27,9 +27,9 @@ use Rattle.sheet.specs.Laws.Marks.{same-refused, accepted-without}
 use Rattle.text.specs.Text.{ascii, Wrote}
 use Rattle.text.specs.Laws.Writing.{retext}
 use Rattle.lines.specs.Lines.{namedLine}
-use Rattle.anova.specs.Table.{tableFigures, rowsOf}
 use Rattle.printing.specs.Inner.Ready.{SheetReady}
-use Rattle.printing.specs.Printed.{tableText, printed, sheetTable}
+use Rattle.printing.specs.Inner.Written.{madeText}
+use Rattle.printing.specs.Printed.{printed, sheetTable}
 use Rattle.printing.specs.Laws.Tables.{given-text, refused-text}
 
 -- ---- a sheet that is refused
@@ -49,7 +49,8 @@ module _ (sheet : List ℕ) (before : List ℤ) (long : length before ≡ 1024) 
     accepted : readRefused sheet (length before) ≡ 0
     accepted = given-is (readRefused sheet (length before)) tt (ap answerOutcome (sym is) ∙ told) .0
 
-    module _ {p : Plan} (plan-is : p ≡ readPlan sheet (length before)) {column : List ℤ} (column-is : column ≡ readColumn sheet before) {marks : List ℕ} (marks-are : marks ≡ marksOf sheet) where
+    module _ {p : Plan} {column : List ℤ} {marks : List ℕ}
+        (plan-is : p ≡ readPlan sheet (length before)) (column-is : column ≡ readColumn sheet before) (marks-are : marks ≡ marksOf sheet) where
       own-plan : p ≡ planIn (fieldsOf sheet)
       unfolding readPlan
       own-plan = plan-is ∙ sym (written-new (readRefused sheet (length before)) (planIn (fieldsOf sheet)) noPlan accepted)
@@ -85,7 +86,9 @@ module _ (sheet : List ℕ) (before : List ℤ) (long : length before ≡ 1024) 
           }
 
       pub sheet-made : {a b : List ℕ} {at next : ℕ}
-          → Wrote a at (tableText p marks (tableFigures p (take (runsOf p) column) marks) (rowsOf p (take (runsOf p) column))) b next
+          → Wrote a at (madeText p (take (runsOf p) column) marks) b next
           → Wrote a at (printed (marksRefused sheet) (sheetTable sheet)) b next
       unfolding sheetTable
-      sheet-made w = given-text (sheetTable sheet) (sym (same-refused sheet (length before) (omega (arith, long))) ∙ accepted) (retext (rw (own-readings, own-plan, own-marks) refl) w)
+      sheet-made w =
+          given-text (sheetTable sheet) (sym (same-refused sheet (length before) (omega (arith, long))) ∙ accepted)
+          (retext (rw (own-readings, own-plan, own-marks) refl) w)

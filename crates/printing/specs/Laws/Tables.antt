@@ -36,6 +36,7 @@ use Rattle.anova.specs.declared.types.Table.the-variants.{Made, Refused}
 use Rattle.anova.specs.Table.{tableRefused, tableFigures, tableRows, tableOutcome, rowsOf}
 use Rattle.anova.specs.Laws.Admitted.{table-admitted, table-admits}
 use Rattle.printing.specs.Inner.Ready.{RowsReady, SheetReady}
+use Rattle.printing.specs.Inner.Written.{madeText, answerText}
 use Rattle.printing.specs.Printed.{rowLines, tableText, printed}
 
 -- ---- the lines
@@ -91,9 +92,9 @@ module _ (p : Plan) (readings : List ℤ) (marks : List ℕ) (totals : List ℤ)
             }
 
         pub made-text : {a b : List ℕ} {at next : ℕ} → Wrote a at (tableText p marks f after) b next
-            → Wrote a at (printed number (tableText p marks (tableFigures p readings marks) (rowsOf p readings))) b next
+            → Wrote a at (answerText p readings marks totals rows) b next
         made-text w =
-            given-text (tableText p marks (tableFigures p readings marks) (rowsOf p readings)) (made .0)
+            given-text (madeText p readings marks) (made .0)
             (retext (ap (λ g. tableText p marks g after) (made .1) ∙ ap (tableText p marks (tableFigures p readings marks)) rows-are) w)
 
     pub stopped-text : {n : ℕ} → r ≡ Refused n → {a b : List ℕ} {at next : ℕ} (t : List ℕ) → Wrote a at (namedLine (ascii "refused") n) b next
@@ -123,9 +124,9 @@ module _ {p : Plan} {column : List ℤ} {marks : List ℕ} (ready : SheetReady p
     few-rows = rw rows-count (rows-few p (ready .plan))
 
   pub lent-text : {n r : ℕ} → n ≡ runCount p → r ≡ rowCount p → (totals : List ℤ) (rows : List ℕ) {a b : List ℕ} {at next : ℕ}
-      → Wrote a at (printed (tableRefused p (take n column) marks totals rows) (tableText p marks (tableFigures p (take n column) marks) (rowsOf p (take n column)))) b next
+      → Wrote a at (answerText p (take n column) marks totals rows) b next
       → length totals ≡ n → length rows ≡ r
-      → Wrote a at (tableText p marks (tableFigures p (take (runsOf p) column) marks) (rowsOf p (take (runsOf p) column))) b next
+      → Wrote a at (madeText p (take (runsOf p) column) marks) b next
   unfolding printed
   lent-text {n} {r} d e totals rows w l m =
       let long = runs-are d in

@@ -23,11 +23,12 @@ check-number-spec =
     (λ c.
     let pre = c .before .before .before .before .before .before .before .pre in
     let if1-left = c .before .before .before .before .before .before .if1 .left in
-    let copy-is2 = c .before .before .before .before .copy .ensures in
-    c .before .all-rounds .ensures .1 ∙ ap length (copy-is pre if1-left copy-is2) ∙ sym (pre .same))
+    let copied = c .before .before .before .before .copy .ensures in
+    c .before .all-rounds .ensures .1 ∙ ap length (copy-is pre if1-left copied) ∙ sym (pre .same))
     (λ c.
     let pre = c .before .before .before .before .before .before .before .pre in
     let if1-left = c .before .before .before .before .before .before .if1 .left in
-    let copy-is2 = c .before .before .before .before .copy .ensures in
+    let copied = c .before .before .before .before .copy .ensures in
     let all-rounds-is = c .before .all-rounds .ensures in
-    (kept _ (c .before .all-rounds .ok) ∙ rounds-made pre if1-left copy-is2 (all-rounds-is .0), all-rounds-is .1 ∙ ap length (copy-is pre if1-left copy-is2) ∙ sym (pre .same))))
+    let long = all-rounds-is .1 ∙ ap length (copy-is pre if1-left copied) ∙ sym (pre .same) in
+    (kept _ (c .before .all-rounds .ok) ∙ rounds-made pre if1-left copied (all-rounds-is .0), long)))

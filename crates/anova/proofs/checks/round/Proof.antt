@@ -60,7 +60,10 @@ round-spec =
     let pre = c .before .before .before .before .before .pre in
     let inv = c .before .before .before .before .loop .inv in
     let inside = c .before .before .before .loop-test .taken in
-    let s = small-set pre inv inside in rw (kept _ (c .before .before .turned-arg .given), kept _ (c .before .turned-arg2 .given), kept _ (c .turned-arg3 .given)) s)
+    let first-given = c .before .before .turned-arg .given in
+    let middle-given = c .before .turned-arg2 .given in
+    let third-given = c .turned-arg3 .given in
+    rw (kept _ first-given, kept _ middle-given, kept _ third-given) (small-set pre inv inside))
     (λ c.
     let pre = c .before .before .before .before .before .before .pre in
     let inv = c .before .before .before .before .before .loop .inv in
@@ -78,7 +81,9 @@ round-spec =
     let pre = c .before .before .before .before .before .before .pre in
     let inv = c .before .before .before .before .before .loop .inv in
     let inside = c .before .before .before .before .loop-test .taken in
-    let turned-arg-given = c .before .before .before .turned-arg .given in
-    rounding-more pre inv inside (kept _ (c .turned .ok) ∙ c .turned .ensures ∙ rw (kept _ turned-arg-given, kept _ (c .before .before .turned-arg2 .given), kept _ (c .before .turned-arg3 .given)) refl))
+    let first-given = c .before .before .before .turned-arg .given in
+    let middle-given = c .before .before .turned-arg2 .given in
+    let third-given = c .before .turned-arg3 .given in
+    rounding-more pre inv inside (kept _ (c .turned .ok) ∙ c .turned .ensures ∙ rw (kept _ first-given, kept _ middle-given, kept _ third-given) refl))
     (λ c. rounding-long (c .before .before .pre) (c .before .loop .inv))
     (λ c. rounding-all (c .before .before .pre) (c .before .loop .inv) (c .loop-test .left)))

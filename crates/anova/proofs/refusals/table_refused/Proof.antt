@@ -14,26 +14,25 @@ table-refused-spec =
     (λ c. plan-first _ _ (c .before .lowest .ensures) (c .if1 .taken))
     (λ c κs. sym (c .before .lowest .ensures) ∙ c .if1 .left)
     (λ c.
-    let lowest-is = c .before .before .before .lowest .ensures in
-    sym (after-plan _ _ (sym lowest-is ∙ c .before .before .if1 .left) ∙ rw (is (c .before .wrong-lengths .ensures) (c .if2 .taken)) refl))
+    let plan-is = sym (c .before .before .before .lowest .ensures) ∙ c .before .before .if1 .left in
+    let lengths-is = is (c .before .wrong-lengths .ensures) (c .if2 .taken) in
+    sym (after-plan _ _ plan-is ∙ rw lengths-is refl))
     (λ c κs. tt)
     (λ c.
-    let lowest-is = c .before .before .before .before .before .lowest .ensures in
-    let if1-left = c .before .before .before .before .if1 .left in
-    let wrong-lengths-is = c .before .before .before .wrong-lengths .ensures in
-    sym (after-plan _ _ (sym lowest-is ∙ if1-left) ∙ rw (is wrong-lengths-is (c .before .before .if2 .left), is (c .before .any-reading-beyond .ensures) (c .if3 .taken)) refl))
+    let plan-is = sym (c .before .before .before .before .before .lowest .ensures) ∙ c .before .before .before .before .if1 .left in
+    let lengths-is = is (c .before .before .before .wrong-lengths .ensures) (c .before .before .if2 .left) in
+    let readings-is = is (c .before .any-reading-beyond .ensures) (c .if3 .taken) in
+    sym (after-plan _ _ plan-is ∙ rw (lengths-is, readings-is) refl))
     (λ c κs. tt)
     (λ c.
-    let lowest-is = c .before .before .before .before .before .before .before .lowest .ensures in
-    let if1-left = c .before .before .before .before .before .before .if1 .left in
-    let wrong-lengths-is = c .before .before .before .before .before .wrong-lengths .ensures in
-    let if2-left = c .before .before .before .before .if2 .left in
-    let any-reading-beyond-is = c .before .before .before .any-reading-beyond .ensures in
-    sym (after-plan _ _ (sym lowest-is ∙ if1-left) ∙ rw (is wrong-lengths-is if2-left, is any-reading-beyond-is (c .before .before .if3 .left), is (c .before .bad-marks .ensures) (c .if4 .taken)) refl))
+    let plan-is = sym (c .before .before .before .before .before .before .before .lowest .ensures) ∙ c .before .before .before .before .before .before .if1 .left in
+    let lengths-is = is (c .before .before .before .before .before .wrong-lengths .ensures) (c .before .before .before .before .if2 .left) in
+    let readings-is = is (c .before .before .before .any-reading-beyond .ensures) (c .before .before .if3 .left) in
+    let marks-is = is (c .before .bad-marks .ensures) (c .if4 .taken) in
+    sym (after-plan _ _ plan-is ∙ rw (lengths-is, readings-is, marks-is) refl))
     (λ c.
-    let lowest-is = c .before .before .before .before .before .before .before .lowest .ensures in
-    let if1-left = c .before .before .before .before .before .before .if1 .left in
-    let wrong-lengths-is = c .before .before .before .before .before .wrong-lengths .ensures in
-    let if2-left = c .before .before .before .before .if2 .left in
-    let any-reading-beyond-is = c .before .before .before .any-reading-beyond .ensures in
-    sym (after-plan _ _ (sym lowest-is ∙ if1-left) ∙ rw (is wrong-lengths-is if2-left, is any-reading-beyond-is (c .before .before .if3 .left), is (c .before .bad-marks .ensures) (c .if4 .left)) refl)))
+    let plan-is = sym (c .before .before .before .before .before .before .before .lowest .ensures) ∙ c .before .before .before .before .before .before .if1 .left in
+    let lengths-is = is (c .before .before .before .before .before .wrong-lengths .ensures) (c .before .before .before .before .if2 .left) in
+    let readings-is = is (c .before .before .before .any-reading-beyond .ensures) (c .before .before .if3 .left) in
+    let marks-is = is (c .before .bad-marks .ensures) (c .if4 .left) in
+    sym (after-plan _ _ plan-is ∙ rw (lengths-is, readings-is, marks-is) refl)))

@@ -1,5 +1,5 @@
 use borrow.Author.Needs.{needs}
-use Rattle.anova.proofs.Formed.{totals-made, walk-ready, sums-made, rows-made}
+use Rattle.anova.proofs.Formed.{totals-made, lists-made, walk-ready, sums-made, rows-made}
 use Rattle.anova.proofs.tables.form.Statement.{statement}
 use Rattle.anova.proofs.tables.form.Tie as tie
 
@@ -16,21 +16,26 @@ form-spec =
     (λ c. search needs)
     (λ c. search needs)
     (λ c κs.
-    let pre = c .before .before .before .before .before .before .before .before .before .before .before .before .before .before .before .before .before .pre in
-    let totals-is = c .before .before .before .before .before .before .before .before .before .before .before .before .before .totals .ensures in
-    let clear-is = c .before .before .before .before .before .before .before .before .before .before .clear .ensures in
-    let rows2-is = c .before .before .before .before .before .before .before .rows2 .ensures in
-    let divisors-is = c .before .before .before .before .before .before .divisors .ensures in
-    let kinds-is = c .before .before .before .before .before .kinds .ensures in
-    walk-ready (pre .1) (record { totals-are = totals-made (pre .1) (totals-is .1); effects-are = rows2-is; denominator-is = pre .0; divisors-are = divisors-is; kinds-are = kinds-is; rows-are = clear-is }))
+    let listed = c .before .before .before .before .before in
+    let kinds-is = listed .kinds .ensures in
+    let divisors-is = listed .before .divisors .ensures in
+    let rows2-is = listed .before .before .rows2 .ensures in
+    let cleared = listed .before .before .before .before .before in
+    let totalled = cleared .before .before .before in
+    let pre = totalled .before .before .before .before .pre in
+    let lists = lists-made (pre .1) (totalled .totals .ensures .1) rows2-is (pre .0) divisors-is kinds-is (cleared .clear .ensures) in
+    walk-ready (pre .1) lists)
     (λ c. search needs)
     (λ c. search needs)
     (λ c.
-    let pre = c .before .before .before .before .before .before .before .before .before .before .before .before .before .before .before .before .before .before .before .before .pre in
-    let totals-is = c .before .before .before .before .before .before .before .before .before .before .before .before .before .before .before .before .totals .ensures in
-    let clear-is = c .before .before .before .before .before .before .before .before .before .before .before .before .before .clear .ensures in
-    let rows2-is = c .before .before .before .before .before .before .before .before .before .before .rows2 .ensures in
-    let divisors-is = c .before .before .before .before .before .before .before .before .before .divisors .ensures in
-    let kinds-is = c .before .before .before .before .before .before .before .before .kinds .ensures in
     let walk-is = c .before .before .walk .ensures in
-    (sums-made (pre .1) (record { totals-are = totals-made (pre .1) (totals-is .1); effects-are = rows2-is; denominator-is = pre .0; divisors-are = divisors-is; kinds-are = kinds-is; rows-are = clear-is }) (c .before .before .walk .result) (walk-is .0) (walk-is .1 .0) (walk-is .1 .1 .0), (totals-made (pre .1) (totals-is .1), rows-made (pre .1) (record { totals-are = totals-made (pre .1) (totals-is .1); effects-are = rows2-is; denominator-is = pre .0; divisors-are = divisors-is; kinds-are = kinds-is; rows-are = clear-is }) (walk-is .1 .1 .1)))))
+    let listed = c .before .before .before .before .before .before .before .before in
+    let kinds-is = listed .kinds .ensures in
+    let divisors-is = listed .before .divisors .ensures in
+    let rows2-is = listed .before .before .rows2 .ensures in
+    let cleared = listed .before .before .before .before .before in
+    let totalled = cleared .before .before .before in
+    let pre = totalled .before .before .before .before .pre in
+    let totals-is = totalled .totals .ensures in
+    let lists = lists-made (pre .1) (totals-is .1) rows2-is (pre .0) divisors-is kinds-is (cleared .clear .ensures) in
+    (sums-made (pre .1) lists walk-is, (totals-made (pre .1) (totals-is .1), rows-made (pre .1) lists walk-is))))

@@ -28,8 +28,8 @@ make-spec =
     (λ c.
     let pre = c .before .before .before .before .before .before .before .before .before .before .before .before .before .pre in
     let check-number-is = c .before .before .before .before .before .before .before .before .before .check-number .ensures in
-    let denominator-is2 = c .before .before .before .before .before .before .before .denominator .ensures in
-    omega (arith, total-small pre (denominator-is pre (check-number-is .1) denominator-is2) (c .sum-of-squares .ensures)))
+    let over-given = c .before .before .before .before .before .before .before .denominator .ensures in
+    omega (arith, total-small pre (denominator-is pre (check-number-is .1) over-given) (c .sum-of-squares .ensures)))
     (λ c. search needs)
     (λ c κs. lit< tt)
     (λ c κs. lit< tt)
@@ -38,12 +38,19 @@ make-spec =
     (λ c. search needs)
     (λ c. search needs)
     (λ c.
-    let pre = c .before .before .before .before .before .before .before .before .before .before .before .before .before .before .before .before .before .before .before .before .pre in
-    let check-number-is = c .before .before .before .before .before .before .before .before .before .before .before .before .before .before .before .before .check-number .ensures in
-    let check-number-ok = c .before .before .before .before .before .before .before .before .before .before .before .before .before .before .before .before .check-number .ok in
-    let denominator-is2 = c .before .before .before .before .before .before .before .before .before .before .before .before .before .before .denominator .ensures in
-    let form-is = c .before .before .before .before .before .before .before .before .before .before .before .form .ensures in
-    let sum-of-squares-is = c .before .before .before .before .before .before .before .sum-of-squares .ensures in
-    let source-is = c .before .before .before .before .source .ensures in
-    let source2-is = c .before .before .before .source2 .ensures in
-    (figures-made pre (denominator-is pre (check-number-is .1) denominator-is2) sum-of-squares-is (form-is .0) _ _ _ _ _ _ _ source-is source2-is (c .before .before .source3 .ensures) (c .before .source4 .ensures) refl (sum-kept pre (denominator-is pre (check-number-is .1) denominator-is2) sum-of-squares-is (form-is .0)) (kept _ check-number-ok ∙ check-number-is .0), (form-is .1 .0, form-is .1 .1))))
+    let mean-is = c .before .before .before .before .source .ensures in
+    let kept-is = c .before .before .before .source2 .ensures in
+    let blocks-is = c .before .before .source3 .ensures in
+    let error-is = c .before .source4 .ensures in
+    let squares-is = c .before .before .before .before .before .before .before .sum-of-squares .ensures in
+    let formed = c .before .before .before .before .before .before .before .before .before .before .before in
+    let form-is = formed .form .ensures in
+    let over-given = formed .before .before .before .denominator .ensures in
+    let checked = formed .before .before .before .before .before in
+    let check-number-is = checked .check-number .ensures in
+    let pre = checked .before .before .before .before .pre in
+    let over-is = denominator-is pre (check-number-is .1) over-given in
+    let sum-is = sum-kept pre over-is squares-is (form-is .0) in
+    let from-is = kept _ (checked .check-number .ok) ∙ check-number-is .0 in
+    let figures-are = figures-made pre over-is squares-is (form-is .0) _ _ _ _ _ _ _ mean-is kept-is blocks-is error-is refl sum-is from-is in
+    (figures-are, (form-is .1 .0, form-is .1 .1))))

@@ -22,25 +22,24 @@ estimate-refused-spec =
     (λ c. search needs)
     (λ c κs. tt)
     (λ c.
-    let lowest-is = c .before .before .before .before .before .before .lowest .ensures in
-    let if1-left = c .before .before .before .before .before .if1 .left in
-    let if2-left = c .before .before .before .if2 .left in
-    rw (estimate-two _ _ _ (sym lowest-is ∙ if1-left) if2-left, is (c .before .has-beyond .ensures) (c .if3 .taken)) refl)
+    let plan-is = sym (c .before .before .before .before .before .before .lowest .ensures) ∙ c .before .before .before .before .before .if1 .left in
+    let two-is = c .before .before .before .if2 .left in
+    let effect-is = is (c .before .has-beyond .ensures) (c .if3 .taken) in
+    rw (estimate-two _ _ _ plan-is two-is, effect-is) refl)
     (λ c κs.
-    let lowest-is = c .before .before .before .before .before .before .lowest .ensures in
-    let if1-left = c .before .before .before .before .before .if1 .left in
-    sizes _ (sym lowest-is ∙ if1-left) .0)
+    let plan-is = sym (c .before .before .before .before .before .before .lowest .ensures) ∙ c .before .before .before .before .before .if1 .left in
+    sizes _ plan-is .0)
     (λ c.
     let total-fits = c .before .before .before .before .before .before .before .before .before .fits .total in
-    let lowest-is = c .before .before .before .before .before .before .before .before .lowest .ensures in
-    let if1-left = c .before .before .before .before .before .before .before .if1 .left in
-    let if2-left = c .before .before .before .before .before .if2 .left in
-    let has-beyond-is = c .before .before .before .has-beyond .ensures in
-    rw (estimate-two _ _ _ (sym lowest-is ∙ if1-left) if2-left, is has-beyond-is (c .before .before .if3 .left), is (rw (toZ-ofZ total-fits) at (c .before .is-beyond .ensures)) (c .if4 .taken)) refl)
+    let plan-is = sym (c .before .before .before .before .before .before .before .before .lowest .ensures) ∙ c .before .before .before .before .before .before .before .if1 .left in
+    let two-is = c .before .before .before .before .before .if2 .left in
+    let effect-is = is (c .before .before .before .has-beyond .ensures) (c .before .before .if3 .left) in
+    let total-is = is (rw (toZ-ofZ total-fits) at (c .before .is-beyond .ensures)) (c .if4 .taken) in
+    rw (estimate-two _ _ _ plan-is two-is, effect-is, total-is) refl)
     (λ c.
     let total-fits = c .before .before .before .before .before .before .before .before .before .fits .total in
-    let lowest-is = c .before .before .before .before .before .before .before .before .lowest .ensures in
-    let if1-left = c .before .before .before .before .before .before .before .if1 .left in
-    let if2-left = c .before .before .before .before .before .if2 .left in
-    let has-beyond-is = c .before .before .before .has-beyond .ensures in
-    rw (estimate-two _ _ _ (sym lowest-is ∙ if1-left) if2-left, is has-beyond-is (c .before .before .if3 .left), is (rw (toZ-ofZ total-fits) at (c .before .is-beyond .ensures)) (c .if4 .left)) refl))
+    let plan-is = sym (c .before .before .before .before .before .before .before .before .lowest .ensures) ∙ c .before .before .before .before .before .before .before .if1 .left in
+    let two-is = c .before .before .before .before .before .if2 .left in
+    let effect-is = is (c .before .before .before .has-beyond .ensures) (c .before .before .if3 .left) in
+    let total-is = is (rw (toZ-ofZ total-fits) at (c .before .is-beyond .ensures)) (c .if4 .left) in
+    rw (estimate-two _ _ _ plan-is two-is, effect-is, total-is) refl))

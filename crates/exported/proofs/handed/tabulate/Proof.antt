@@ -3,16 +3,6 @@ use Rattle.exported.proofs.Roomed.{table-made, table-refused}
 use Rattle.exported.proofs.handed.tabulate.Statement.{statement}
 use Rattle.exported.proofs.handed.tabulate.Tie as tie
 
-returns : tie.Need-returns
-returns c =
-    let a = table-made _ _ (c .before .before .before .before .before .before .before .before .before .before .before .before .before .table .ensures .0) _ (c .before .before .before .before .before .before .before .before .f .given .1) _ _ (c .before .before .before .before .before .put-figures .ensures) (c .before .put-checks .ensures) in
-    (a .0, (c .before .before .before .before .before .before .before .before .before .before .before .before .before .table .ensures .1 .0, (c .before .before .before .before .before .before .before .before .before .before .before .before .before .table .ensures .1 .1, a .1)))
-
-returns-2 : tie.Need-returns-2
-returns-2 c =
-    let a = table-refused _ _ (c .before .before .before .before .before .before .table .ensures .0) _ (c .before .n .given .1) _ _ in
-    (a .0, (c .before .before .before .before .before .before .table .ensures .1 .0, (c .before .before .before .before .before .before .table .ensures .1 .1, a .1)))
-
 pub tabulate-spec : {M : Type 1} → statement M
 tabulate-spec =
     tie.close
@@ -26,7 +16,18 @@ tabulate-spec =
     (λ c. search needs)
     (λ c. search needs)
     (λ c. search needs)
-    returns
+    (λ c.
+    let put-checks-is = c .before .put-checks .ensures in
+    let put-figures-is = c .before .before .before .before .before .put-figures .ensures in
+    let answered = c .before .before .before .before .before .before .before .before in
+    let tabled = answered .before .before .before .before .before in
+    let pre = tabled .before .before .before .before .before .before .pre in
+    let table-is = tabled .table .ensures in
+    table-made pre (table-is .1 .0) (table-is .1 .1) (table-is .0) (answered .f .given .1) put-figures-is put-checks-is)
     (λ c. search needs)
     (λ c. search needs)
-    returns-2)
+    (λ c.
+    let tabled = c .before .before .before .before .before .before in
+    let pre = tabled .before .before .before .before .before .before .pre in
+    let table-is = tabled .table .ensures in
+    table-refused pre (table-is .1 .0) (table-is .1 .1) (table-is .0) (c .before .n .given .1)))

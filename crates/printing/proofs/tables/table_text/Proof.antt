@@ -21,12 +21,23 @@ table-text-spec =
     (λ c κs. tt)
     (λ c. search needs)
     (λ c.
-    let pre = c .before .before .before .before .before .before .before .before .before .before .before .before .before .before .before .before .before .before .before .before .before .before .before .before .before .before .before .before .before .before .before .before .before .before .before .before .before .pre in
-    let args = c .before .before .before .before .before .before .before .before .before .before .before .before .before .before .before .before .before .before .before .before .before .before .before .before .before .before .before .before .before .before .before .before .before .before .before .before .before .args in
-    let named-line-is = c .before .before .before .before .before .before .before .before .before .before .before .before .before .before .before .before .before .before .before .before .before .before .before .before .before .before .before .named-line .ensures in
-    let row-lines-is = c .before .before .before .before .before .before .before .before .before .before .before .before .before .before .before .before .before .before .before .before .before .before .before .row-lines .ensures in
-    let source-line-is = c .before .before .before .before .before .before .before .before .before .before .before .before .before .before .before .before .before .before .source-line .ensures in
-    let source-line2-is = c .before .before .before .before .before .before .before .before .before .before .before .before .before .source-line2 .ensures in
-    let source-line3-is = c .before .before .before .before .before .before .before .before .source-line3 .ensures in
-    let struct-told-given = c .before .before .before .before .struct-told .given in
-    table-lines pre (args .marks .now) (args .f) named-line-is row-lines-is source-line-is source-line2-is source-line3-is (struct-told-given .0 .1) (struct-told-given .1 .0 .1) (c .before .before .check-line .ensures)))
+    let checked = c .before .before in
+    let told = checked .before .before .struct-told .given in
+    let totalled = checked .before .before .before .before .before .before in
+    let pooled = totalled .before .before .before .before .before in
+    let blocked = pooled .before .before .before .before .before in
+    let listed = blocked .before .before .before .before .before in
+    let named = listed .before .before .before .before in
+    let entry = named .before .before .before .before .before .before .before .before .before .before in
+    table-lines
+    (entry .pre)
+    (entry .args .marks .now)
+    (entry .args .f)
+    (named .named-line .ensures)
+    (listed .row-lines .ensures)
+    (blocked .source-line .ensures)
+    (pooled .source-line2 .ensures)
+    (totalled .source-line3 .ensures)
+    (told .0 .1)
+    (told .1 .0 .1)
+    (checked .check-line .ensures)))
