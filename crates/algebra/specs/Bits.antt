@@ -1,7 +1,7 @@
 -- Sets of small numbers as the binary digits of a number.
 --
---   bit w i, isSet w i     digit i of w, and whether it is 1
---   bits n f               the number whose digits below n are those of which f holds
+--   bit w i, isSet w i    digit i of w, and whether it is 1
+--   bits n f              the number whose digits below n are those of which f holds
 use mathlib.Core.Bool.{Bool, cond}
 use Prim.Native.Nat.{ℕ, _/_, _%_, _^_}
 use lib.Dec.{eqb}

@@ -1,8 +1,8 @@
 -- Fractions of natural numbers, divided and added without rounding.
 --
---   Fraction, _over_        a number over another
---   plus q r, sumOf n f     two fractions, and n of them, added up
---   Is q m                  a fraction is the whole number m
+--   Fraction, _over_       a number over another
+--   plus q r, sumOf n f    two fractions, and n of them, added up
+--   Is q m                 a fraction is the whole number m
 use mathlib.Core.Path.{_≡_}
 use Prim.Native.Nat.{ℕ, zero, suc, _+_, _*_, _<_}
 

@@ -1,7 +1,7 @@
 -- Finite sums and largest values of natural numbers.
 --
---   Σℕ n f          f 0 + .. + f (n - 1)
---   most n f        the largest of f 0, .., f (n - 1)
+--   Σℕ n f      f 0 + .. + f (n - 1)
+--   most n f    the largest of f 0, .., f (n - 1)
 use Prim.Native.Nat.{ℕ, zero, suc, _+_, max}
 
 unfoldable pub Σℕ : ℕ → (ℕ → ℕ) → ℕ

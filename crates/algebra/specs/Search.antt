@@ -1,6 +1,6 @@
 -- Whether a test holds of some number below a bound.
 --
---   some n f                       the test f holds of one of the numbers below n
+--   some n f    the test f holds of one of the numbers below n
 use mathlib.Core.Bool.{Bool, false, _||_}
 use Prim.Native.Nat.{ℕ, zero, suc}
 

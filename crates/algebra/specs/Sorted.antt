@@ -1,7 +1,7 @@
 -- Terms sorted by a key: a list whose place w has the sum of those of the first n terms whose key is w.
 --
---   sumAt key f n w        the sum of those of the first n terms f whose key is w
---   sorted r key f n       these sums, for the keys below r
+--   sumAt key f n w     the sum of those of the first n terms f whose key is w
+--   sorted r key f n    these sums, for the keys below r
 use mathlib.Core.Bool.{cond}
 use mathlib.Core.List.{List}
 use Prim.Native.Nat.{ℕ}

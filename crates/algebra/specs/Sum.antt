@@ -1,7 +1,7 @@
 -- Finite sums of integers.
 --
---   Σ n f              f 0 + .. + f (n - 1)
---   δ i j              1 where i and j are equal, else 0
+--   Σ n f    f 0 + .. + f (n - 1)
+--   δ i j    1 where i and j are equal, else 0
 use mathlib.Core.Bool.{cond}
 use Prim.Native.Nat.{ℕ, zero, suc}
 use lib.Dec.{eqb}

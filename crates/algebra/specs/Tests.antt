@@ -1,7 +1,7 @@
 -- Tests that are computed: a table's rule is one test of the whole table.
 --
---   every n p              the test p passes at each number below n
---   eqZ a b                the integers a and b are equal
+--   every n p    the test p passes at each number below n
+--   eqZ a b      the integers a and b are equal
 use mathlib.Core.Bool.{Bool, true, false, _&&_}
 use Prim.Native.Nat.{ℕ, zero, suc}
 use lib.Dec.{eqb}

@@ -1,11 +1,11 @@
 -- The alias call: the base word that an effect of all factors reduces to, and whether the sign turns.
 --
---   baseWord k words e   the base word
---   turnsOf, turns       how many of the replaced letters have sign 1, and whether the sign turns
---   aliasValues p e      both, of a plan
---   aliasRefusals p e       the refusals of the call besides those of the plan
+--   baseWord k words e    the base word
+--   turnsOf, turns        how many of the replaced letters have sign 1, and whether the sign turns
+--   aliasValues p e       both, of a plan
+--   aliasRefusals p e     the refusals of the call besides those of the plan
 --   aliasRefused p e      the lowest number that applies, 0 where the alias is given
---   aliasOutcome         the cases of the call's answer
+--   aliasOutcome          the cases of the call's answer
 use mathlib.Core.Bool.{Bool, cond, _&&_}
 use mathlib.Core.List.{List, [], _∷_}
 use Prim.Native.Nat.{ℕ, _/_, _%_, _^_}

@@ -1,6 +1,7 @@
 -- The loop that copies readings.
 --
 --   Copying xs old i ys                        the first i readings are copied
+--   copying-long                               as long as the readings
 --   copying-none, copying-more, copying-all    before the first, after one more, after the last
 use mathlib.Core.Path.{_≡_, refl, sym, _∙_}
 use mathlib.Core.List.{List}

@@ -1,11 +1,11 @@
 -- The search for a value beyond a limit.
 --
---   above, not-above, negated      the two tests of the code on a value, and the limit's negation
---   either-way                     both tests on a reading at once
---   Sought m xs i                  none of the first i values is beyond m
+--   above, not-above, negated         the two tests of the code on a value, and the limit's negation
+--   either-way                        both tests on a reading at once
+--   Sought m xs i                     none of the first i values is beyond m
 --   sought, onward, found, nowhere    at the search's start, at its next turn, where it finds one, at its end
---   Looked m xs i b                whether one of the first i values is beyond m
---   looked, looked-on, looked-all  at the start of a look at all values, at its next turn, at its end
+--   Looked m xs i b                   whether one of the first i values is beyond m
+--   looked, looked-on, looked-all     at the start of a look at all values, at its next turn, at its end
 use mathlib.Core.Path.{_≡_, refl, sym, _∙_, ap}
 use mathlib.Core.Bool.{Bool, true, false, _||_}
 use mathlib.Core.List.{List}

@@ -1,8 +1,8 @@
 -- The bits of all sizes of a column together.
 --
---   Gathered xs b i              no value of the first i exceeds b in size, but by 1
+--   Gathered xs b i                   no value of the first i exceeds b in size, but by 1
 --   gathered, gather, all-gathered    at the loop's start, at its next turn, at its end
---   few-bits                     where the bits are few no value is beyond
+--   few-bits                          where the bits are few no value is beyond
 use mathlib.Core.Path.{_≡_, sym}
 use mathlib.Core.Bool.{false}
 use mathlib.Core.List.{List}

@@ -1,10 +1,10 @@
 -- Refusals 11 and 12 of the table of refusals, of a column; and what a call that writes a column answers.
 --
---   wrongLength p n               refusal 11: a column of n places is not N long
---   isBeyond, anyBeyond limit xs  refusal 12: a value beyond a limit, and a column that has one
+--   wrongLength p n                  refusal 11: a column of n places is not N long
+--   isBeyond, anyBeyond limit xs     refusal 12: a value beyond a limit, and a column that has one
 --   columnsRefusals limit p xs ys    the refusals, besides those of the plan, of a call that reads the column xs and writes the column ys
---   columnsRefused limit p xs ys   its lowest number that applies, 0 where it is done
---   answerOutcome                 the cases of the answer
+--   columnsRefused limit p xs ys     its lowest number that applies, 0 where it is done
+--   answerOutcome                    the cases of the answer
 use mathlib.Core.Bool.{Bool, not, _||_}
 use mathlib.Core.List.{List, [], _∷_}
 use Prim.Native.Nat.{ℕ}

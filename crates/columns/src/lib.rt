@@ -1,13 +1,13 @@
 // What is refused of columns: their lengths, refusal 11, and their values, refusal 12; the copy of readings; and what a call that writes a column
 // answers.
 //
-//   any_value_beyond(column)               a pass or a step refuses a value of it
-//   is_reading_beyond(x)                   a reading is refused
-//   any_reading_beyond(readings)           the totals and the table refuse a reading
-//   values_refused(p, from, to)             the lowest number of a call that reads a column of values and writes another
-//   readings_refused(p, readings, totals)   and of one that reads readings
-//   copy(readings, column)                 readings as the values of a column
-//   Answer                                 done, or the number of the refusal
+//   any_value_beyond(column)                 a pass or a step refuses a value of it
+//   is_reading_beyond(x)                     a reading is refused
+//   any_reading_beyond(readings)             the totals and the table refuse a reading
+//   values_refused(p, from, to)              the lowest number of a call that reads a column of values and writes another
+//   readings_refused(p, readings, totals)    and of one that reads readings
+//   copy(readings, column)                   readings as the values of a column
+//   Answer                                   done, or the number of the refusal
 mod bits;
 mod copies;
 mod refusals;

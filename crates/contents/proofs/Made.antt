@@ -1,4 +1,6 @@
 -- The plan that is held, part by part.
+--
+--   made    a plan whose parts are those of a sheet's fields is the one that is held
 use mathlib.Core.Path.{_≡_}
 use Prim.Native.Nat.{min}
 use lib.ListN.{length}

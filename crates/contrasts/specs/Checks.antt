@@ -1,15 +1,13 @@
 -- The check of section 5 of the rules, over any list of factors: rounds that begin with the readings.
 --
---   checkWeight F j              the sum of a level's coefficients
---   round F x, rounds Fs x       a round of the check, and what a round for each factor leaves
+--   checkWeight F j           the sum of a level's coefficients
+--   round F x, rounds Fs x    a round of the check, and what a round for each factor leaves
 use mathlib.Core.List.{List, [], _∷_}
 use Prim.Native.Nat.{ℕ, _+_, _*_}
 use lib.IntN.{ℤ, _*ℤ_}
 use Rattle.algebra.specs.Sum.{Σ}
 use Rattle.contrasts.specs.Factor.{Factor}
 use Rattle.contrasts.specs.Totals.{Column}
-
--- ---- the check
 
 -- T22: at three levels these are the numbers 3, -1 and 1 of "3 times first minus middle plus third"
 unfoldable pub checkWeight : Factor → ℕ → ℤ

@@ -1,10 +1,11 @@
--- The codings of factors of two, three, four and five levels: their rows of coefficients, as tables of numbers.
+-- The codings of factors of two, three, four and five levels: their rows of coefficients, as numbers.
 -- The rows of two and three levels are those of section 5 of the rules; four and five levels are named by the request for mixed levels.
 --
---   Coding                                        rows of coefficients, a divisor for each, a common denominator
---   levelsOf, coefOf, divisorOf                  its numbers
---   neg n                                        the number - n
---   twoCoding, threeCoding, fourCoding, fiveCoding   the tables
+--   Coding                         rows of coefficients, a divisor for each, a common denominator
+--   levelsOf, coefOf, divisorOf    its numbers
+--   neg n                          the number - n
+--   twoCoding, threeCoding, fourCoding, fiveCoding
+--                                  the four codings
 use mathlib.Core.List.{List, [], _∷_}
 use Prim.Native.Nat.{ℕ}
 use lib.ListN.{length, getD}
@@ -24,7 +25,7 @@ coefOf t d j = getD (getD (t .rows) d []) j (pos 0)
 abbrev pub divisorOf : Coding → ℕ → ℕ
 divisorOf t d = getD (t .divisors) d 0
 
--- ---- the tables
+-- ---- the four codings
 
 abbrev pub neg : ℕ → ℤ
 neg n = negℤ (pos n)

@@ -1,14 +1,14 @@
 -- The factors of two, three, four and five levels, from their codings. The laws of a coding are one test of the whole of it,
 -- which is computed.
 --
---   dividing, rowsApart, columnsApart            the tests of its divisors, of its rows and of its columns
---   tests, lawful                                all tests, by their number, and whether all pass
+--   dividing, rowsApart, columnsApart    the tests of its divisors, of its rows and of its columns
+--   tests, lawful                        all tests, by their number, and whether all pass
 --   some-level, some-common, divides, rows, columns
---                                                the laws that a lawful coding has
---   factorOf                                     so it makes a factor
---   codings, coding-lawful                       the four by their number, and that all are lawful
---   two, three, four, five                       the factors
---   ofLevels n                                   the factor of two levels, or that of three
+--                                        the laws that a lawful coding has
+--   factorOf                             so it makes a factor
+--   codings, coding-lawful               the four by their number, and that all are lawful
+--   two, three, four, five               the factors
+--   ofLevels n                           the factor of two levels, or that of three
 use mathlib.Core.Path.{_≡_}
 use mathlib.Core.Bool.{Bool, true, cond}
 use mathlib.Core.List.{[], _∷_}

@@ -1,9 +1,9 @@
 -- The limits of sections 3 and 5 of the rules and of the table of refusals, each named once.
 --
---   readingLimit      a reading's size
---   valueLimit        the size of a value that a pass or a step admits
---   numeratorLimit    a numerator, or a sum of some of one table
---   mostTwo, mostThree    how many factors a plan may have
+--   readingLimit             a reading's size
+--   valueLimit               the size of a value that a pass or a step admits
+--   numeratorLimit           a numerator, or a sum of some of one table
+--   mostTwo, mostThree       how many factors a plan may have
 --   mostAdded, mostBlocks    how many added factors and block words
 use Prim.Native.Nat.{ℕ}
 

@@ -1,11 +1,11 @@
 -- The passes of section 5 of the rules, over any list of factors, and lists of pass calls.
 --
---   spacing Fs f                 how far apart the values of the factor at position f lie
---   digitAt, withDigit           a place's digit that stands for s, and the place with another digit there
---   passAt s F x                 the pass of a factor whose values lie s apart
---   passFrom, pass Fs f x        the pass of the factor at position f
---   passes Fs fs x               the passes of a list of positions, one after the other
---   hit, count k fs              how often position k is called
+--   spacing Fs f             how far apart the values of the factor at position f lie
+--   digitAt, withDigit       a place's digit that stands for s, and the place with another digit there
+--   passAt s F x             the pass of a factor whose values lie s apart
+--   passFrom, pass Fs f x    the pass of the factor at position f
+--   passes Fs fs x           the passes of a list of positions, one after the other
+--   hit, count k fs          how often position k is called
 use mathlib.Core.Bool.{cond}
 use mathlib.Core.List.{List, [], _∷_}
 use Prim.Native.Nat.{ℕ, zero, suc, _+_, _*_, _-_, _/_, _%_}
@@ -15,8 +15,6 @@ use lib.ListN.{take}
 use Rattle.algebra.specs.Sum.{Σ}
 use Rattle.contrasts.specs.Factor.{Factor}
 use Rattle.contrasts.specs.Totals.{Column, size}
-
--- ---- passes
 
 -- T7: "levels to the power f places apart": the product of the levels of the factors before position f
 abbrev pub spacing : List Factor → ℕ → ℕ

@@ -1,15 +1,13 @@
 -- The report's own step, over any list of factors.
 --
---   sets, step N F x             the report's own step over a column of N
---   steps N Fs x                 a step for each factor, one after the other
+--   sets, step N F x    the report's own step over a column of N
+--   steps N Fs x        a step for each factor, one after the other
 use mathlib.Core.List.{List, [], _∷_}
 use Prim.Native.Nat.{ℕ, _+_, _*_, _/_, _%_}
 use lib.IntN.{_*ℤ_}
 use Rattle.algebra.specs.Sum.{Σ}
 use Rattle.contrasts.specs.Factor.{Factor}
 use Rattle.contrasts.specs.Totals.{Column}
-
--- ---- the report's own step
 
 -- the number of sets of successive values in a column of N
 abbrev pub sets : ℕ → Factor → ℕ

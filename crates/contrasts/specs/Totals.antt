@@ -1,16 +1,16 @@
 -- Totals, divisors and numerators, over any list of factors. The first factor, A, is the lowest digit of a run's number.
 -- A column is a function of the place; a place that the plan does not have holds nothing of interest.
 --
---   Column                       a value at each place
---   size Fs                      how many runs there are
---   coef* Fs e r                 the coefficient of run r in the total of effect e
---   total Fs x e                 the total of effect e
---   divisor* Fs e                the divisor of effect e
---   denominator Fs               the common denominator
---   weight* Fs e                 denominator over divisor
---   numeratorOf Fs e t           the numerator of effect e, where its total is t
---   numerator Fs x e             the numerator of effect e
---   squared Fs x                 the sum of squared readings
+--   Column                a value at each place
+--   size Fs               how many runs there are
+--   coef* Fs e r          the coefficient of run r in the total of effect e
+--   total Fs x e          the total of effect e
+--   divisor* Fs e         the divisor of effect e
+--   denominator Fs        the common denominator
+--   weight* Fs e          denominator over divisor
+--   numeratorOf Fs e t    the numerator of effect e, where its total is t
+--   numerator Fs x e      the numerator of effect e
+--   squared Fs x          the sum of squared readings
 use mathlib.Core.List.{List, [], _∷_}
 use Prim.Native.Nat.{ℕ, _*_, _/_, _%_}
 use lib.IntN.{ℤ, pos, natAbs, _*ℤ_}

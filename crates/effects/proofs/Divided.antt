@@ -1,8 +1,10 @@
 -- The loops that divide the table of divisors.
 --
 --   Divided xs e ys                            the entries of xs below e are divided by 3
+--   divided-long                               its length
 --   divided-none, divided-more, divided-all    before the first entry, after one more, after the last
 --   Missing k n ys                             the table is that of n factors, of which there are to be k
+--   missing-long                               its length
 --   missing-none, missing-more, missing-all    before the first division, after one more, after the last
 use mathlib.Core.Path.{_≡_, refl, sym, _∙_, ap}
 use mathlib.Core.List.{List}

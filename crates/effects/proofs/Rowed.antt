@@ -1,12 +1,12 @@
 -- The loops that fill the rows of effects.
 --
---   OfTwo n e ys                          at two levels, rows are filled below effect e
---   two-none, two-more, two-all           before the first effect, after one more, after the last
---   OfThree n e ys                        at three levels, likewise, each row from that of a lower effect
---   three-none, three-more, three-all     before the first effect, after one more, after the last
---   three-fits                            the next row fits
---   few-two, few-three                    how many effects there are
---   of-two, of-three                      the rows of a plan, by its levels
+--   RowsTwo n e ys                          at two levels, rows are filled below effect e
+--   two-none, two-more, two-all             before the first effect, after one more, after the last
+--   RowsThree n e ys                        at three levels, likewise, each row from that of a lower effect
+--   three-none, three-more, three-all       before the first effect, after one more, after the last
+--   three-fits                              the next row fits
+--   few-two, few-three                      how many effects there are
+--   effect-rows-two, effect-rows-three      the rows of a plan, by its levels
 use mathlib.Core.Path.{_≡_, refl, sym, _∙_, ap}
 use mathlib.Core.Bool.{cond}
 use mathlib.Core.List.{List}
@@ -35,19 +35,19 @@ use Rattle.effects.specs.Effects.{effectRows}
 
 -- ---- two levels
 
-pub record OfTwo (n e : ℕ) (ys : List ℕ) : Type 0 where
+pub record RowsTwo (n e : ℕ) (ys : List ℕ) : Type 0 where
   pub upto : e ≤ n
   pub so : Filled 1024 (λ j. j) (λ j. 0) e ys
 
-pub two-none : (n : ℕ) → OfTwo n 0 (replicate 1024 0)
+pub two-none : (n : ℕ) → RowsTwo n 0 (replicate 1024 0)
 two-none n =
     record {
       upto = omega arith;
       so = filled-none 0 1024 (λ j. j) (λ j. 0) (replicate 1024 0) (length-replicate {A = ℕ} 1024 0) (λ j h. getD-replicate {A = ℕ} 1024 j 0 0 h);
     }
 
-module _ {n e : ℕ} {ys : List ℕ} (w : OfTwo n e ys) where
-  pub two-more : e < n → n ≤ 1024 → OfTwo n (e + 1) (set ys e e)
+module _ {n e : ℕ} {ys : List ℕ} (w : RowsTwo n e ys) where
+  pub two-more : e < n → n ≤ 1024 → RowsTwo n (e + 1) (set ys e e)
   two-more h most = record { upto = omega arith; so = filled-more 0 (w .so) (omega arith) refl }
 
   pub two-all : n ≤ e → ys ≡ tab 1024 (λ j. cond (ltb j n) j 0)
@@ -60,18 +60,18 @@ module _ {n e : ℕ} {ys : List ℕ} (w : OfTwo n e ys) where
 abbrev row : ℕ → ℕ
 row e = rowOf (replicate 6 three) e
 
-pub record OfThree (n e : ℕ) (ys : List ℕ) : Type 0 where
+pub record RowsThree (n e : ℕ) (ys : List ℕ) : Type 0 where
   pub upto : e ≤ n
   pub so : Filled 1024 (rowOf (replicate 6 three)) (λ j. 0) e ys
 
-pub three-none : (n : ℕ) → OfThree n 0 (replicate 1024 0)
+pub three-none : (n : ℕ) → RowsThree n 0 (replicate 1024 0)
 three-none n =
     record {
       upto = omega arith;
       so = filled-none 0 1024 row (λ j. 0) (replicate 1024 0) (length-replicate {A = ℕ} 1024 0) (λ j h. getD-replicate {A = ℕ} 1024 j 0 0 h);
     }
 
-module _ {n e : ℕ} {ys : List ℕ} (w : OfThree n e ys) where
+module _ {n e : ℕ} {ys : List ℕ} (w : RowsThree n e ys) where
   pub three-all : n ≤ e → ys ≡ tab 1024 (λ j. cond (ltb j n) (rowOf (replicate 6 three) j) 0)
   three-all h =
       let d : e ≡ n = omega (arith, w .upto) in
@@ -95,7 +95,7 @@ module _ {n e : ℕ} {ys : List ℕ} (w : OfThree n e ys) where
     unfolding three size
     again = row-again three 5 e (omega arith)
 
-    pub three-more : {u : ℕ} → u ≡ cond (eqb (e % 3) 0) 0 1 → OfThree n (e + 1) (set ys e (getD ys (e / 3) 0 * 2 + u))
+    pub three-more : {u : ℕ} → u ≡ cond (eqb (e % 3) 0) 0 1 → RowsThree n (e + 1) (set ys e (getD ys (e / 3) 0 * 2 + u))
     three-more {u} d = record { upto = omega arith; so = filled-more 0 (w .so) (omega arith) (ap (λ n. n * 2 + u) before ∙ rw d (sym again)) }
 
 -- ---- the rows of a plan
@@ -137,8 +137,8 @@ module _ (p : Plan) {n : ℕ} (count : n ≡ runCount p) where
           let s : 3 ^ p .k ≤ 729 = pow-le-pow-right {n = 3} (omega arith) {i = p .k} {j = 6} (a .most) in
           rw (count ∙ a .count) (omega (arith, s))
 
-  pub of-two : p .levels ≡ 2 → {ys : List ℕ} → ys ≡ tab 1024 (λ e. cond (ltb e n) e 0) → ys ≡ effectRows p
-  of-two l {ys} e = by (runs-known p)
+  pub effect-rows-two : p .levels ≡ 2 → {ys : List ℕ} → ys ≡ tab 1024 (λ e. cond (ltb e n) e 0) → ys ≡ effectRows p
+  effect-rows-two l {ys} e = by (runs-known p)
     where
       by : (runCount p ≡ 0) ⊎ (RunsTwo p ⊎ RunsThree p) → ys ≡ effectRows p
       by (inl z) = no-rows (count ∙ z) (λ e. e) e
@@ -154,8 +154,8 @@ module _ (p : Plan) {n : ℕ} (count : n ≡ runCount p) where
         by (inr (inl a)) = absurd (l (a .levels))
         by (inr (inr a)) = rw (count ∙ a .count) (pow-le-pow-right {n = 3} (omega arith) {i = p .k} {j = 6} (a .most))
 
-    pub of-three : {ys : List ℕ} → ys ≡ tab 1024 (λ e. cond (ltb e n) (rowOf (replicate 6 three) e) 0) → ys ≡ effectRows p
-    of-three {ys} e = by (runs-known p)
+    pub effect-rows-three : {ys : List ℕ} → ys ≡ tab 1024 (λ e. cond (ltb e n) (rowOf (replicate 6 three) e) 0) → ys ≡ effectRows p
+    effect-rows-three {ys} e = by (runs-known p)
       where
         by : (runCount p ≡ 0) ⊎ (RunsTwo p ⊎ RunsThree p) → ys ≡ effectRows p
         by (inl z) = no-rows (count ∙ z) row e

@@ -1,8 +1,9 @@
 -- Refusal 1 as the code judges it.
 --
---   itself              a test of a test
---   Passed s at last    the fields before the place `at` are not bad, and the last of them has tag `last`
---   passed-none, passed-cut, passed-falling, passed-unknown, passed-one, passed-all    the loop that judges field by field
+--   itself                        a test of a test
+--   Passed s at last              the fields before the place `at` are not bad, and the last of them has tag `last`
+--   passed-none, passed-cut, passed-falling, passed-unknown, passed-one, passed-all
+--                                 the loop that judges field by field
 --   not-one, not-four, by-five    the tags that stand once
 use mathlib.Core.Path.{_≡_, refl, sym, ap, _∙_}
 use mathlib.Core.Bool.{Bool, true, false, not, cond, or-false}
@@ -15,7 +16,7 @@ use lib.ListN.{length, getD}
 use Rattle.fields.specs.Fields.{Fields, fieldsOf, bodies}
 use Rattle.fields.specs.Inner.Places.{endAt}
 use Rattle.fields.specs.Rules.{rules, admits, badFrom, badFields}
-use Rattle.fields.proofs.Walking.{Rest, begin, ended, cut-here, Next, next}
+use Rattle.fields.proofs.Walking.{Rest, begin, ended, cut-here, Next}
 
 pub itself : (b : Bool) → not b ≡ not (cond b true false)
 itself true = refl
@@ -34,34 +35,30 @@ module _ {s : List ℕ} {at last : ℕ} (w : Passed s at last) where
   unfolding badFrom
   passed-all h = sym (w .so ∙ rw (ended (w .rest) h) refl)
 
-  module _ (inside : at < length s) {r : ℕ} (e : r ≡ endAt s at) where
-    pub passed-cut : r ≡ 0 → true ≡ badFrom 0 (fieldsOf s)
+  pub passed-cut : at < length s → {r : ℕ} → r ≡ endAt s at → r ≡ 0 → true ≡ badFrom 0 (fieldsOf s)
+  unfolding badFrom
+  passed-cut inside e z = sym (w .so ∙ rw (cut-here (w .rest) inside e z) refl)
+
+  module _ {r : ℕ} (on : Next s at r (w .fs)) where
+    pub passed-falling : getD s at 0 < last → true ≡ badFrom 0 (fieldsOf s)
     unfolding badFrom
-    passed-cut z = sym (w .so ∙ rw (cut-here (w .rest) inside e z) refl)
+    passed-falling h = sym (w .so ∙ rw (on .so, lt-ltb (getD s at 0) last h) refl)
 
-    module _ (z : r ≡ 0 → ⊥) where
-      on : Next s at r (w .fs)
-      on = next (w .rest) inside e z
+    module _ (h : last ≤ getD s at 0) {n : ℕ} (q : n ≡ r - at - 3) where
+      size : n ≡ r - (at + 3)
+      size = omega (arith, q, on .past)
 
-      pub passed-falling : getD s at 0 < last → true ≡ badFrom 0 (fieldsOf s)
+      pub passed-unknown : not (admits rules (getD s at 0) n) ≡ true → true ≡ badFrom 0 (fieldsOf s)
       unfolding badFrom
-      passed-falling h = sym (w .so ∙ rw (on .so, lt-ltb (getD s at 0) last h) refl)
+      passed-unknown d = sym (w .so ∙ rw (on .so, le-ltb (getD s at 0) last h, on .long, ← size, d) refl)
 
-      module _ (h : last ≤ getD s at 0) {n : ℕ} (q : n ≡ r - at - 3) where
-        size : n ≡ r - (at + 3)
-        size = omega (arith, q, on .past)
-
-        pub passed-unknown : not (admits rules (getD s at 0) n) ≡ true → true ≡ badFrom 0 (fieldsOf s)
-        unfolding badFrom
-        passed-unknown d = sym (w .so ∙ rw (on .so, le-ltb (getD s at 0) last h, on .long, ← size, d) refl)
-
-        pub passed-one : not (admits rules (getD s at 0) n) ≡ false → Passed s r (getD s at 0)
-        unfolding badFrom
-        passed-one d = record {
-          fs = on .more;
-          rest = on .rest;
-          so = w .so ∙ ap (badFrom last) (on .so) ∙ rw (le-ltb (getD s at 0) last h, on .long, ← size, d) refl;
-        }
+      pub passed-one : not (admits rules (getD s at 0) n) ≡ false → Passed s r (getD s at 0)
+      unfolding badFrom
+      passed-one d = record {
+        fs = on .more;
+        rest = on .rest;
+        so = w .so ∙ ap (badFrom last) (on .so) ∙ rw (le-ltb (getD s at 0) last h, on .long, ← size, d) refl;
+      }
 
 -- ---- the tags that stand once, one after the other
 

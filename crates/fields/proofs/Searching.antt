@@ -1,10 +1,12 @@
 -- The walks that count the fields of a tag, and look for one of them.
 --
---   Counted s t at n          before the place `at` there are n fields of tag t
---   counted-none, counted-one, counted-other, counted-cut, counted-all    at the start, after a field of the tag, after another, at the end
---   Sought s t place at n     so many there are, none of them the one sought
---   sought-none, sought-one, sought-other, sought-cut, sought-all         the same
---   sought-here               the field sought
+--   Counted s t at n         before the place `at` there are n fields of tag t
+--   counted-none, counted-one, counted-other, counted-cut, counted-all
+--                            at the start, after a field of the tag, after another, at the end
+--   Sought s t place at n    so many there are, none of them the one sought
+--   sought-none, sought-one, sought-other, sought-cut, sought-all
+--                            the same
+--   sought-here              the field sought
 use mathlib.Core.Path.{_≡_, refl, sym, ap, _∙_}
 use mathlib.Core.List.{List, []}
 use Prim.Native.Nat.{ℕ, suc, _+_, _-_, _≤_, _<_}
@@ -13,7 +15,7 @@ use borrow.Author.Tests.{eq-eqb, ne-eqb}
 use lib.ListN.{length, take, drop, getD}
 use Rattle.fields.specs.Fields.{Fields, fieldsOf, bodies, bodyAt}
 use Rattle.fields.specs.Inner.Places.{endAt}
-use Rattle.fields.proofs.Walking.{Rest, begin, ended, cut-here, Next, next}
+use Rattle.fields.proofs.Walking.{Rest, begin, ended, cut-here, Next}
 
 pub record Counted (s : List ℕ) (t at n : ℕ) : Type 0 where
   pub fs : Fields
@@ -29,32 +31,28 @@ module _ {s : List ℕ} {t at n : ℕ} (w : Counted s t at n) where
   unfolding bodies
   counted-all h = sym (w .so ∙ rw (ended (w .rest) h) (omega arith))
 
-  module _ (inside : at < length s) {r : ℕ} (e : r ≡ endAt s at) where
-    pub counted-cut : r ≡ 0 → n ≡ length (bodies t (fieldsOf s))
+  pub counted-cut : at < length s → {r : ℕ} → r ≡ endAt s at → r ≡ 0 → n ≡ length (bodies t (fieldsOf s))
+  unfolding bodies
+  counted-cut inside e z = sym (w .so ∙ rw (cut-here (w .rest) inside e z) (omega arith))
+
+  module _ {r : ℕ} (on : Next s at r (w .fs)) where
+    pub counted-one : getD s at 0 ≡ t → Counted s t r (n + 1)
     unfolding bodies
-    counted-cut z = sym (w .so ∙ rw (cut-here (w .rest) inside e z) (omega arith))
+    counted-one d = record {
+      fs = on .more;
+      rest = on .rest;
+      so = w .so ∙ ap (λ f. n + length (bodies t f)) (on .so) ∙ rw (eq-eqb (getD s at 0) t d) (omega arith);
+      few = omega (arith, w .few, on .past);
+    }
 
-    module _ (z : r ≡ 0 → ⊥) where
-      on : Next s at r (w .fs)
-      on = next (w .rest) inside e z
-
-      pub counted-one : getD s at 0 ≡ t → Counted s t r (n + 1)
-      unfolding bodies
-      counted-one d = record {
-        fs = on .more;
-        rest = on .rest;
-        so = w .so ∙ ap (λ f. n + length (bodies t f)) (on .so) ∙ rw (eq-eqb (getD s at 0) t d) (omega arith);
-        few = omega (arith, w .few, on .past);
-      }
-
-      pub counted-other : (getD s at 0 ≡ t → ⊥) → Counted s t r n
-      unfolding bodies
-      counted-other d = record {
-        fs = on .more;
-        rest = on .rest;
-        so = w .so ∙ ap (λ f. n + length (bodies t f)) (on .so) ∙ rw (ne-eqb (getD s at 0) t d) refl;
-        few = omega (arith, w .few, on .past);
-      }
+    pub counted-other : (getD s at 0 ≡ t → ⊥) → Counted s t r n
+    unfolding bodies
+    counted-other d = record {
+      fs = on .more;
+      rest = on .rest;
+      so = w .so ∙ ap (λ f. n + length (bodies t f)) (on .so) ∙ rw (ne-eqb (getD s at 0) t d) refl;
+      few = omega (arith, w .few, on .past);
+    }
 
 pub record Sought (s : List ℕ) (t place at n : ℕ) : Type 0 where
   pub fs : Fields
@@ -78,39 +76,35 @@ module _ {s : List ℕ} {t place at n : ℕ} (w : Sought s t place at n) where
   unfolding bodies
   sought-all h = sym (w .so ∙ rw (ended (w .rest) h) refl)
 
-  module _ (inside : at < length s) {r : ℕ} (e : r ≡ endAt s at) where
-    pub sought-cut : r ≡ 0 → [] ≡ bodyAt t place (fieldsOf s)
+  pub sought-cut : at < length s → {r : ℕ} → r ≡ endAt s at → r ≡ 0 → [] ≡ bodyAt t place (fieldsOf s)
+  unfolding bodies
+  sought-cut inside e z = sym (w .so ∙ rw (cut-here (w .rest) inside e z) refl)
+
+  module _ {r : ℕ} (on : Next s at r (w .fs)) where
+    pub sought-here : getD s at 0 ≡ t → n ≡ place → take (r - (at + 3)) (drop (at + 3) s) ≡ bodyAt t place (fieldsOf s)
     unfolding bodies
-    sought-cut z = sym (w .so ∙ rw (cut-here (w .rest) inside e z) refl)
+    sought-here d q =
+        let m : place - n ≡ 0 = omega arith in
+        sym (w .so ∙ rw (on .so, eq-eqb (getD s at 0) t d, m) refl)
 
-    module _ (z : r ≡ 0 → ⊥) where
-      onward : Next s at r (w .fs)
-      onward = next (w .rest) inside e z
+    pub sought-one : getD s at 0 ≡ t → (n ≡ place → ⊥) → Sought s t place r (n + 1)
+    unfolding bodies
+    sought-one d q =
+        let m : place - n ≡ suc (place - (n + 1)) = omega (arith, w .before) in
+        record {
+          fs = on .more;
+          rest = on .rest;
+          so = w .so ∙ ap (λ f. getD (bodies t f) (place - n) []) (on .so) ∙ rw (eq-eqb (getD s at 0) t d, m) refl;
+          few = omega (arith, w .few, on .past);
+          before = omega (arith, w .before);
+        }
 
-      pub sought-here : getD s at 0 ≡ t → n ≡ place → take (r - (at + 3)) (drop (at + 3) s) ≡ bodyAt t place (fieldsOf s)
-      unfolding bodies
-      sought-here d q =
-          let m : place - n ≡ 0 = omega arith in
-          sym (w .so ∙ rw (onward .so, eq-eqb (getD s at 0) t d, m) refl)
-
-      pub sought-one : getD s at 0 ≡ t → (n ≡ place → ⊥) → Sought s t place r (n + 1)
-      unfolding bodies
-      sought-one d q =
-          let m : place - n ≡ suc (place - (n + 1)) = omega (arith, w .before) in
-          record {
-            fs = onward .more;
-            rest = onward .rest;
-            so = w .so ∙ ap (λ f. getD (bodies t f) (place - n) []) (onward .so) ∙ rw (eq-eqb (getD s at 0) t d, m) refl;
-            few = omega (arith, w .few, onward .past);
-            before = omega (arith, w .before);
-          }
-
-      pub sought-other : (getD s at 0 ≡ t → ⊥) → Sought s t place r n
-      unfolding bodies
-      sought-other d = record {
-        fs = onward .more;
-        rest = onward .rest;
-        so = w .so ∙ ap (λ f. getD (bodies t f) (place - n) []) (onward .so) ∙ rw (ne-eqb (getD s at 0) t d) refl;
-        few = omega (arith, w .few, onward .past);
-        before = w .before;
-      }
+    pub sought-other : (getD s at 0 ≡ t → ⊥) → Sought s t place r n
+    unfolding bodies
+    sought-other d = record {
+      fs = on .more;
+      rest = on .rest;
+      so = w .so ∙ ap (λ f. getD (bodies t f) (place - n) []) (on .so) ∙ rw (ne-eqb (getD s at 0) t d) refl;
+      few = omega (arith, w .few, on .past);
+      before = w .before;
+    }

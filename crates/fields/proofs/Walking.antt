@@ -1,10 +1,10 @@
 -- A walk over a sheet, from field to field.
 --
 --   end-short, end-cut, end-whole    where a field ends, as the code finds it
---   Rest s at fs           fs are the fields of the sheet s from the place `at` on
---   begin, ended           at the start of the walk, and at the end of the sheet
---   cut-here               a field that has no end is cut short
---   Next s at r fs, next   a field that ends at r, and the fields from there on
+--   Rest s at fs                     fs are the fields of the sheet s from the place `at` on
+--   begin, ended                     at the start of the walk, and at the end of the sheet
+--   cut-here                         a field that has no end is cut short
+--   Next s at r fs, next             a field that ends at r, and the fields from there on
 use mathlib.Core.Path.{_≡_, refl, sym, ap, _∙_}
 use mathlib.Core.Bool.{cond}
 use mathlib.Core.List.{List, [], _∷_}

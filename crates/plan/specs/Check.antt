@@ -1,14 +1,14 @@
 -- What section 9 of the rules refuses of a plan: refusals 2 to 8.
 --
---   badLevels, badFactors, badCounts    refusals 2, 3 and 4
---   badWord, badSign, badWords          refusal 5; refusal 6 is `repeated` of words
---   dependent                           refusal 7
---   factorWord, losesFactor             refusal 8
+--   badLevels, badFactors, badCounts           refusals 2, 3 and 4
+--   badWord, badSign, badWords                 refusal 5; refusal 6 is `repeated` of words
+--   dependent                                  refusal 7
+--   factorWord, losesFactor                    refusal 8
 --   wordRefusals, planRefusals, planRefused    these refusals; the lowest number that applies to a plan, 0 where it is accepted
---   withPlan p refusals                    the lowest number of a call that takes a plan and has further refusals of its own
---   runCount p, spacingAt p f           the number of runs, and the spacing of the factor at position f, for any plan
---   confoundedAccepted p w              whether the effect of w is confounded, for any plan
---   checkOutcome                        the cases of the check's answer
+--   withPlan p refusals                        the lowest number of a call that takes a plan and has further refusals of its own
+--   runCount p, spacingAt p f                  the number of runs, and the spacing of the factor at position f, for any plan
+--   confoundedAccepted p w                     whether the effect of w is confounded, for any plan
+--   checkOutcome                               the cases of the check's answer
 use mathlib.Core.Bool.{Bool, false, not, cond, _||_}
 use mathlib.Core.List.{List, [], _∷_}
 use Prim.Native.Nat.{ℕ}

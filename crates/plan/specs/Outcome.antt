@@ -1,11 +1,11 @@
 -- What every call answers: its values, or the number of its refusal, "the lowest number that applies".
 --
---   Refusal, lowest        a refusal: its number, and whether its condition holds; the number of the first that holds
---   rising last refusals   the numbers of the refusals rise, from above `last` on
---   applies m refusals     the refusal of number m is one of these, and holds
---   Outcome, refusedOf   a call's values, or the number of its refusal
---   outcome n v         the answer of a call whose lowest number is n, and whose values are v where n is 0
---   written n new old   what such a call leaves in a slice that it is lent to write
+--   Refusal, lowest         a refusal: its number, and whether its condition holds; the number of the first that holds
+--   rising last refusals    the numbers of the refusals rise, from above `last` on
+--   applies m refusals      the refusal of number m is one of these, and holds
+--   Outcome, refusedOf      a call's values, or the number of its refusal
+--   outcome n v             the answer of a call whose lowest number is n, and whose values are v where n is 0
+--   written n new old       what such a call leaves in a slice that it is lent to write
 use mathlib.Core.Bool.{Bool, true, false, cond, _&&_, _||_}
 use mathlib.Core.List.{List, [], _∷_}
 use Prim.Native.Nat.{ℕ}

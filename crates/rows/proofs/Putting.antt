@@ -1,10 +1,12 @@
 -- The loops that put kinds at rows, and the kinds that they leave.
 --
---   Marking marks kinds row ys                 the rows below `row` go by their marks
---   marking-none, marking-more, marking-all    before the first row, after one more, after the last
---   Blocking words kinds c ys                  the combinations of the choices below c are blocks
---   blocking-none, blocking-more, blocking-all before the first choice, after one more, after the last
---   all-kinds                                  marks, blocks and mean together
+--   Marking marks kinds row ys                    the rows below `row` go by their marks
+--   marking-long                                  its length
+--   marking-none, marking-more, marking-all       before the first row, after one more, after the last
+--   Blocking words kinds c ys                     the combinations of the choices below c are blocks
+--   blocking-long                                 its length
+--   blocking-none, blocking-more, blocking-all    before the first choice, after one more, after the last
+--   all-kinds                                     marks, blocks and mean together
 use mathlib.Core.Path.{_≡_, refl, sym, _∙_, ap}
 use mathlib.Core.Bool.{Bool, cond, _&&_, or-true, or-false}
 use mathlib.Core.List.{List}

@@ -1,13 +1,13 @@
 -- The run call: which letters are high in a run, and its block.
 --
---   highBy sign word r            an added factor is high in run r
---   highIn k words signs r i      letter i is high in run r
---   highLetters k words signs r   the set of letters that are high
---   blockNumber words r           the run's block
---   runValues p r                 both, of a plan
---   runRefusals p r                  the refusals of the call besides those of the plan
+--   highBy sign word r             an added factor is high in run r
+--   highIn k words signs r i       letter i is high in run r
+--   highLetters k words signs r    the set of letters that are high
+--   blockNumber words r            the run's block
+--   runValues p r                  both, of a plan
+--   runRefusals p r                the refusals of the call besides those of the plan
 --   runRefused p r                 the lowest number that applies, 0 where the run is given
---   runOutcome                    the cases of the call's answer
+--   runOutcome                     the cases of the call's answer
 use mathlib.Core.Bool.{Bool, not, cond}
 use mathlib.Core.List.{List, [], _∷_}
 use Prim.Native.Nat.{ℕ, _+_, _-_}

@@ -1,10 +1,10 @@
 -- The answers of the two calls.
 --
---   read-refused, marks-refused    their numbers, as the code forms them
---   read-stopped                 a reader's call that is refused
---   room-for, same-size          the column of one that is not
---   read-completed               such a call
---   marks-stopped, marks-given   the marks call
+--   marks-refused, read-refused   their numbers, as the code forms them
+--   read-stopped                  a reader's call that is refused
+--   room-for, same-size           the column of one that is not
+--   read-completed                such a call
+--   marks-stopped, marks-given    the marks call
 use mathlib.Core.Path.{_≡_, refl, sym, ap, _∙_}
 use mathlib.Core.Bool.{false}
 use mathlib.Core.List.{List, [], _++_}
@@ -62,19 +62,23 @@ module _ (sheet : List ℕ) (column : List ℤ) where
     module _ {body : List ℕ} (is : body ≡ bodyAt 4 0 (fieldsOf sheet)) where
       pub room-for : length body / 4 ≤ length column
       room-for =
-          let n : length (readingsOf body) ≡ runsOf (planIn (fieldsOf sheet)) = rw is (as-long (planIn (fieldsOf sheet)) (length (readingsIn (fieldsOf sheet))) (read-admitted sheet (length column) z .readings)) in
-          rw (← (readings-long body), n) (ltb-false (length column) (runsOf (planIn (fieldsOf sheet))) (read-admitted sheet (length column) z .wide))
+          let a = read-admitted sheet (length column) z in
+          let n : length (readingsOf body) ≡ runsOf (planIn (fieldsOf sheet)) = rw is (as-long (planIn (fieldsOf sheet)) (length (readingsIn (fieldsOf sheet))) (a .readings)) in
+          rw (← (readings-long body), n) (ltb-false (length column) (runsOf (planIn (fieldsOf sheet))) (a .wide))
 
-      pub same-size : {after : List ℤ} → after ≡ readingsOf body ++ drop (length body / 4) column → length after ≡ length column
-      same-size d = rw (d, length-append, readings-long, length-drop) (omega (arith, room-for))
+      -- the readings are put into the first places
+      module _ {part : List ℤ} (put : part ≡ readingsOf body) where
+        pub same-size : length (part ++ drop (length body / 4) column) ≡ length column
+        same-size = rw (put, length-append, readings-long, length-drop) (omega (arith, room-for))
 
-      pub read-completed : {plan : Plan} → plan ≡ held (planIn (fieldsOf sheet)) → {after : List ℤ} → after ≡ readingsOf body ++ drop (length body / 4) column
-          → Told (given tt) plan after
-      unfolding readPlan readColumn
-      read-completed q {after} d =
-          let made : after ≡ readingsIn (fieldsOf sheet) ++ drop (length (readingsIn (fieldsOf sheet))) column = d ∙ rw (← (readings-long body), is) refl in
-          let s = completed tt (readingsIn (fieldsOf sheet) ++ drop (length (readingsIn (fieldsOf sheet))) column) column z made in
-          (s .0, (q ∙ held-all (planIn (fieldsOf sheet)) (read-admitted sheet (length column) z .plan) ∙ written-new (readRefused sheet (length column)) (planIn (fieldsOf sheet)) noPlan z, s .1))
+        pub read-completed : {plan : Plan} → plan ≡ held (planIn (fieldsOf sheet)) → Told (given tt) plan (part ++ drop (length body / 4) column)
+        unfolding readPlan readColumn
+        read-completed q =
+            let rs = readingsIn (fieldsOf sheet) in
+            let made : part ++ drop (length body / 4) column ≡ rs ++ drop (length rs) column = rw (put, ← (readings-long body), is) refl in
+            let s = completed tt (rs ++ drop (length rs) column) column z made in
+            let all = held-all (planIn (fieldsOf sheet)) (read-admitted sheet (length column) z .plan) in
+            (s .0, (q ∙ all ∙ written-new (readRefused sheet (length column)) (planIn (fieldsOf sheet)) noPlan z, s .1))
 
 -- ---- the marks call
 

@@ -1,9 +1,12 @@
 -- What is refused of a sheet, as the code judges it.
 --
---   lengths-by, lengths-not    refusal 11, of readings and marks
---   by-plan, too-narrow, wrong, beyond, marked, passed    the number, refusal by refusal
+--   lengths-not, lengths-by          refusal 11, of readings and marks
+--   bad, by-plan, too-narrow         the number by the fields, the plan, the column
+--   Opened, Measured, Within         what is known once the bodies, the lengths, the readings are judged
+--   lengths-wrong, beyond, marked    the number by each of these
+--   accepted                         the number where nothing is refused
 use mathlib.Core.Path.{_≡_, refl, sym, _∙_}
-use mathlib.Core.Bool.{Bool, true, false, not, _||_}
+use mathlib.Core.Bool.{Bool, true, false, not, _||_, cond}
 use mathlib.Core.List.{List}
 use Prim.Native.Nat.{ℕ, _/_}
 use lib.Dec.{eqb}
@@ -39,26 +42,49 @@ module _ (fs : Fields) (p : Plan) (narrow : Bool) where
     unfolding refusedWith
     by-plan e h = rw fine (plan-first p _ e h)
 
-    module _ (ok : planRefused p ≡ 0) where
-      pub too-narrow : narrow ≡ true → 11 ≡ refusedWith fs p narrow
-      unfolding refusedWith
-      too-narrow e = sym (rw fine (after-plan p _ ok ∙ rw e refl))
+    pub too-narrow : planRefused p ≡ 0 → narrow ≡ true → 11 ≡ refusedWith fs p narrow
+    unfolding refusedWith
+    too-narrow ok e = sym (rw fine (after-plan p _ ok ∙ rw e refl))
 
-      module _ (wide : narrow ≡ false) {b m : List ℕ} (bs : b ≡ bodyAt 4 0 fs) (ms : m ≡ bodyAt 5 0 fs) where
-        pub lengths-wrong : (wrongLength p (length b / 4) || wrongRows p (length m)) ≡ true → 11 ≡ refusedWith fs p narrow
-        unfolding refusedWith
-        lengths-wrong e = sym (rw fine (after-plan p _ ok ∙ rw (wide, ← bs, ← ms, readings-long, e) refl))
+-- ---- of the bodies b of the readings and m of the marks
 
-        module _ (lengths : (wrongLength p (length b / 4) || wrongRows p (length m)) ≡ false) where
-          pub beyond : anyBeyond readingLimit (readingsOf b) ≡ true → 12 ≡ refusedWith fs p narrow
-          unfolding refusedWith
-          beyond e = sym (rw fine (after-plan p _ ok ∙ rw (wide, ← bs, ← ms, readings-long, lengths, e) refl))
+module _ (fs : Fields) (p : Plan) (narrow : Bool) (b m : List ℕ) where
+  pub record Opened : Type 0 where
+    pub fine : badFields fs ≡ false
+    pub ok : planRefused p ≡ 0
+    pub wide : narrow ≡ false
+    pub readings-are : b ≡ bodyAt 4 0 fs
+    pub marks-are : m ≡ bodyAt 5 0 fs
 
-          module _ (within : anyBeyond readingLimit (readingsOf b) ≡ false) where
-            pub marked : badMarks p m ≡ true → 13 ≡ refusedWith fs p narrow
-            unfolding refusedWith
-            marked e = sym (rw fine (after-plan p _ ok ∙ rw (wide, ← bs, ← ms, readings-long, lengths, within, e) refl))
+  pub record Measured : Type 0 where
+    pub opened : Opened
+    pub lengths : (wrongLength p (length b / 4) || wrongRows p (length m)) ≡ false
 
-            pub accepted : badMarks p m ≡ false → 0 ≡ refusedWith fs p narrow
-            unfolding refusedWith
-            accepted e = sym (rw fine (after-plan p _ ok ∙ rw (wide, ← bs, ← ms, readings-long, lengths, within, e) refl))
+  pub record Within : Type 0 where
+    pub measured : Measured
+    pub within : anyBeyond readingLimit (readingsOf b) ≡ false
+
+module _ {fs : Fields} {p : Plan} {narrow : Bool} {b m : List ℕ} where
+  pub lengths-wrong : Opened fs p narrow b m → (wrongLength p (length b / 4) || wrongRows p (length m)) ≡ true → 11 ≡ refusedWith fs p narrow
+  unfolding refusedWith
+  lengths-wrong o e = sym (rw (o .fine) (after-plan p _ (o .ok) ∙ rw (o .wide, ← (o .readings-are), ← (o .marks-are), readings-long, e) refl))
+
+  pub beyond : Measured fs p narrow b m → anyBeyond readingLimit (readingsOf b) ≡ true → 12 ≡ refusedWith fs p narrow
+  unfolding refusedWith
+  beyond h e =
+      let o = h .opened in
+      sym (rw (o .fine) (after-plan p _ (o .ok) ∙ rw (o .wide, ← (o .readings-are), ← (o .marks-are), readings-long, h .lengths, e) refl))
+
+  -- beyond the readings' limit the marks alone are left
+  left : Within fs p narrow b m → refusedWith fs p narrow ≡ cond (badMarks p m) 13 0
+  unfolding refusedWith
+  left w =
+      let h = w .measured in
+      let o = h .opened in
+      rw (o .fine) (after-plan p _ (o .ok) ∙ rw (o .wide, ← (o .readings-are), ← (o .marks-are), readings-long, h .lengths, w .within) refl)
+
+  pub marked : Within fs p narrow b m → badMarks p m ≡ true → 13 ≡ refusedWith fs p narrow
+  marked w e = sym (left w ∙ rw e refl)
+
+  pub accepted : Within fs p narrow b m → badMarks p m ≡ false → 0 ≡ refusedWith fs p narrow
+  accepted w e = sym (left w ∙ rw e refl)

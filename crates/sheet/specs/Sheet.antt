@@ -1,11 +1,11 @@
 -- The number of a sheet, and what the two calls give.
 --
---   sheetRefusals fs p narrow                  the refusals besides refusal 1 and those of the plan
---   refusedWith fs p narrow                  the lowest number of a sheet whose plan is p, 0 where it is accepted
---   sheetRefused fs narrow                   of a sheet
---   noPlan                                  the plan of all zeros
---   readRefused, readPlan, readColumn        the reader
---   marksRefused, marksOf                    the marks call
+--   sheetRefusals fs p narrow            the refusals besides refusal 1 and those of the plan
+--   refusedWith fs p narrow              the lowest number of a sheet whose plan is p, 0 where it is accepted
+--   sheetRefused fs narrow               of a sheet
+--   noPlan                               the plan of all zeros
+--   readRefused, readPlan, readColumn    the reader
+--   marksRefused, marksOf                the marks call
 use mathlib.Core.Bool.{Bool, false, cond, _||_}
 use mathlib.Core.List.{List, [], _∷_, _++_}
 use Prim.Native.Nat.{ℕ}

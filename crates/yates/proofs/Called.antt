@@ -1,9 +1,10 @@
 -- The calls: what they hand to the inner functions, and what these make.
 --
---   in-stretches                     a column of levels to the power k is stretches of the factor at position f
---   pass-ready, pass-made            the pass call
---   totals-ready                     the totals call
---   AllPassed levels k xs s f ys     ys is xs after the passes of the first f factors, and the next one's values lie s apart
+--   in-stretches                               a column of levels to the power k is stretches of the factor at position f
+--   pass-ready, pass-made                      the pass call
+--   totals-ready                               the totals call
+--   AllPassed levels k xs s f ys               ys is xs after the passes of the first f factors, and the next one's values lie s apart
+--   all-long, spacing-fits                     its length; the spacing after the next pass is at most that
 --   all-none, all-ready, all-more, all-done    before the first pass, before each, after each, after the last
 use mathlib.Core.Path.{_≡_, refl, sym, _∙_, ap}
 use mathlib.Core.List.{List}
@@ -36,7 +37,7 @@ use Rattle.plan.specs.Laws.Accepted.{accepted}
 use Rattle.plan.specs.Laws.Sizes.{as-power, spacing-power, spacing-is, plan-kind, plan-within}
 use Rattle.columns.specs.Laws.Admitted.{Columns}
 use Rattle.yates.specs.Laws.Admitted.{PassAdmitted}
-use Rattle.yates.specs.Inner.Ready.{Stretches, Readings}
+use Rattle.yates.specs.Inner.Ready.{Stretches, PassReadings}
 
 -- ---- columns of levels to the power k
 
@@ -75,7 +76,7 @@ module _ {p : Plan} {f : ℕ} {xs : List ℤ} (a : PassAdmitted p f xs) {s : ℕ
 -- ---- the totals
 
 module _ {p : Plan} {readings totals : List ℤ} (a : Columns readingLimit p readings totals) where
-  pub totals-ready : Readings (p .levels) (p .k) readings
+  pub totals-ready : PassReadings (p .levels) (p .k) readings
   totals-ready =
       record {
         kind = plan-kind p (a .plan);
@@ -91,7 +92,7 @@ pub record AllPassed (l k : ℕ) (xs : List ℤ) (s f : ℕ) (ys : List ℤ) : T
   pub apart : s ≡ l ^ f
   pub so : ys ≡ passesOf (replicate k (ofLevels l)) (take f (inOrder k)) xs
 
-module _ {l k : ℕ} {xs : List ℤ} (pre : Readings l k xs) where
+module _ {l k : ℕ} {xs : List ℤ} (pre : PassReadings l k xs) where
   pub all-none : AllPassed l k xs 1 0 xs
   unfolding passesOf
   all-none = record { some = omega arith; apart = sym (pow-zero l); so = refl }

@@ -1,9 +1,9 @@
 -- The turns of a stretch of a pass.
 --
---   stretch-begun, stretch-ended     before the first turn of a stretch, and after the last
---   still                            the values of the next turn are those of the stretch as it came
---   stretch-small                    and they are small
---   stretch-two, stretch-three       a turn
+--   Stretched levels h xs i ys      ys is the stretch xs after i turns
+--   stretch-begun, stretch-ended    before the first turn of a stretch, and after the last
+--   pair, triple                    the values of the next turn are small, at two levels and at three
+--   stretch-two, stretch-three      a turn
 use mathlib.Core.Path.{_≡_, refl, sym, _∙_, ap}
 use mathlib.Core.List.{List}
 use Prim.Native.Nat.{ℕ, _+_, _*_, _<_, _≤_}

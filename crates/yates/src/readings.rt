@@ -11,11 +11,11 @@ ghost use Rattle.contrasts.specs.Factors.{ofLevels};
 ghost use Rattle.plan.specs.Outcome.{outcome};
 ghost use Rattle.columns.specs.Refusals.{answerOutcome};
 ghost use Rattle.yates.specs.Calls.{totalsRefused, totalsColumn};
-ghost use Rattle.yates.specs.Inner.Ready.{Readings};
+ghost use Rattle.yates.specs.Inner.Ready.{PassReadings};
 
 // The passes of all factors, A first.
 fn all_passes(levels: usize, k: usize, column: &mut [i64])
-    requires { ⌜ Readings levels k (now column) ⌝ }
+    requires { ⌜ PassReadings levels k (now column) ⌝ }
     ensures { λ _. ⌜ now (column .exit) ≡ totalsOf (replicate k (ofLevels levels)) (now (column .entry)) ⌝ }
 {
     let mut spacing = 1;

@@ -2,9 +2,9 @@
 --
 --   digit                  a digit by the test whether it is 1
 --   bit-zero, bit-suc      the lowest digit, and the digits of the rest
---   bits-lt, bits-at       it is below 2 ^ n, and has those digits
+--   bits-lt, bits-at       `bits n f` is below 2 ^ n, and has those digits
 --   bits-all               a number below 2 ^ n is that of its own digits
---   bits-cong, bits-ext    by equal tests, and so equal digits make equal numbers
+--   bits-cong, bits-ext    equal tests make equal numbers, and so do equal digits
 --   bit-lt, bit-none       a digit is 0 or 1; a number below 2 ^ n has none from n on
 --   bit-mod                the digits of a remainder by 2 ^ k
 --   bit-unset              a digit that is not 1 is 0

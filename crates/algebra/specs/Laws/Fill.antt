@@ -1,9 +1,9 @@
 -- A list of n places that a loop writes one after the other, the first place first.
 --
---   Filled n new old i ys    ys has the new values at its first i places, and the old ones after them
---   filled-long              its length
+--   Filled n new old i ys                   ys has the new values at its first i places, and the old ones after them
+--   filled-long                             its length
 --   filled-none, filled-more, filled-all    before the first place is written, after one more, after the last
---   filled-old, filled-new   what its places hold
+--   filled-old, filled-new                  what its places hold
 use mathlib.Core.Path.{_≡_, _∙_, ap}
 use mathlib.Core.Bool.{cond}
 use mathlib.Core.List.{List}

@@ -1,6 +1,6 @@
 -- Fractions with a common denominator.
 --
---   shared                  fractions that have a common denominator, added up: their numerators over it
+--   shared    fractions that have a common denominator, added up: their numerators over it
 use mathlib.Core.Path.{_≡_, ap, _∙_}
 use Prim.Native.Nat.{ℕ, zero, suc, _+_, _*_, _<_, _≤_}
 use native.Mathlib.Nat.{mul-comm, mul-pos, zero-mul, mul-right-comm, eq-of-mul-eq-mul-right}

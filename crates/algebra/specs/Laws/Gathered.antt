@@ -1,8 +1,9 @@
 -- The loop that gathers a set bit by bit.
 --
---   one-shifted, room      1 shifted by n below the width w, and room for one bit more
---   Gathered f n i set     a loop that gathers the set of f below n has done the numbers below i
---   gathered-none, gathered-small, gathered-more, gathered-all    at its start; what it holds is below 2 ^ i; its next turn; its end
+--   one-shifted, room     1 shifted by n below the width w, and room for one bit more
+--   Gathered f n i set    a loop that gathers the set of f below n has done the numbers below i
+--   gathered-none, gathered-small, gathered-more, gathered-all
+--                         at its start; what it holds is below 2 ^ i; its next turn; its end
 use mathlib.Core.Path.{_≡_, refl, ap, _∙_}
 use mathlib.Core.Bool.{Bool, cond}
 use Prim.Native.Nat.{ℕ, suc, _+_, _*_, _%_, _^_, _<_, _≤_}

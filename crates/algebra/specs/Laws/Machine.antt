@@ -1,10 +1,10 @@
 -- What fits a machine's integer, and that the code's signed values are the numbers.
 --
---   fits, fits-half          a size below 2 ^ 63 fits an i64, and one below 2 ^ 31 an i32
---   wrap, back               an i64 as code holds it, as bits and read again, is the number
---   kept, held-half          so of one that is read from a slice, and of an i32
+--   fits, fits-half                        a size below 2 ^ 63 fits an i64, and one below 2 ^ 31 an i32
+--   wrap, back                             an i64 as code holds it, as bits and read again, is the number
+--   kept, held-half                        so of one that is read from a slice, and of an i32
 --   square-fits, square-held, square-is    the square of an i64, as code forms it: it fits, it is not negative, it is the square of the size
---   widened, widened-fits    an i32 that is read from a slice, as an i64
+--   widened, widened-fits                  an i32 that is read from a slice, as an i64
 use mathlib.Core.Path.{_≡_, refl, _∙_}
 use Prim.Native.Nat.{_*_, _^_, _<_, _≤_}
 use native.Mathlib.Nat.{le-refl}
@@ -16,8 +16,6 @@ use mir.Facts.{toZ-ofZ}
 use mir.Syntax.{w32, w64}
 use mir.Val.{Fits, SFits, toZ, ofZ}
 use Rattle.algebra.specs.Laws.Size.{square, size-below}
-
--- ---- 64-bit integers
 
 mag-le : (z : ℤ) → mag z ≤ natAbs z
 mag-le (pos n) = le-refl n

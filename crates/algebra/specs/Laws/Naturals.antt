@@ -1,6 +1,6 @@
 -- Laws of finite sums and largest values of natural numbers.
 --
---   Σℕ-pos          as an integer it is the sum Σ, whose laws it has
+--   Σℕ-pos          as an integer `Σℕ n f` is the sum Σ, whose laws it has
 --   Σℕ-cong         equal terms give equal sums
 --   Σℕ-mul          a common factor
 --   Σℕ-first        the first term, and the rest
@@ -19,7 +19,7 @@
 --   Σℕ-each         terms of at most m add up to at most n * m
 --   Σℕ-some         a selection of terms, broken off anywhere, is at most the whole sum
 --   Σℕ-term         and so is one term
---   most-ge         it is at least each of them
+--   most-ge         `most n f` is at least each of f 0, .., f (n - 1)
 use mathlib.Core.Path.{_≡_, refl, sym, _∙_, ap, ap₂}
 use mathlib.Core.Bool.{Bool, true, false, cond}
 use Prim.Native.Nat.{ℕ, zero, suc, _+_, _*_, _-_, _/_, _%_, _<_, _≤_, max}

@@ -1,7 +1,7 @@
 -- Laws on whether a test holds of some number below a bound.
 --
---   some-true, some-false          it does where f holds of one of them, and does not where f holds of none
---   some-at, none-at               so where it does there is one, and where it does not f fails at each
+--   some-true, some-false    `some n f` is true where f holds of a number below n, and false where it holds of none
+--   some-at, none-at         where it is true there is such a number, and where it is false f fails at each
 use mathlib.Core.Path.{_≡_, refl}
 use mathlib.Core.Bool.{Bool, true, false, _||_, or-true}
 use Prim.Native.Nat.{ℕ, zero, suc, _<_}

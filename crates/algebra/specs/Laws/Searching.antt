@@ -1,9 +1,9 @@
 -- The loop that looks for a number of which a test holds: the one that stops there, and the one that looks at all numbers.
 --
---   Unfound f n i                  a loop up to n has found none below i
+--   Unfound f n i                      a loop up to n has found none below i
 --   unfound, onward, found, nowhere    at its start, at its next turn, where it finds one, at its end
---   Seen f n i b                   a loop up to n that looks at all numbers has seen those below i, and b is whether one was found
---   seen-none, seen-more, seen-all    at its start, at its next turn, at its end
+--   Seen f n i b                       a loop up to n that looks at all numbers has seen those below i, and b is whether one was found
+--   seen-none, seen-more, seen-all     at its start, at its next turn, at its end
 use mathlib.Core.Path.{_≡_, refl, sym, ap, _∙_}
 use mathlib.Core.Bool.{Bool, true, false, _||_}
 use Prim.Native.Nat.{ℕ, _+_, _<_, _≤_}

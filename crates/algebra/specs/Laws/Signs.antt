@@ -1,10 +1,11 @@
 -- The size of a signed value, as code forms it without a sum that could wrap: a value that is not negative is its size, and -1 less a negative
 -- one is its size less 1, `mag` of the kit.
 --
---   size-mag                                       a size is `mag`, or one more
---   turned-fits, turned-held, turned-is, turned-sum    -1 less a negative value: it fits, it is not negative, it is `mag`, and 1 can be added
---   upright-held, upright-is                       a value that is not negative: it is no other, and is `mag`
---   size-below, size-above                         the size of a negative value, as 1 more than `mag`, and of one that is not
+--   size-mag                    a size is `mag`, or one more
+--   turned-fits, turned-held, turned-is, turned-sum
+--                               -1 less a negative value: it fits, it is not negative, it is `mag`, and 1 can be added
+--   upright-held, upright-is    a value that is not negative: it is no other, and is `mag`
+--   size-below, size-above      the size of a negative value, as 1 more than `mag`, and of one that is not
 use mathlib.Core.Path.{_≡_, refl, _∙_, ap, subst}
 use mathlib.Core.Bool.{true, false}
 use Prim.Native.Nat.{suc, _+_, _≤_}

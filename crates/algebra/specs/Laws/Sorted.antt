@@ -4,7 +4,7 @@
 --   sorted-none            no term is added yet
 --   sorted-more            the next term is added to its place
 --   sorted-at              what a place holds
---   sum-least              it is at most the sum of all terms
+--   sum-least              what a place holds is at most the sum of all terms
 --   sum-next               and so it is with the next term added
 --   by-kind                sums of sums: the keys of one kind together have the terms of that kind
 use mathlib.Core.Path.{_≡_, refl, sym, _∙_, ap}

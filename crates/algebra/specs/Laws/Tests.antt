@@ -5,10 +5,10 @@
 --   same-test              numbers below i + 1 other than i are those below i
 --   and-left, and-right    both sides of a test a && b pass
 --   neither, none          neither side of a test a || b passes
---   every-at               so it passes at any one of them
+--   every-at               a test that passes at each number below n passes at any one of them
 --   eqb-digits             two numbers are equal where their lowest digits are, and the rest
 --   cond-*, cond-*ℤ-cond   a product of two numbers, each under a test, is under both tests
---   eqZ→eq                 so they are
+--   eqZ→eq                 integers that the test `eqZ` finds equal are equal
 use mathlib.Core.Path.{_≡_, refl, sym, _∙_, ap}
 use mathlib.Core.Bool.{Bool, true, false, cond, _&&_, _||_, true≢false}
 use Prim.Native.Nat.{ℕ, zero, suc, _+_, _*_, _/_, _%_, _<_}

@@ -1,6 +1,7 @@
 -- The loop that counts the turns, and the numbers of the alias call.
 --
---   Counted, counted-none, counted-more, counted-all    the loop that counts the replaced letters with sign 1
+--   Counted, counted-none, counted-more, counted-all
+--                the loop that counts the replaced letters with sign 1
 --   alias-two    of an accepted plan of two levels only refusal 10 is left
 use mathlib.Core.Path.{_≡_, refl, ap, _∙_}
 use mathlib.Core.Bool.{Bool, true, false, cond, _&&_}

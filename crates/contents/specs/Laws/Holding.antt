@@ -1,8 +1,8 @@
 -- The plan as the code holds it: it has the number of the sheet's plan, and is that plan where it is accepted.
 --
---   held-same      a plan whose counts are not over is held as it is
+--   held-same       a plan whose counts are not over is held as it is
 --   held-refused    the number of a plan that is held
---   held-all       a plan that is accepted is held as it is
+--   held-all        a plan that is accepted is held as it is
 use mathlib.Core.Path.{_≡_, refl, ap}
 use mathlib.Core.Bool.{true, or-true}
 use Prim.Native.Nat.{ℕ, min, _≤_}
@@ -48,8 +48,14 @@ held-refused p = by (decLe (p .added) 6) (decLe (p .blocks) 4)
   where
     by : Dec (p .added ≤ 6) → Dec (p .blocks ≤ 4) → planRefused (held p) ≡ planRefused p
     by (yes h) (yes k) = ap planRefused (held-same p h k)
-    by (no h) k = rw (over-added (p .levels) (min (p .added) 7) (min (p .blocks) 5) (omega (arith, min-large (p .added) 7 (omega arith))), over-added (p .levels) (p .added) (p .blocks) (omega arith)) refl
-    by (yes h) (no k) = rw (over-blocks (p .levels) (min (p .added) 7) (min (p .blocks) 5) (omega (arith, min-large (p .blocks) 5 (omega arith))), over-blocks (p .levels) (p .added) (p .blocks) (omega arith)) refl
+    by (no h) k =
+        let held-over = over-added (p .levels) (min (p .added) 7) (min (p .blocks) 5) (omega (arith, min-large (p .added) 7 (omega arith))) in
+        let over = over-added (p .levels) (p .added) (p .blocks) (omega arith) in
+        rw (held-over, over) refl
+    by (yes h) (no k) =
+        let held-over = over-blocks (p .levels) (min (p .added) 7) (min (p .blocks) 5) (omega (arith, min-large (p .blocks) 5 (omega arith))) in
+        let over = over-blocks (p .levels) (p .added) (p .blocks) (omega arith) in
+        rw (held-over, over) refl
 
 pub held-all : (p : Plan) → planRefused p ≡ 0 → held p ≡ p
 held-all p z = let s = sizes p z in held-same p (s .1) (s .2)

@@ -1,7 +1,7 @@
 -- The readings of a body, as a list.
 --
---   readings-long    how many there are
---   reading-is       each of them
+--   readings-long                  how many there are
+--   reading-is                     each of them
 --   readings-put, readings-kept    a column of as many places takes them, and no other
 use mathlib.Core.Path.{_≡_, refl, sym, _∙_}
 use mathlib.Core.List.{List}

@@ -1,6 +1,6 @@
 -- Readings back from totals.
 --
---   recover              readings back from totals: each reading, times the denominator, is the weighted sum of the totals by its coefficients
+--   recover    each reading, times the denominator, is the weighted sum of the totals by its coefficients
 use mathlib.Core.Path.{_≡_, _∙_, ap}
 use mathlib.Core.List.{List}
 use Prim.Native.Nat.{ℕ, _<_}
@@ -10,8 +10,6 @@ use Rattle.algebra.specs.Laws.Sum.{Σ-ext, Σ-at}
 use Rattle.contrasts.specs.Factor.{Factor}
 use Rattle.contrasts.specs.Totals.{Column, size, coef*, total, denominator, weight*}
 use Rattle.contrasts.specs.Laws.Squares.{squares}
-
--- ---- readings back from totals
 
 -- the totals of a column that is 1 at run r and else 0
 total-δ : (Fs : List Factor) (r e : ℕ) → r < size Fs → total Fs (δ r) e ≡ coef* Fs e r

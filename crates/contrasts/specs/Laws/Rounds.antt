@@ -1,7 +1,7 @@
 -- A turn of the loop that makes a round of the check: its sums fit an i64, and what they are.
 --
 --   triple-fits, drop-fits, round-fits, round-is
---                            a round of the check: three times first, minus middle, plus third; and what that is
+--                               a round of the check: three times first, minus middle, plus third; and what that is
 use mathlib.Core.Path.{_≡_}
 use Prim.Native.Nat.{_*_, _^_, _<_, _≤_}
 use native.Mathlib.Nat.{mul-le-mul}
@@ -14,8 +14,6 @@ use Rattle.algebra.specs.Laws.Size.{natAbs-+ℤ, natAbs-sub, natAbs-*ℤ}
 use Rattle.algebra.specs.Laws.Machine.{fits, wrap, back}
 use Rattle.contrasts.specs.Limits.{valueLimit}
 use Rattle.contrasts.specs.Laws.Small.{Small, room, held}
-
--- ---- a round of the check
 
 triple-size : {a : ℤ} → Small a → natAbs (pos 3 *ℤ a) ≤ 3 * valueLimit
 triple-size {a} sa = rw (natAbs-*ℤ (pos 3) a) (mul-le-mul (lit≤ tt) (sa .small))

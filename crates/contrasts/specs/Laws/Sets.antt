@@ -2,11 +2,11 @@
 -- loop of a stretch and that of a step are both of this kind. An i64 that the code holds is `wrap z`, the number as bits and read again;
 -- the laws speak of the sums as the code forms them.
 --
---   sum-fits, less-fits      at two levels: the sum, and first minus second
---   turn-two                 the turn
+--   sum-fits, less-fits    at two levels: the sum, and first minus second
+--   turn-two               the turn
 --   all-fits, scaled-fits, without-fits, third-fits
---                            at three levels: the sum; the middle so many times, first minus that, and with the third
---   turn-three               the turn
+--                          at three levels: the sum; the middle so many times, first minus that, and with the third
+--   turn-three             the turn
 use mathlib.Core.Path.{_≡_, sym, _∙_}
 use mathlib.Core.List.{List}
 use Prim.Native.Nat.{ℕ, _+_, _*_, _^_, _<_, _≤_}

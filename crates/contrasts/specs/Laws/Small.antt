@@ -1,8 +1,8 @@
 -- Values that a pass or a step admits fit an i64, and so do some of them added up.
 --
---   Small z                  a value that a pass or a step admits
---   room                     five such values fit
---   held                     and such a value is what the code holds
+--   Small z    a value that a pass or a step admits
+--   room       five such values fit
+--   held       and such a value is what the code holds
 use mathlib.Core.Path.{_≡_}
 use Prim.Native.Nat.{_*_, _^_, _<_, _≤_}
 use native.Mathlib.Omega.{arith}

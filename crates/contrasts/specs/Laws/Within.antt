@@ -14,8 +14,6 @@ use Rattle.contrasts.specs.Columns.{read, AllWithin}
 use Rattle.contrasts.specs.Totals.{Column}
 use Rattle.contrasts.specs.Laws.Bounds.{Within}
 
--- ---- sizes
-
 pub within-upto : (M : ℕ) (xs : List ℤ) → ((i : ℕ) → i < length xs → natAbs (read xs i) ≤ M) → AllWithin M xs
 within-upto M xs h i = by (decLt i (length xs))
   where

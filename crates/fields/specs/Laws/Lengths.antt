@@ -1,11 +1,11 @@
 -- How many bytes fields take, and that refusal 1 lets pass no other.
 --
---   spanOf fs                  the bytes of fields, with their tags and lengths
+--   spanOf fs                         the bytes of fields, with their tags and lengths
 --   Spanned, span-parse, span-none    of the fields that are read from some bytes
---   span-whole                 so of a sheet, where refusal 1 does not apply
---   spans, byTags, span-by-tags    these bytes, tag by tag
---   span-of-sheet              of a sheet: 5, 6 for each field 2, 5 for each field 3, and the two bodies with 3 each
---   four-whole                 field 4 is whole readings
+--   span-whole                        so of a sheet, where refusal 1 does not apply
+--   spans, byTags, span-by-tags       these bytes, tag by tag
+--   span-of-sheet                     of a sheet: 5, 6 for each field 2, 5 for each field 3, and the two bodies with 3 each
+--   four-whole                        field 4 is whole readings
 use mathlib.Core.Path.{_≡_, refl, _∙_}
 use mathlib.Core.Bool.{Bool, true, false, cond, true≢false}
 use mathlib.Core.List.{List, [], _∷_}

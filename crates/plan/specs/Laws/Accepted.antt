@@ -1,11 +1,11 @@
 -- What is known of a plan that is accepted, as one record.
 --
---   Accepted p              the plan's levels, counts, words and confounded effects are as the rules ask
---   accepted                so they are where the check gives no number
+--   Accepted p                                   the plan's levels, counts, words and confounded effects are as the rules ask
+--   accepted                                     so they are where the check gives no number
 --   levels-known, factors-known, counts-known    what refusals 2, 3 and 4 say where they do not apply
---   levels-small            two or three levels are at most three
---   signs-small             a sign is 0 or 1, and 0 is read past the end
---   at-most-ten, sizes      the most factors, as a number; the bounds of an accepted plan's counts
+--   levels-small                                 two or three levels are at most three
+--   signs-small                                  a sign is 0 or 1, and 0 is read past the end
+--   at-most-ten, sizes                           the most factors, as a number; the bounds of an accepted plan's counts
 use mathlib.Core.Path.{_≡_, refl, sym, ap, _∙_}
 use mathlib.Core.Logic.{_⊎_, inl, inr}
 use mathlib.Core.Bool.{Bool, true, false, cond, _||_, true≢false}

@@ -1,7 +1,7 @@
 -- "Places beyond a plan's counts are ignored": plans that agree as far as their counts reach get the same answers.
 --
 --   Alike p q       the plans agree so far
---   same-refused     the check gives them the same number
+--   same-refused    the check gives them the same number
 --   same-factors    they have the same base factors
 --   same-lost       the same effects are confounded
 use mathlib.Core.Path.{_≡_, refl}

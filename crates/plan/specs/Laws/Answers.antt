@@ -13,7 +13,7 @@
 --   completed          a call without a number answers that it is done and leaves what it makes
 --   given-is           an answer that is given has the number 0, and the values
 --   refused-is         and one that is refused has its number
---   refused-of          the number of an answer is the number that it was made of
+--   refused-of         the number of an answer is the number that it was made of
 use mathlib.Core.Path.{_≡_, refl, sym, ap, _∙_}
 use mathlib.Core.Bool.{Bool, true, false, cond, true≢false}
 use mathlib.Core.List.{List}

@@ -1,9 +1,9 @@
 -- "The lowest number that applies": of refusals whose numbers rise, the first that holds.
 --
---   Lowest n refusals     n is the lowest number that applies of these refusals, and 0 where none does
---   is-lowest          `lowest` gives it, where the numbers rise
---   with-plan          the number of a call on a plan is that of the plan's refusals and its own, in one list
---   lowest-with-plan   so it is the lowest that applies of all these
+--   Lowest n refusals    n is the lowest number that applies of these refusals, and 0 where none does
+--   is-lowest            `lowest` gives it, where the numbers rise
+--   with-plan            the number of a call on a plan is that of the plan's refusals and its own, in one list
+--   lowest-with-plan     so it is the lowest that applies of all these
 use mathlib.Core.Path.{_≡_, refl}
 use mathlib.Core.Bool.{Bool, true, false, cond, _&&_, _||_}
 use mathlib.Core.List.{List, [], _∷_, _++_}

@@ -1,17 +1,17 @@
 -- The factors and the runs of an accepted plan.
 --
---   two-levels                    an accepted plan that has not three levels has two
---   runs-power, as-power          there are levels to the power k runs
---   runs-two                      so with two levels there are 2 ^ k
---   factors-two, factors-three    its base factors, by its levels
---   plan-kind                     the factor of the plan's levels has so many
---   plan-within                   its totals, and all values on the way, are within the limits
---   spacing-power                 the values of the factor at position f lie levels to the power f apart
---   RunsTwo, RunsThree, runs-known    what `runs` gives of any plan: 0, or the number of runs at two or at three levels
---   runs-few                      there are at most 1,024 runs
---   letters-few                   there are at most 16 letters, base and added
+--   two-levels                              an accepted plan that has not three levels has two
+--   runs-power, as-power                    there are levels to the power k runs
+--   runs-two                                so with two levels there are 2 ^ k
+--   factors-two, factors-three              its base factors, by its levels
+--   plan-kind                               the factor of the plan's levels has so many
+--   plan-within                             its totals, and all values on the way, are within the limits
+--   spacing-power                           the values of the factor at position f lie levels to the power f apart
+--   RunsTwo, RunsThree, runs-known          what `runs` gives of any plan: 0, or the number of runs at two or at three levels
+--   runs-few                                there are at most 1,024 runs
+--   letters-few                             there are at most 16 letters, base and added
 --   run-count, spacing-is, confounded-is    what `runs`, `spacing` and `confounded` give of an accepted plan
---   power-room, power-more        the loop that multiplies
+--   power-room, power-more                  the loop that multiplies
 use mathlib.Core.Path.{_≡_, refl, sym, ap, _∙_}
 use mathlib.Core.Logic.{_⊎_, inl, inr}
 use mathlib.Core.Bool.{Bool, true, false}

@@ -1,10 +1,10 @@
 -- Laws on how many rows there are, and on marks.
 --
---   row-count     what `row_count` gives of an accepted plan
+--   row-count                          what `row_count` gives of an accepted plan
 --   rows-wrong, rows-right, rows-by    what the code's comparison with `row_count` says of an accepted plan
---   rows-few      there are at most 1,024 rows
---   same-marks    marks that are refused beside one plan are refused beside a plan that is alike
---   rows-as-long  rows or marks to which refusal 11 does not apply are as many as the plan has rows
+--   rows-few                           there are at most 1,024 rows
+--   same-marks                         marks that are refused beside one plan are refused beside a plan that is alike
+--   rows-as-long                       rows or marks to which refusal 11 does not apply are as many as the plan has rows
 use mathlib.Core.Path.{_≡_, refl, sym, _∙_}
 use mathlib.Core.Bool.{true, false, not}
 use mathlib.Core.List.{List}

@@ -1,9 +1,9 @@
 -- What is known of a sheet that is accepted.
 --
---   Admitted fs p narrow    its fields, plan, readings and marks are as the rules ask, and the column is wide enough
---   admitted                so they are where there is no number
---   admits                  and this is all that is asked
---   own-refused              a plan's own number comes before the refusals that name the column, the readings and the marks
+--   Admitted fs p narrow             its fields, plan, readings and marks are as the rules ask, and the column is wide enough
+--   admitted                         so they are where there is no number
+--   admits                           and this is all that is asked
+--   own-refused                      a plan's own number comes before the refusals that name the column, the readings and the marks
 --   read-admitted, marks-admitted    of a sheet that the reader accepts, and of one that the marks call does
 use mathlib.Core.Path.{_≡_, refl, sym, ap, _∙_}
 use mathlib.Core.Bool.{Bool, false, cond, _||_}

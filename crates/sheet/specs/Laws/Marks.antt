@@ -1,7 +1,7 @@
 -- What the reader accepts, the marks call hands back: R bytes, each 0 or 1.
 --
 --   accepted-without    a sheet that the reader accepts is accepted without the column too
---   same-refused         a column that has room for every plan changes no number
+--   same-refused        a column that has room for every plan changes no number
 --   small-marks         marks to which refusal 13 does not apply are 0 or 1
 --   Lawful p marks      so many marks as the plan has rows, each 0 or 1
 --   marks-lawful        the marks of a sheet that the reader accepts

@@ -1,15 +1,15 @@
 -- Texts that are written one after the other are one text.
 --
---   one-byte, no-byte    a byte, where there is a place for it and where there is none
---   nothing              no text
---   then                 a text, and another from where it ends
---   retext               the same text, written otherwise
+--   one-byte, no-byte                       a byte, where there is a place for it and where there is none
+--   nothing                                 no text
+--   then                                    a text, and another from where it ends
+--   retext                                  the same text, written otherwise
 --   with-letter, without-letter             a letter that a word has, and one that it has not
 --   no-letters, letter-more, all-letters    the letters of a word: none yet, one more, all
---   letters-long         they are at most 16
---   part-more            the bytes of a part, and one byte more
---   same-size            a text leaves the buffer's length
---   from-start           a text from the first place on, for which there is room
+--   letters-long                            they are at most 16
+--   part-more                               the bytes of a part, and one byte more
+--   same-size                               a text leaves the buffer's length
+--   from-start                              a text from the first place on, for which there is room
 use mathlib.Core.Path.{_≡_, refl, sym, ap, _∙_, subst}
 use mathlib.Core.Bool.{Bool, true, false, cond}
 use mathlib.Core.List.{List, [], _∷_, _++_}

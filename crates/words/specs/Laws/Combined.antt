@@ -1,12 +1,13 @@
 -- Laws on combinations of words.
 --
---   Combining, combining-start, combining-more, combining-end    the loop that combines words
---   combined-small         a combination is a 16-bit word
---   combined-at            its letters
---   combined-beyond        it has no letter beyond k where none of its words has one
---   combined-within        so it is below 2 ^ k where its first word is
---   keeps-odd              a digit times a number is odd or even as it is times the number's lowest digit
---   shared-combined        how many letters it shares with a run is odd or even as the sum over its words is
+--   Combining, combining-start, combining-more, combining-end
+--                      the loop that combines words
+--   combined-small     a combination is a 16-bit word
+--   combined-at        its letters
+--   combined-beyond    it has no letter beyond k where none of its words has one
+--   combined-within    so it is below 2 ^ k where its first word is
+--   keeps-odd          a digit times a number is odd or even as it is times the number's lowest digit
+--   shared-combined    how many letters it shares with a run is odd or even as the sum over its words is
 use mathlib.Core.Path.{_≡_, refl, sym, ap, _∙_}
 use mathlib.Core.Bool.{Bool, true, false, cond, _&&_}
 use mathlib.Core.List.{List}

@@ -1,8 +1,8 @@
 -- The bytes of numbers give the numbers.
 --
---   bytes-length    there are n of them
---   big-bytes       they give the number that was written, as far as n bytes reach
---   two-back, four-back    and so all of it, where that is enough
+--   bytes-length                  there are n of them
+--   big-bytes                     they give the number that was written, as far as n bytes reach
+--   two-back, four-back           and so all of it, where that is enough
 --   complement-fits, twos-back    a number in two's complement
 use mathlib.Core.Path.{_≡_, refl, sym, ap, _∙_}
 use Prim.Native.Nat.{ℕ, zero, suc, _-_, _%_, _^_, _<_}

@@ -1,9 +1,9 @@
 -- The sheet that is written has bytes only, so that it can be lent to the calls.
 --
---   AllBytes bs      each number is below 256
---   plain-append, plain-list    of two lists one after the other; of a list by its places
---   plain-bytes      the bytes of a number
---   plain-readings   and of readings
+--   AllBytes bs                              each number is below 256
+--   plain-append, plain-list                 of two lists one after the other; of a list by its places
+--   plain-bytes                              the bytes of a number
+--   plain-readings                           and of readings
 --   PlainFields, plain-fields, plain-each    of fields
 use mathlib.Core.List.{List, [], _∷_, _++_}
 use Prim.Native.Nat.{ℕ, zero, suc, _/_, _^_, _<_}

@@ -1,10 +1,10 @@
 -- The plan that is read back.
 --
---   Shaped p         the plan's arrays have their places, and its words 16 letters
---   settled-alike    a plan and the same with 0 beyond its counts are alike
+--   Shaped p                 the plan's arrays have their places, and its words 16 letters
+--   settled-alike            a plan and the same with 0 beyond its counts are alike
 --   Clean p, settled-same    a plan that has 0 there stays as it is
---   plan-back        what is read of the fields that are written
---   Bodies, the-bodies    the bodies of these fields
+--   plan-back                what is read of the fields that are written
+--   Bodies, the-bodies       the bodies of these fields
 use mathlib.Core.Path.{_≡_, refl, sym, ap, _∙_}
 use mathlib.Core.Bool.{cond}
 use mathlib.Core.List.{List, [], _∷_, _++_}
@@ -103,26 +103,34 @@ module _ (p : Plan) (xs : List ℤ) (marks : List ℕ) where
     pub fours : bodies 4 (sheetFields p xs marks) ≡ readingBytes xs ∷ []
     pub fives : bodies 5 (sheetFields p xs marks) ≡ marks ∷ []
 
+  -- of another tag the added factors and the block words have no field
+  others : (t : ℕ) → (2 ≡ t → ⊥) → (3 ≡ t → ⊥) → bodies t (each 2 (p .added) (addedBody p) after-added) ≡ bodies t after-blocks
+  others t h k = each-other 2 (p .added) (addedBody p) after-added t h ∙ each-other 3 (p .blocks) (blockBody p) after-blocks t k
+
   pub the-bodies : Bodies
   unfolding sheetFields bodies
   the-bodies = record {
-    ones = ap (λ bs. (p .levels ∷ p .k ∷ []) ∷ bs) (each-other 2 (p .added) (addedBody p) after-added 1 (λ e. omega (arith, e)) ∙ each-other 3 (p .blocks) (blockBody p) after-blocks 1 (λ e. omega (arith, e)));
+    ones = ap (λ bs. (p .levels ∷ p .k ∷ []) ∷ bs) (others 1 (λ e. omega (arith, e)) (λ e. omega (arith, e)));
     twos = refl;
     no-twos = each-other 3 (p .blocks) (blockBody p) after-blocks 2 (λ e. omega (arith, e));
     threes = each-other 2 (p .added) (addedBody p) after-added 3 (λ e. omega (arith, e));
     no-threes = refl;
-    fours = each-other 2 (p .added) (addedBody p) after-added 4 (λ e. omega (arith, e)) ∙ each-other 3 (p .blocks) (blockBody p) after-blocks 4 (λ e. omega (arith, e));
-    fives = each-other 2 (p .added) (addedBody p) after-added 5 (λ e. omega (arith, e)) ∙ each-other 3 (p .blocks) (blockBody p) after-blocks 5 (λ e. omega (arith, e));
+    fours = others 4 (λ e. omega (arith, e)) (λ e. omega (arith, e));
+    fives = others 5 (λ e. omega (arith, e)) (λ e. omega (arith, e));
   }
 
--- what is taken of each body, for m places
-placed : (t n m : ℕ) (body : ℕ → List ℕ) (rest : Fields) (g : List ℕ → ℕ) (v : ℕ → ℕ) → bodies t rest ≡ [] → g [] ≡ 0 → ((i : ℕ) → g (body i) ≡ v i)
-    → tab m (λ i. g (getD (bodies t (each t n body rest)) i [])) ≡ tab m (λ i. cond (ltb i n) (v i) 0)
-placed t n m body rest g v none zero-of is = tab-cong 0 m _ _ (λ i k. by i (decLt i n))
-  where
-    by : (i : ℕ) → Dec (i < n) → g (getD (bodies t (each t n body rest)) i []) ≡ cond (ltb i n) (v i) 0
-    by i (yes h) = rw (lt-ltb i n h, each-at t n body rest i h) (is i)
-    by i (no h) = rw (le-ltb i n (omega arith), each-past t n body rest i (omega arith), none) zero-of
+-- what is taken of each of the bodies bs, for m places
+module _ (t n m : ℕ) (body : ℕ → List ℕ) (rest : Fields) (g : List ℕ → ℕ) (v : ℕ → ℕ) where
+  placed : {bs : List (List ℕ)} → bs ≡ bodies t (each t n body rest) → bodies t rest ≡ [] → g [] ≡ 0 → ((i : ℕ) → g (body i) ≡ v i)
+      → tab m (λ i. g (getD bs i [])) ≡ tab m (λ i. cond (ltb i n) (v i) 0)
+  placed same none zero-of is = rw same (tab-cong 0 m _ _ (λ i k. by i (decLt i n)))
+    where
+      by : (i : ℕ) → Dec (i < n) → g (getD (bodies t (each t n body rest)) i []) ≡ cond (ltb i n) (v i) 0
+      by i (yes h) = rw (lt-ltb i n h, each-at t n body rest i h) (is i)
+      by i (no h) = rw (le-ltb i n (omega arith), each-past t n body rest i (omega arith), none) zero-of
+
+counted : (t n : ℕ) (body : ℕ → List ℕ) (rest : Fields) {bs : List (List ℕ)} → bs ≡ bodies t (each t n body rest) → bodies t rest ≡ [] → length bs ≡ n
+counted t n body rest same none = ap length same ∙ each-count t n body rest ∙ ap (λ bs. n + length bs) none ∙ add-zero n
 
 word-of : (w : ℕ) (more : List ℕ) → w < 65536 → wordIn (bytes 2 w ++ more) ≡ w
 unfolding bytes
@@ -145,11 +153,11 @@ unfolding planIn settled bodyAt
 plan-back p xs marks s = λ i. record {
   levels = ap (λ bs. byteAt 0 (getD bs 0 [])) (b .ones) i;
   k = ap (λ bs. byteAt 1 (getD bs 0 [])) (b .ones) i;
-  added = (ap length (b .twos) ∙ each-count 2 (p .added) (addedBody p) (after-added p xs marks) ∙ ap (λ bs. p .added + length bs) (b .no-twos) ∙ add-zero (p .added)) i;
-  words = (ap (λ bs. tab 6 (λ j. wordIn (getD bs j []))) (b .twos) ∙ placed 2 (p .added) 6 (addedBody p) (after-added p xs marks) wordIn (λ j. getD (p .words) j 0) (b .no-twos) no-word (λ j. word-of (getD (p .words) j 0) _ (s .words-fit j))) i;
-  signs = (ap (λ bs. tab 6 (λ j. byteAt 2 (getD bs j []))) (b .twos) ∙ placed 2 (p .added) 6 (addedBody p) (after-added p xs marks) (byteAt 2) (λ j. getD (p .signs) j 0) (b .no-twos) refl (λ j. sign-of (getD (p .words) j 0) (getD (p .signs) j 0))) i;
-  blocks = (ap length (b .threes) ∙ each-count 3 (p .blocks) (blockBody p) (after-blocks p xs marks) ∙ ap (λ bs. p .blocks + length bs) (b .no-threes) ∙ add-zero (p .blocks)) i;
-  blockwords = (ap (λ bs. tab 4 (λ j. wordIn (getD bs j []))) (b .threes) ∙ placed 3 (p .blocks) 4 (blockBody p) (after-blocks p xs marks) wordIn (λ j. getD (p .blockwords) j 0) (b .no-threes) no-word (λ j. block-of (getD (p .blockwords) j 0) (s .blockwords-fit j))) i;
+  added = counted 2 (p .added) (addedBody p) _ (b .twos) (b .no-twos) i;
+  words = placed 2 (p .added) 6 (addedBody p) _ wordIn (λ j. getD (p .words) j 0) (b .twos) (b .no-twos) no-word (λ j. word-of (getD (p .words) j 0) _ (s .words-fit j)) i;
+  signs = placed 2 (p .added) 6 (addedBody p) _ (byteAt 2) (λ j. getD (p .signs) j 0) (b .twos) (b .no-twos) refl (λ j. sign-of (getD (p .words) j 0) (getD (p .signs) j 0)) i;
+  blocks = counted 3 (p .blocks) (blockBody p) _ (b .threes) (b .no-threes) i;
+  blockwords = placed 3 (p .blocks) 4 (blockBody p) _ wordIn (λ j. getD (p .blockwords) j 0) (b .threes) (b .no-threes) no-word (λ j. block-of (getD (p .blockwords) j 0) (s .blockwords-fit j)) i;
 }
   where
     b : Bodies p xs marks

@@ -1,8 +1,8 @@
 -- What the inner functions ask of the columns that they are lent.
 --
---   Stretch levels h xs        xs is one stretch of a factor whose values lie h apart
---   Stretches levels h xs      xs is one or more of them
---   Readings levels k xs       the readings of a plan of k factors
+--   Stretch levels h xs         xs is one stretch of a factor whose values lie h apart
+--   Stretches levels h xs       xs is one or more of them
+--   PassReadings levels k xs    readings of a plan of k factors, which all passes may run on
 use mathlib.Core.Path.{_≡_}
 use mathlib.Core.List.{List}
 use Prim.Native.Nat.{ℕ, _*_, _<_, _^_}
@@ -28,7 +28,7 @@ pub record Stretches (levels h : ℕ) (xs : List ℤ) : Type 0 where
   pub whole : length xs ≡ count * (levels * h)
   pub within : AllWithin valueLimit xs
 
-pub record Readings (levels k : ℕ) (xs : List ℤ) : Type 0 where
+pub record PassReadings (levels k : ℕ) (xs : List ℤ) : Type 0 where
   pub kind : ofLevels levels .levels ≡ levels
   pub admitted : T (withinLimits (ofLevels levels) k)
   pub whole : length xs ≡ levels ^ k

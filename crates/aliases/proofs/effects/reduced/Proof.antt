@@ -28,7 +28,7 @@ reduced-spec =
     (λ c κs. tt)
     (λ c.
     let args = c .before .before .before .before .before .before .before .args in
-    let has-beyond-is = c .before .before .before .before .before .before .has-beyond .ensures in
-    let if1-left = c .before .before .before .before .before .if1 .left in
-    let base-letters-is = c .before .before .before .before .base-letters .ensures in
-    rw (length-take-le (args .added) (args .t4) (omega arith), is has-beyond-is if1-left, c .before .before .combine .ensures, base-letters-is, c .count-turns .ensures) refl))
+    let words-long = length-take-le (args .added) (args .t4) (omega arith) in
+    let none-beyond = is (c .before .before .before .before .before .before .has-beyond .ensures) (c .before .before .before .before .before .if1 .left) in
+    let base-letters-are = c .before .before .before .before .base-letters .ensures in
+    rw (words-long, none-beyond, c .before .before .combine .ensures, base-letters-are, c .count-turns .ensures) refl))

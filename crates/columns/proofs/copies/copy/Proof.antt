@@ -12,7 +12,5 @@ copy-spec =
     (tie.spec
     (λ c κs. search needs)
     (λ c. search needs)
-    (λ c.
-    let if1-taken = c .before .before .before .if1 .taken in
-    c .before .put-readings .ensures ∙ rw (eq-eqb _ _ if1-taken) refl)
+    (λ c. c .before .put-readings .ensures ∙ rw (eq-eqb _ _ (c .before .before .before .if1 .taken)) refl)
     (λ c. rw (ne-eqb _ _ (c .if1 .left)) refl))

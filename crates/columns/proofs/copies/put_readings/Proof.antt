@@ -22,9 +22,7 @@ put-readings-spec =
     (λ c. copying-none _ _ (c .pre))
     (λ c. omega (arith, copying-long (c .before .loop .inv)))
     (λ c. omega (arith, copying-long (c .before .loop .inv)))
-    (λ c.
-    let args = c .before .before .before .args in
-    widened-fits (read (args .readings .now) (c .before .before .loop .i)) (c .column .given))
+    (λ c. widened-fits (read (c .before .before .before .args .readings .now) (c .before .before .loop .i)) (c .column .given))
     (λ c. omega (arith, copying-long (c .before .before .loop .inv)))
     (λ c. omega (arith, copying-long (c .before .before .loop .inv)))
     (λ c. omega (arith, copying-long (c .before .before .loop .inv)))

@@ -1,9 +1,14 @@
-use mathlib.Core.Path.{refl, sym, _∙_}
+use mathlib.Core.Path.{_≡_, refl, sym, _∙_}
+use Rattle.plan.specs.Check.{planRefused}
 use Rattle.plan.specs.Laws.Answers.{plan-first, after-plan}
 use Rattle.columns.specs.Inner.Judged.{lengthsRefused}
 use Rattle.columns.specs.Laws.Lengths.{wrong, right}
 use Rattle.columns.proofs.refusals.lengths_refused.Statement.{statement}
 use Rattle.columns.proofs.refusals.lengths_refused.Tie as tie
+
+-- beyond the first test the plan is accepted
+ok : (c : tie.Else1) → planRefused (c .before .before .args .p) ≡ 0
+ok c = sym (c .before .lowest .ensures) ∙ c .if1 .left
 
 pub lengths-refused-spec : {M : Type 1} → statement M
 unfolding lengthsRefused
@@ -14,15 +19,13 @@ lengths-refused-spec =
     (λ c. plan-first _ _ (c .before .lowest .ensures) (c .if1 .taken))
     (λ c κs. tt)
     (λ c.
-    let lowest-is = c .before .before .before .lowest .ensures in
-    let z = sym lowest-is ∙ c .before .before .if1 .left in rw (after-plan _ _ z, wrong _ z (c .before .runs .ensures) _ (c .if2 .taken)) refl)
+    let accepted = ok (c .before .before) in
+    rw (after-plan _ _ accepted, wrong _ accepted (c .before .runs .ensures) _ (c .if2 .taken)) refl)
     (λ c.
-    let lowest-is = c .before .before .before .before .lowest .ensures in
-    let if1-left = c .before .before .before .if1 .left in
+    let accepted = ok (c .before .before .before) in
     let runs-is = c .before .before .runs .ensures in
-    let z = sym lowest-is ∙ if1-left in rw (after-plan _ _ z, right _ z runs-is _ (c .before .if2 .left), wrong _ z runs-is _ (c .if3 .taken)) refl)
+    rw (after-plan _ _ accepted, right _ accepted runs-is _ (c .before .if2 .left), wrong _ accepted runs-is _ (c .if3 .taken)) refl)
     (λ c.
-    let lowest-is = c .before .before .before .before .lowest .ensures in
-    let if1-left = c .before .before .before .if1 .left in
+    let accepted = ok (c .before .before .before) in
     let runs-is = c .before .before .runs .ensures in
-    let z = sym lowest-is ∙ if1-left in rw (after-plan _ _ z, right _ z runs-is _ (c .before .if2 .left), right _ z runs-is _ (c .if3 .left)) refl))
+    rw (after-plan _ _ accepted, right _ accepted runs-is _ (c .before .if2 .left), right _ accepted runs-is _ (c .if3 .left)) refl))

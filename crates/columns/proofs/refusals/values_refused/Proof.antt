@@ -12,8 +12,8 @@ values-refused-spec =
     (λ c. by-lengths _ _ _ _ (c .before .lengths-refused .ensures) (c .if1 .taken))
     (λ c κs. tt)
     (λ c.
-    let lengths-refused-is = c .before .before .before .lengths-refused .ensures in
-    sym (by-values _ _ _ _ (sym lengths-refused-is ∙ c .before .before .if1 .left) ∙ rw (is (c .before .any-value-beyond .ensures) (c .if2 .taken)) refl))
+    let lengths-fine = sym (c .before .before .before .lengths-refused .ensures) ∙ c .before .before .if1 .left in
+    sym (by-values _ _ _ _ lengths-fine ∙ rw (is (c .before .any-value-beyond .ensures) (c .if2 .taken)) refl))
     (λ c.
-    let lengths-refused-is = c .before .before .before .lengths-refused .ensures in
-    sym (by-values _ _ _ _ (sym lengths-refused-is ∙ c .before .before .if1 .left) ∙ rw (is (c .before .any-value-beyond .ensures) (c .if2 .left)) refl)))
+    let lengths-fine = sym (c .before .before .before .lengths-refused .ensures) ∙ c .before .before .if1 .left in
+    sym (by-values _ _ _ _ lengths-fine ∙ rw (is (c .before .any-value-beyond .ensures) (c .if2 .left)) refl)))

@@ -1,4 +1,5 @@
-use mathlib.Core.Path.{refl, ap, _∙_}
+use mathlib.Core.Path.{ap, _∙_}
+use Prim.Native.Nat.{min}
 use Rattle.contents.specs.Contents.{byteAt}
 use Rattle.contents.proofs.Made.{made}
 use Rattle.contents.proofs.plans.plan_in.Statement.{statement}
@@ -20,10 +21,10 @@ plan-in-spec =
     (λ c κs. tt)
     (λ c.
     let body-is = c .before .before .before .before .before .before .before .before .before .body .ensures in
-    let byte-is = c .before .before .before .before .before .before .before .before .byte .ensures in
-    let byte2-is = c .before .before .before .before .before .before .before .byte2 .ensures in
-    let count-is = c .before .before .before .before .before .before .count .ensures in
-    let at-most-is = c .before .before .before .before .before .at-most .ensures in
-    let added-words-is = c .before .before .before .before .added-words .ensures in
-    let added-signs-is = c .before .before .before .added-signs .ensures in
-    made _ _ (byte-is ∙ ap (byteAt 0) body-is) (byte2-is ∙ ap (byteAt 1) body-is) (rw (at-most-is, count-is) refl) added-words-is added-signs-is (rw (c .before .at-most2 .ensures, c .before .before .count2 .ensures) refl) (c .block-words .ensures)))
+    let levels-are = c .before .before .before .before .before .before .before .before .byte .ensures ∙ ap (byteAt 0) body-is in
+    let k-is = c .before .before .before .before .before .before .before .byte2 .ensures ∙ ap (byteAt 1) body-is in
+    let added-is = c .before .before .before .before .before .at-most .ensures ∙ ap (λ n. min n 7) (c .before .before .before .before .before .before .count .ensures) in
+    let words-are = c .before .before .before .before .added-words .ensures in
+    let signs-are = c .before .before .before .added-signs .ensures in
+    let blocks-are = c .before .at-most2 .ensures ∙ ap (λ n. min n 5) (c .before .before .count2 .ensures) in
+    made _ _ levels-are k-is added-is words-are signs-are blocks-are (c .block-words .ensures)))

@@ -35,7 +35,9 @@ any-beyond-spec =
     let args = c .before .before .before .before .before .args in
     let inv = c .before .before .before .loop .inv in
     let inside = c .before .before .loop-test .taken in
-    seen-more inv inside (c .is-reading-beyond .ensures ∙ ap (isBeyond readingLimit) (toZ-ofZ w32 (c .before .reading-at .result) (record { sfits = c .before .reading-at .ok }) ∙ c .before .reading-at .ensures ∙ sym (reading-is (args .body .now) _ inside))))
+    let fits = toZ-ofZ w32 (c .before .reading-at .result) (record { sfits = c .before .reading-at .ok }) in
+    let reading = fits ∙ c .before .reading-at .ensures ∙ sym (reading-is (args .body .now) _ inside) in
+    seen-more inv inside (c .is-reading-beyond .ensures ∙ ap (isBeyond readingLimit) reading))
     (λ c.
     let args = c .before .before .before .args in
     seen-all (c .before .loop .inv) (c .loop-test .left) ∙ ap (λ m. some m (λ j. isBeyond readingLimit (read (readingsOf (args .body .now)) j))) (sym (readings-long _))))

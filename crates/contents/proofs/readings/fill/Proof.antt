@@ -25,9 +25,7 @@ fill-spec =
     Inv-loop
     μ-loop
     (λ c. filled-none (pos 0) _ _ _ _ refl (λ j k. refl))
-    (λ c κs.
-    let pre = c .before .before .before .pre in
-    omega (arith, pre, filled-long (pos 0) (c .before .loop .inv)))
+    (λ c κs. omega (arith, c .before .before .before .pre, filled-long (pos 0) (c .before .loop .inv)))
     (λ c. omega (arith, filled-long (pos 0) (c .before .before .loop .inv)))
     (λ c. omega (arith, filled-long (pos 0) (c .before .before .loop .inv)))
     (λ c. omega (arith, filled-long (pos 0) (c .before .before .loop .inv)))

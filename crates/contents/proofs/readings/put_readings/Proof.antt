@@ -9,12 +9,8 @@ put-readings-spec =
     tie.close
     (tie.spec
     (λ c κs. c .before .if1 .taken)
-    (λ c.
-    let if1-taken = c .before .before .before .if1 .taken in
-    ap length (c .before .fill .ensures) ∙ readings-long _ ∙ sym if1-taken)
-    (λ c.
-    let if1-taken = c .before .before .before .if1 .taken in
-    c .before .fill .ensures ∙ sym (readings-put _ _ if1-taken))
+    (λ c. ap length (c .before .fill .ensures) ∙ readings-long _ ∙ sym (c .before .before .before .if1 .taken))
+    (λ c. c .before .fill .ensures ∙ sym (readings-put _ _ (c .before .before .before .if1 .taken)))
     (λ c.
     let args = c .before .before .args in
     readings-kept (args .body .now) (args .column .now) (c .if1 .left)))

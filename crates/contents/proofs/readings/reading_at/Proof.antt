@@ -14,20 +14,10 @@ reading-at-spec =
     (λ c. omega (arith, c .before .pre))
     (λ c. omega (arith, c .before .before .pre))
     (λ c. omega (arith, c .before .before .pre))
-    (λ c.
-    let pre = c .before .before .before .pre in
-    omega (arith, pre))
-    (λ c.
-    let pre = c .before .before .before .pre in
-    omega (arith, pre))
-    (λ c.
-    let pre = c .before .before .before .before .pre in
-    omega (arith, pre))
-    (λ c.
-    let pre = c .before .before .before .before .pre in
-    omega (arith, pre))
-    (λ c.
-    let pre = c .before .before .before .before .before .pre in
-    omega (arith, pre))
+    (λ c. omega (arith, c .before .before .before .pre))
+    (λ c. omega (arith, c .before .before .before .pre))
+    (λ c. omega (arith, c .before .before .before .before .pre))
+    (λ c. omega (arith, c .before .before .before .before .pre))
+    (λ c. omega (arith, c .before .before .before .before .before .pre))
     (λ c κs. tt)
     (λ c. toZ-ofZ w32 (c .reading .result) (record { sfits = c .reading .ok }) ∙ c .reading .ensures))

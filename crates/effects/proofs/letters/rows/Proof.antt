@@ -1,4 +1,4 @@
-use Rattle.effects.proofs.Rowed.{few-two, few-three, of-two, of-three}
+use Rattle.effects.proofs.Rowed.{few-two, few-three, effect-rows-two, effect-rows-three}
 use Rattle.effects.proofs.letters.rows.Statement.{statement}
 use Rattle.effects.proofs.letters.rows.Tie as tie
 
@@ -8,10 +8,6 @@ rows-spec =
     (tie.spec
     (λ c κs. tt)
     (λ c κs. few-two _ (c .before .before .runs .ensures))
-    (λ c.
-    let runs-is = c .before .before .before .runs .ensures in
-    of-two _ runs-is (c .before .if1 .taken) (c .rows-of-two .ensures))
+    (λ c. effect-rows-two _ (c .before .before .before .runs .ensures) (c .before .if1 .taken) (c .rows-of-two .ensures))
     (λ c κs. few-three _ (c .before .before .runs .ensures) (c .if1 .left))
-    (λ c.
-    let runs-is = c .before .before .before .runs .ensures in
-    of-three _ runs-is (c .before .if1 .left) (c .rows-of-three .ensures)))
+    (λ c. effect-rows-three _ (c .before .before .before .runs .ensures) (c .before .if1 .left) (c .rows-of-three .ensures)))

@@ -1,11 +1,11 @@
 use Prim.Native.Nat.{_-_}
 use native.Mathlib.Omega.{arith}
-use Rattle.effects.proofs.Rowed.{OfThree, three-none, three-fits, three-more, three-all}
+use Rattle.effects.proofs.Rowed.{RowsThree, three-none, three-fits, three-more, three-all}
 use Rattle.effects.proofs.letters.rows_of_three.Statement.{statement}
 use Rattle.effects.proofs.letters.rows_of_three.Tie as tie
 
 abbrev Inv-loop : tie.InvT-loop
-Inv-loop n rows₀ e₀ rows e = OfThree n e rows
+Inv-loop n rows₀ e₀ rows e = RowsThree n e rows
 
 abbrev μ-loop : tie.MeasureT-loop
 μ-loop n rows₀ e₀ rows e = n - e

@@ -1,11 +1,11 @@
 use Prim.Native.Nat.{_-_}
 use native.Mathlib.Omega.{arith}
-use Rattle.effects.proofs.Rowed.{OfTwo, two-none, two-more, two-all}
+use Rattle.effects.proofs.Rowed.{RowsTwo, two-none, two-more, two-all}
 use Rattle.effects.proofs.letters.rows_of_two.Statement.{statement}
 use Rattle.effects.proofs.letters.rows_of_two.Tie as tie
 
 abbrev Inv-loop : tie.InvT-loop
-Inv-loop n rows₀ e₀ rows e = OfTwo n e rows
+Inv-loop n rows₀ e₀ rows e = RowsTwo n e rows
 
 abbrev μ-loop : tie.MeasureT-loop
 μ-loop n rows₀ e₀ rows e = n - e

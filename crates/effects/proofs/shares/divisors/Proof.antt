@@ -1,5 +1,5 @@
 use borrow.Author.Needs.{needs}
-use Rattle.effects.proofs.Shared.{no-effects, is-two, of-two, is-three, of-three}
+use Rattle.effects.proofs.Shared.{no-effects, is-two, effect-divisors-two, is-three, effect-divisors-three}
 use Rattle.effects.proofs.shares.divisors.Statement.{statement}
 use Rattle.effects.proofs.shares.divisors.Tie as tie
 
@@ -9,19 +9,14 @@ divisors-spec =
     (tie.spec
     (λ c κs. tt)
     (λ c. no-effects _ (c .before .runs .ensures) (c .if1 .taken))
-    (λ c κs.
-    let runs-is = c .before .before .before .runs .ensures in
-    is-two _ runs-is (c .before .before .if1 .left) (c .if2 .taken))
+    (λ c κs. is-two _ (c .before .before .before .runs .ensures) (c .before .before .if1 .left) (c .if2 .taken))
     (λ c.
-    let runs-is = c .before .before .before .before .runs .ensures in
-    let if1-left = c .before .before .before .if1 .left in
-    of-two _ runs-is if1-left (c .before .if2 .taken) (c .divisors-of-two .ensures))
+    let some = c .before .before .before in
+    effect-divisors-two _ (some .before .runs .ensures) (some .if1 .left) (c .before .if2 .taken) (c .divisors-of-two .ensures))
     (λ c. search needs)
     (λ c κs.
-    let runs-is = c .before .before .before .before .runs .ensures in
-    let if1-left = c .before .before .before .if1 .left in
-    is-three _ runs-is if1-left (c .before .if2 .left))
+    let some = c .before .before .before in
+    is-three _ (some .before .runs .ensures) (some .if1 .left) (c .before .if2 .left))
     (λ c.
-    let runs-is = c .before .before .before .before .before .runs .ensures in
-    let if1-left = c .before .before .before .before .if1 .left in
-    of-three _ runs-is if1-left (c .before .before .if2 .left) (c .divisors-of-three .ensures)))
+    let some = c .before .before .before .before in
+    effect-divisors-three _ (some .before .runs .ensures) (some .if1 .left) (c .before .before .if2 .left) (c .divisors-of-three .ensures)))

@@ -1,11 +1,11 @@
 use Prim.Native.Nat.{_-_}
 use native.Mathlib.Omega.{arith}
-use Rattle.effects.proofs.Shared.{OfTwo, two-none, two-more, two-all}
+use Rattle.effects.proofs.Shared.{DivisorsTwo, two-none, two-more, two-all}
 use Rattle.effects.proofs.shares.divisors_of_two.Statement.{statement}
 use Rattle.effects.proofs.shares.divisors_of_two.Tie as tie
 
 abbrev Inv-loop : tie.InvT-loop
-Inv-loop n divisors₀ e₀ divisors e = OfTwo n e divisors
+Inv-loop n divisors₀ e₀ divisors e = DivisorsTwo n e divisors
 
 abbrev μ-loop : tie.MeasureT-loop
 μ-loop n divisors₀ e₀ divisors e = n - e

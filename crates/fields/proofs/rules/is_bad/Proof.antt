@@ -12,8 +12,8 @@ is-bad-spec =
     (λ c. rw (ne-eqb _ 1 (c .before .if1 .left), eq-eqb _ 2 (c .if2 .taken)) refl)
     (λ c. rw (ne-eqb _ 1 (c .before .before .if1 .left), ne-eqb _ 2 (c .before .if2 .left), eq-eqb _ 3 (c .if3 .taken)) refl)
     (λ c.
-    let if1-left = c .before .before .before .if1 .left in
-    rw (ne-eqb _ 1 if1-left, ne-eqb _ 2 (c .before .before .if2 .left), ne-eqb _ 3 (c .before .if3 .left), eq-eqb _ 4 (c .if4 .taken)) refl)
+    let not-one = ne-eqb _ 1 (c .before .before .before .if1 .left) in
+    rw (not-one, ne-eqb _ 2 (c .before .before .if2 .left), ne-eqb _ 3 (c .before .if3 .left), eq-eqb _ 4 (c .if4 .taken)) refl)
     (λ c.
-    let if1-left = c .before .before .before .if1 .left in
-    rw (ne-eqb _ 1 if1-left, ne-eqb _ 2 (c .before .before .if2 .left), ne-eqb _ 3 (c .before .if3 .left), ne-eqb _ 4 (c .if4 .left)) (search itself)))
+    let not-one = ne-eqb _ 1 (c .before .before .before .if1 .left) in
+    rw (not-one, ne-eqb _ 2 (c .before .before .if2 .left), ne-eqb _ 3 (c .before .if3 .left), ne-eqb _ 4 (c .if4 .left)) (search itself)))

@@ -1,7 +1,7 @@
 use Prim.Native.Nat.{_-_}
 use native.Mathlib.Omega.{arith}
 use lib.ListN.{length}
-use Rattle.fields.proofs.Walking.{next}
+use Rattle.fields.proofs.Walking.{Next, next}
 use Rattle.fields.proofs.Searching.{Counted, counted-none, counted-one, counted-other, counted-cut, counted-all}
 use Rattle.fields.proofs.walks.count.Statement.{statement}
 use Rattle.fields.proofs.walks.count.Tie as tie
@@ -11,6 +11,12 @@ Inv-loop sheet tag n₀ at₀ n at = Counted sheet tag at n
 
 abbrev μ-loop : tie.MeasureT-loop
 μ-loop sheet tag n₀ at₀ n at = length sheet - at
+
+-- beyond the first test the field is whole, and the next one begins at its end
+on : (c : tie.Else1 Inv-loop μ-loop)
+    → Next (c .before .before .before .before .before .args .sheet .now) (c .before .before .before .loop .at) (c .before .field-end .result)
+    (c .before .before .before .loop .inv .fs)
+on c = next (c .before .before .before .loop .inv .rest) (c .before .before .loop-test .taken) (c .before .field-end .ensures) (c .if1 .left)
 
 pub count-spec : {M : Type 1} → statement M
 count-spec =
@@ -24,27 +30,9 @@ count-spec =
     let inv = c .before .before .before .loop .inv in
     search (counted-cut inv (c .before .before .loop-test .taken) (c .before .field-end .ensures) (c .if1 .taken)))
     (λ c. omega arith)
-    (λ c.
-    let inv = c .before .before .before .before .before .loop .inv in
-    omega (arith, inv .few))
-    (λ c.
-    let inv = c .before .before .before .before .before .loop .inv in
-    let inside = c .before .before .before .before .loop-test .taken in
-    let field-end-is = c .before .before .before .field-end .ensures in
-    omega (arith, next (inv .rest) inside field-end-is (c .before .before .if1 .left) .past))
-    (λ c.
-    let inv = c .before .before .before .before .before .loop .inv in
-    let inside = c .before .before .before .before .loop-test .taken in
-    let field-end-is = c .before .before .before .field-end .ensures in
-    counted-one inv inside field-end-is (c .before .before .if1 .left) (c .if2 .taken))
-    (λ c.
-    let inv = c .before .before .before .before .before .loop .inv in
-    let inside = c .before .before .before .before .loop-test .taken in
-    let field-end-is = c .before .before .before .field-end .ensures in
-    omega (arith, next (inv .rest) inside field-end-is (c .before .before .if1 .left) .past))
-    (λ c.
-    let inv = c .before .before .before .before .before .loop .inv in
-    let inside = c .before .before .before .before .loop-test .taken in
-    let field-end-is = c .before .before .before .field-end .ensures in
-    counted-other inv inside field-end-is (c .before .before .if1 .left) (c .if2 .left))
+    (λ c. omega (arith, c .before .before .before .before .before .loop .inv .few))
+    (λ c. omega (arith, on (c .before .before)))
+    (λ c. counted-one (c .before .before .before .before .before .loop .inv) (on (c .before .before)) (c .if2 .taken))
+    (λ c. omega (arith, on (c .before .before)))
+    (λ c. counted-other (c .before .before .before .before .before .loop .inv) (on (c .before .before)) (c .if2 .left))
     (λ c. counted-all (c .before .loop .inv) (c .loop-test .left)))

@@ -10,11 +10,7 @@ label-spec =
     (λ c. search needs)
     (λ c κs. tt)
     (λ c. search needs)
-    (λ c.
-    let if1-taken = c .before .before .before .before .before .if1 .taken in
-    mean-label _ if1-taken (c .before .before .copy .ensures))
+    (λ c. mean-label _ (c .before .before .before .before .before .if1 .taken) (c .before .before .copy .ensures))
     (λ c κs. tt)
     (λ c. search needs)
-    (λ c.
-    let if1-left = c .before .before .before .before .if1 .left in
-    letters-label _ if1-left (c .before .before .letters .ensures)))
+    (λ c. letters-label _ (c .before .before .before .before .if1 .left) (c .before .before .letters .ensures)))

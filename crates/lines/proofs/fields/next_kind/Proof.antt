@@ -10,13 +10,9 @@ next-kind-spec =
     (λ c. search needs)
     (λ c κs. tt)
     (λ c. search needs)
-    (λ c.
-    let if1-taken = c .before .before .before .before .before .if1 .taken in
-    error-text _ if1-taken (c .before .before .copy .ensures))
+    (λ c. error-text _ (c .before .before .before .before .before .if1 .taken) (c .before .before .copy .ensures))
     (λ c. search needs)
     (λ c κs. tt)
     (λ c. search needs)
-    (λ c.
-    let if2-taken = c .before .before .before .before .before .if2 .taken in
-    blocks-text _ if2-taken (c .before .before .copy2 .ensures))
+    (λ c. blocks-text _ (c .before .before .before .before .before .if2 .taken) (c .before .before .copy2 .ensures))
     (λ c. no-text _ _ _ (c .before .if1 .left) (c .if2 .left)))

@@ -10,6 +10,4 @@ next-number-spec =
     (λ c κs. tt)
     (λ c κs. tt)
     (λ c. search needs)
-    (λ c.
-    let put-is = c .before .before .before .before .before .before .put .ensures in
-    then put-is (c .before .before .number .ensures)))
+    (λ c. then (c .before .before .before .before .before .before .put .ensures) (c .before .before .number .ensures)))

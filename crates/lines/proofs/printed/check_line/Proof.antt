@@ -14,9 +14,8 @@ check-line-spec =
     (λ c κs. tt)
     (λ c. search needs)
     (λ c.
-    let totals-fits = c .before .before .before .before .before .before .before .before .before .before .before .before .before .before .before .before .before .before .fits .totals in
-    let readings-fits = c .before .before .before .before .before .before .before .before .before .before .before .before .before .before .before .before .before .before .fits .readings in
-    let copy-is = c .before .before .before .before .before .before .before .before .before .before .before .before .before .before .copy .ensures in
-    let next-value-is = c .before .before .before .before .before .before .before .before .before .before .next-value .ensures in
-    let next-value2-is = c .before .before .before .before .before .before .next-value2 .ensures in
-    check-made totals-fits readings-fits copy-is next-value-is next-value2-is (c .before .before .end-line .ensures)))
+    let second = c .before .before .before .before .before .before in
+    let first = second .before .before .before .before in
+    let word = first .before .before .before .before in
+    let fits = word .before .before .before .before .fits in
+    check-made (fits .totals) (fits .readings) (word .copy .ensures) (first .next-value .ensures) (second .next-value2 .ensures) (c .before .before .end-line .ensures)))

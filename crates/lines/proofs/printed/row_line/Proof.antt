@@ -13,7 +13,7 @@ row-line-spec =
     (λ c κs. tt)
     (λ c. search needs)
     (λ c.
-    let label-is = c .before .before .before .before .before .before .before .before .before .before .before .before .before .before .label .ensures in
-    let next-pair-is = c .before .before .before .before .before .before .before .before .before .before .next-pair .ensures in
-    let next-kind-is = c .before .before .before .before .before .before .next-kind .ensures in
-    row-made _ _ _ _ label-is next-pair-is next-kind-is (c .before .before .end-line .ensures)))
+    let kind = c .before .before .before .before .before .before in
+    let pair = kind .before .before .before .before in
+    let label = pair .before .before .before .before in
+    row-made _ _ _ _ (label .label .ensures) (pair .next-pair .ensures) (kind .next-kind .ensures) (c .before .before .end-line .ensures)))

@@ -14,9 +14,7 @@ confounded-spec =
     (λ c κs. search needs)
     (λ c. rw (← (c .before .lowest .ensures), ne-eqb _ _ (c .if1 .taken)) refl)
     (λ c. search needs)
-    (λ c κs.
-    let lowest-is = c .before .before .before .lowest .ensures in
-    sizes _ (sym lowest-is ∙ c .before .before .if1 .left) .2)
+    (λ c κs. sizes _ (sym (c .before .before .before .lowest .ensures) ∙ c .before .before .if1 .left) .2)
     (λ c.
     let lowest-is = c .before .before .before .before .lowest .ensures in
     let if1-left = c .before .before .before .if1 .left in

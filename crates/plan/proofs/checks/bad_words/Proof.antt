@@ -13,10 +13,10 @@ bad-words-spec =
     (λ c. rw (is (c .before .any-bad-word .ensures) (c .if1 .taken)))
     (λ c κs. search needs)
     (λ c.
-    let any-bad-word-is = c .before .before .before .any-bad-word .ensures in
-    rw (is any-bad-word-is (c .before .before .if1 .left), is (c .before .any-bad-sign .ensures) (c .if2 .taken)))
+    let words-fine = is (c .before .before .before .any-bad-word .ensures) (c .before .before .if1 .left) in
+    rw (words-fine, is (c .before .any-bad-sign .ensures) (c .if2 .taken)))
     (λ c κs. search needs)
     (λ c.
-    let any-bad-word-is = c .before .before .before .before .any-bad-word .ensures in
-    let if1-left = c .before .before .before .if1 .left in
-    rw (is any-bad-word-is if1-left, is (c .before .before .any-bad-sign .ensures) (c .before .if2 .left)) (c .any-bad-word2 .ensures)))
+    let words-fine = is (c .before .before .before .before .any-bad-word .ensures) (c .before .before .before .if1 .left) in
+    let signs-fine = is (c .before .before .any-bad-sign .ensures) (c .before .if2 .left) in
+    rw (words-fine, signs-fine) (c .any-bad-word2 .ensures)))

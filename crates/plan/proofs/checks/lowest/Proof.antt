@@ -1,11 +1,22 @@
-use mathlib.Core.Path.{refl}
+use mathlib.Core.Path.{_≡_, refl}
+use mathlib.Core.Bool.{false}
 use native.Mathlib.Omega.{arith}
 use borrow.Author.Needs.{needs}
-use Rattle.plan.specs.Check.{planRefused}
+use Rattle.plan.specs.Check.{badLevels, badFactors, badCounts, planRefused}
 use Rattle.plan.specs.Laws.Accepted.{counts-known}
 use Rattle.algebra.specs.Laws.Tests.{is}
 use Rattle.plan.proofs.checks.lowest.Statement.{statement}
 use Rattle.plan.proofs.checks.lowest.Tie as tie
+
+-- what is known beyond each test
+levels-fine : (c : tie.Else1) → badLevels (c .before .before .args .p .levels) ≡ false
+levels-fine c = is (c .before .bad-levels .ensures) (c .if1 .left)
+
+factors-fine : (c : tie.Else2) → badFactors (c .before .before .before .before .args .p .levels) (c .before .before .before .before .args .p .k) ≡ false
+factors-fine c = is (c .before .bad-factors .ensures) (c .if2 .left)
+
+counts-fine : (c : tie.Else3) → let p = c .before .before .before .before .before .before .args .p in badCounts (p .levels) (p .added) (p .blocks) ≡ false
+counts-fine c = is (c .before .bad-counts .ensures) (c .if3 .left)
 
 pub lowest-spec : {M : Type 1} → statement M
 unfolding planRefused
@@ -15,27 +26,15 @@ lowest-spec =
     (λ c κs. search needs)
     (λ c. rw (is (c .before .bad-levels .ensures) (c .if1 .taken)) refl)
     (λ c κs. search needs)
-    (λ c.
-    let bad-levels-is = c .before .before .before .bad-levels .ensures in
-    rw (is bad-levels-is (c .before .before .if1 .left), is (c .before .bad-factors .ensures) (c .if2 .taken)) refl)
+    (λ c. rw (levels-fine (c .before .before), is (c .before .bad-factors .ensures) (c .if2 .taken)) refl)
     (λ c κs. search needs)
-    (λ c.
-    let bad-levels-is = c .before .before .before .before .before .bad-levels .ensures in
-    let if1-left = c .before .before .before .before .if1 .left in
-    let bad-factors-is = c .before .before .before .bad-factors .ensures in
-    rw (is bad-levels-is if1-left, is bad-factors-is (c .before .before .if2 .left), is (c .before .bad-counts .ensures) (c .if3 .taken)) refl)
+    (λ c. rw (levels-fine (c .before .before .before .before), factors-fine (c .before .before), is (c .before .bad-counts .ensures) (c .if3 .taken)) refl)
     (λ c. search needs)
     (λ c. search needs)
     (λ c. search needs)
     (λ c κs.
-    let bad-counts-is = c .before .before .before .before .before .before .before .bad-counts .ensures in
-    let if3-left = c .before .before .before .before .before .before .if3 .left in
-    omega (arith, counts-known _ _ _ (is bad-counts-is if3-left) .0, counts-known _ _ _ (is bad-counts-is if3-left) .1))
+    let few = counts-known _ _ _ (counts-fine (c .before .before .before .before .before .before)) in
+    omega (arith, few .0, few .1))
     (λ c.
-    let bad-levels-is = c .before .before .before .before .before .before .before .before .before .before .before .before .bad-levels .ensures in
-    let if1-left = c .before .before .before .before .before .before .before .before .before .before .before .if1 .left in
-    let bad-factors-is = c .before .before .before .before .before .before .before .before .before .before .bad-factors .ensures in
-    let if2-left = c .before .before .before .before .before .before .before .before .before .if2 .left in
-    let bad-counts-is = c .before .before .before .before .before .before .before .before .bad-counts .ensures in
-    let if3-left = c .before .before .before .before .before .before .before .if3 .left in
-    rw (is bad-levels-is if1-left, is bad-factors-is if2-left, is bad-counts-is if3-left) (c .lowest-of-arrays .ensures)))
+    let past = c .before .before .before .before .before .before .before in
+    rw (levels-fine (past .before .before .before .before), factors-fine (past .before .before), counts-fine past) (c .lowest-of-arrays .ensures)))

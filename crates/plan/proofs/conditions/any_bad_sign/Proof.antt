@@ -23,12 +23,8 @@ any-bad-sign-spec =
     μ-loop
     (λ c. unfound _ _)
     (λ c. omega arith)
-    (λ c.
-    let inv = c .before .before .before .loop .inv in
-    found inv (c .before .before .loop-test .taken) (lt-ltb _ _ (c .if1 .taken)))
+    (λ c. found (c .before .before .before .loop .inv) (c .before .before .loop-test .taken) (lt-ltb _ _ (c .if1 .taken)))
     (λ c. omega arith)
     (λ c. omega arith)
-    (λ c.
-    let inv = c .before .before .before .loop .inv in
-    onward inv (c .before .before .loop-test .taken) (le-ltb _ _ (c .if1 .left)))
+    (λ c. onward (c .before .before .before .loop .inv) (c .before .before .loop-test .taken) (le-ltb _ _ (c .if1 .left)))
     (λ c. nowhere (c .before .loop .inv) (c .loop-test .left)))

@@ -13,6 +13,4 @@ kinds-spec =
     (λ c. search needs)
     (λ c κs. tt)
     (λ c. search needs)
-    (λ c.
-    let put-marks-is = c .before .before .before .before .before .before .put-marks .ensures in
-    all-kinds _ _ put-marks-is (c .before .put-blocks .ensures)))
+    (λ c. all-kinds _ _ (c .before .before .before .before .before .before .put-marks .ensures) (c .before .put-blocks .ensures)))

@@ -21,13 +21,9 @@ put-combinations-spec =
     (λ c κs. omega arith)
     (λ c. blocking-none _ _ (one-le-pow _ 2 (lit< tt)))
     (λ c κs. tt)
-    (λ c.
-    let choices-is = c .before .before .before .before .choices .ensures in
-    omega (arith, choices-is .1))
+    (λ c. omega (arith, c .before .before .before .before .choices .ensures .1))
     (λ c κs. tt)
-    (λ c.
-    let choices-is = c .before .before .before .before .before .before .before .choices .ensures in
-    omega (arith, choices-is .1))
+    (λ c. omega (arith, c .before .before .before .before .before .before .before .choices .ensures .1))
     (λ c. omega arith)
     (λ c.
     let choices-is = c .before .before .before .before .before .before .before .choices .ensures in

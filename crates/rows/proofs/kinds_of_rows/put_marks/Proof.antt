@@ -18,18 +18,10 @@ put-marks-spec =
     μ-loop
     (λ c κs. tt)
     (λ c. marking-none _ _)
-    (λ c.
-    let smaller-is = c .before .before .before .smaller .ensures in
-    omega (arith, smaller-is, marking-long (c .before .before .loop .inv)))
+    (λ c. omega (arith, c .before .before .before .smaller .ensures, marking-long (c .before .before .loop .inv)))
     (λ c κs. tt)
-    (λ c.
-    let smaller-is = c .before .before .before .before .smaller .ensures in
-    let inv = c .before .before .before .loop .inv in
-    omega (arith, smaller-is, marking-long inv))
-    (λ c.
-    let smaller-is = c .before .before .before .before .smaller .ensures in
-    let inv = c .before .before .before .loop .inv in
-    omega (arith, smaller-is, marking-long inv))
+    (λ c. omega (arith, c .before .before .before .before .smaller .ensures, marking-long (c .before .before .before .loop .inv)))
+    (λ c. omega (arith, c .before .before .before .before .smaller .ensures, marking-long (c .before .before .before .loop .inv)))
     (λ c. omega arith)
     (λ c.
     let smaller-is = c .before .before .before .before .smaller .ensures in

@@ -21,17 +21,13 @@ any-combination-marked-spec =
     (λ c κs. omega arith)
     (λ c. trying)
     (λ c κs. tt)
-    (λ c.
-    let choices-is = c .before .before .before .choices .ensures in
-    omega (arith, choices-is .1))
+    (λ c. omega (arith, c .before .before .before .choices .ensures .1))
     (λ c κs. tt)
     (λ c.
     let choices-is = c .before .before .before .before .before .choices .ensures in
     let inv = c .before .before .before .before .loop .inv in
     tried inv (omega (arith, choices-is .0)) (rw (← (c .before .before .combine .ensures)) (is (c .before .is-marked .ensures) (c .if1 .taken))))
-    (λ c.
-    let choices-is = c .before .before .before .before .before .choices .ensures in
-    omega (arith, choices-is .1))
+    (λ c. omega (arith, c .before .before .before .before .before .choices .ensures .1))
     (λ c. omega arith)
     (λ c.
     let choices-is = c .before .before .before .before .before .choices .ensures in

@@ -16,8 +16,7 @@ bad-marks-spec =
     (λ c. search needs)
     (λ c κs. tt)
     (λ c.
-    let any-over-is = c .before .before .before .before .before .before .any-over .ensures in
-    let if1-left = c .before .before .before .before .before .if1 .left in
-    let is-marked-is = c .before .before .before .before .is-marked .ensures in
-    let if2-left = c .before .before .before .if2 .left in
-    c .any-block-marked .ensures ∙ blocks-or-none _ _ (is any-over-is if1-left) (is is-marked-is if2-left)))
+    let mean = c .before .before .before in
+    let codes = mean .before .before in
+    let none-over = is (codes .before .any-over .ensures) (codes .if1 .left) in
+    c .any-block-marked .ensures ∙ blocks-or-none _ _ none-over (is (mean .before .is-marked .ensures) (mean .if2 .left))))

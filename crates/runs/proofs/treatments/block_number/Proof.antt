@@ -25,9 +25,7 @@ block-number-spec =
     (λ c. omega arith)
     (λ c. omega arith)
     (λ c κs. tt)
-    (λ c κs.
-    let inv = c .before .before .before .loop .inv in
-    (omega arith, gathered-small inv))
+    (λ c κs. (omega arith, gathered-small (c .before .before .before .loop .inv)))
     (λ c. omega arith)
     (λ c. omega arith)
     (λ c.

@@ -28,14 +28,14 @@ high-letters-spec =
     (λ c. omega arith)
     (λ c κs. tt)
     (λ c. omega arith)
-    (λ c κs.
-    let inv = c .before .before .before .before .loop .inv in
-    (omega arith, gathered-small inv))
+    (λ c κs. (omega arith, gathered-small (c .before .before .before .before .loop .inv)))
     (λ c. omega arith)
     (λ c. omega arith)
     (λ c.
     let args = c .before .before .before .before .before .before .before .before .args in
     let j-now = c .before .before .before .before .before .loop .j in
     let inv = c .before .before .before .before .before .loop .inv in
-    let e : _≡_ {A = ℕ} (args .k + (j-now + 1)) (args .k + j-now + 1) = omega arith in rw e (gathered-more inv (omega arith) _ (c .before .is-high .ensures ∙ sym (added-high _ _ _ _ _)) (c .put-if .ensures)))
+    let next : _≡_ {A = ℕ} (args .k + (j-now + 1)) (args .k + j-now + 1) = omega arith in
+    let high = c .before .is-high .ensures ∙ sym (added-high _ _ _ _ _) in
+    rw next (gathered-more inv (omega arith) _ high (c .put-if .ensures)))
     (λ c. gathered-all (c .before .loop .inv) (omega arith)))

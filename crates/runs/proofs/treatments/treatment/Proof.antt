@@ -21,7 +21,9 @@ treatment-spec =
     (λ c κs.
     let args = c .before .before .before .before .args in
     let power-is = c .before .before .before .power .ensures in
-    (omega (arith, power-is), omega (arith, length-take-le (args .added) (args .t4) (omega arith)), omega (arith, length-take-le (args .added) (args .t4) (omega arith), length-take-le (args .added) (args .t5) (omega arith))))
+    let words-long = length-take-le (args .added) (args .t4) (omega arith) in
+    let signs-long = length-take-le (args .added) (args .t5) (omega arith) in
+    (omega (arith, power-is), omega (arith, words-long), omega (arith, words-long, signs-long)))
     (λ c. search needs)
     (λ c. sym (length-take-le _ _ (omega arith)))
     (λ c κs.

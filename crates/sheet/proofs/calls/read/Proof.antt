@@ -1,13 +1,36 @@
-use mathlib.Core.Path.{sym, ap, _∙_}
-use mathlib.Core.List.{_++_}
-use Prim.Native.Nat.{_/_}
+use mathlib.Core.Path.{_≡_, sym, _∙_}
+use mathlib.Core.List.{List}
+use Prim.Native.Nat.{ℕ, _/_, _≤_}
 use native.Mathlib.Omega.{arith}
-use lib.ListN.{length, drop}
+use lib.IntN.{ℤ}
+use lib.ListN.{length}
 use lib.Seq.{length-take-le}
+use Rattle.contents.specs.Contents.{readingsOf}
 use Rattle.contents.specs.Laws.Readings.{readings-put}
+use Rattle.sheet.specs.Sheet.{readRefused}
 use Rattle.sheet.proofs.Answering.{read-refused, read-stopped, room-for, same-size, read-completed}
 use Rattle.sheet.proofs.calls.read.Statement.{statement}
 use Rattle.sheet.proofs.calls.read.Tie as tie
+
+-- the sheet and the column that the call is given
+abbrev sheet : tie.After-sheet-refused → List ℕ
+sheet c = c .before .before .before .before .args .sheet .now
+
+abbrev column : tie.After-sheet-refused → List ℤ
+column c = c .before .before .before .before .args .column .now
+
+number-is : (c : tie.After-sheet-refused) → c .sheet-refused .result ≡ readRefused (sheet c) (length (column c))
+number-is c = read-refused _ (c .before .before .plan-in .ensures) _ (c .before .runs .ensures) (c .sheet-refused .ensures)
+
+-- beyond the test the sheet is not refused
+accepted : (c : tie.Else1) → readRefused (sheet (c .before .before)) (length (column (c .before .before))) ≡ 0
+accepted c = sym (number-is (c .before .before)) ∙ omega (arith, c .if1 .left)
+
+room : (c : tie.After-body) → length (c .body .result .now) / 4 ≤ length (column (c .before .before .before))
+room c = room-for _ (column (c .before .before .before)) (accepted (c .before)) (c .body .ensures)
+
+put : (c : tie.After-put-readings) → c .put-readings .last .1 .0 ≡ readingsOf (c .before .before .body .result .now)
+put c = c .put-readings .ensures ∙ readings-put _ _ (length-take-le _ _ (room (c .before .before)))
 
 pub read-spec : {M : Type 1} → statement M
 read-spec =
@@ -17,39 +40,17 @@ read-spec =
     (λ c κs. tt)
     (λ c κs. tt)
     (λ c κs. tt)
-    (λ c.
-    let plan-in-is = c .before .before .before .before .plan-in .ensures in
-    let runs-is = c .before .before .before .runs .ensures in
-    read-stopped _ _ (read-refused _ plan-in-is _ runs-is (search (c .before .before .sheet-refused .ensures))) (λ z. omega (arith, z, c .if1 .taken)) (search (c .before .no-plan .ensures)))
+    (λ c. read-stopped _ _ (number-is (c .before .before)) (λ z. omega (arith, z, c .if1 .taken)) (search (c .before .no-plan .ensures)))
+    (λ c κs. tt)
+    room
+    (λ c. sym (length-take-le _ _ (room (c .before))))
     (λ c κs. tt)
     (λ c.
-    let args = c .before .before .before .before .before .before .before .args in
-    let plan-in-is = c .before .before .before .before .before .plan-in .ensures in
-    let runs-is = c .before .before .before .before .runs .ensures in
-    let sheet-refused-is = c .before .before .before .sheet-refused .ensures in
-    room-for (args .sheet .now) (args .column .now) (sym (read-refused _ plan-in-is _ runs-is sheet-refused-is) ∙ omega (arith, c .before .if1 .left)) (c .body .ensures))
+    let body-at = c .before .before .before in
+    let old = column (body-at .before .before .before) in
+    same-size _ old (accepted (body-at .before)) (body-at .body .ensures) (put (c .before)))
     (λ c.
-    let args = c .before .before .before .before .before .before .before .before .args in
-    let plan-in-is = c .before .before .before .before .before .before .plan-in .ensures in
-    let runs-is = c .before .before .before .before .before .runs .ensures in
-    let sheet-refused-is = c .before .before .before .before .sheet-refused .ensures in
-    sym (length-take-le _ _ (room-for (args .sheet .now) (args .column .now) (sym (read-refused _ plan-in-is _ runs-is sheet-refused-is) ∙ omega (arith, c .before .before .if1 .left)) (c .before .body .ensures))))
-    (λ c κs. tt)
-    (λ c.
-    let args = c .before .before .before .before .before .before .before .before .before .before .args in
-    let plan-in-is = c .before .before .before .before .before .before .before .before .plan-in .ensures in
-    let runs-is = c .before .before .before .before .before .before .before .runs .ensures in
-    let sheet-refused-is = c .before .before .before .before .before .before .sheet-refused .ensures in
-    let if1-left = c .before .before .before .before .if1 .left in
-    let body-is = c .before .before .before .body .ensures in
-    let body-result = c .before .before .before .body .result in
-    same-size (args .sheet .now) (args .column .now) (sym (read-refused _ plan-in-is _ runs-is sheet-refused-is) ∙ omega (arith, if1-left)) body-is (ap (λ l. l ++ drop (length (body-result .now) / 4) (args .column .now)) (c .before .put-readings .ensures ∙ readings-put _ _ (length-take-le _ _ (room-for (args .sheet .now) (args .column .now) (sym (read-refused _ plan-in-is _ runs-is sheet-refused-is) ∙ omega (arith, if1-left)) body-is)))))
-    (λ c.
-    let args = c .before .before .before .before .before .before .before .before .before .before .args in
-    let plan-in-is = c .before .before .before .before .before .before .before .before .plan-in .ensures in
-    let runs-is = c .before .before .before .before .before .before .before .runs .ensures in
-    let sheet-refused-is = c .before .before .before .before .before .before .sheet-refused .ensures in
-    let if1-left = c .before .before .before .before .if1 .left in
-    let body-is = c .before .before .before .body .ensures in
-    let body-result = c .before .before .before .body .result in
-    read-completed (args .sheet .now) (args .column .now) (sym (read-refused _ plan-in-is _ runs-is sheet-refused-is) ∙ omega (arith, if1-left)) body-is plan-in-is (ap (λ l. l ++ drop (length (body-result .now) / 4) (args .column .now)) (c .before .put-readings .ensures ∙ readings-put _ _ (length-take-le _ _ (room-for (args .sheet .now) (args .column .now) (sym (read-refused _ plan-in-is _ runs-is sheet-refused-is) ∙ omega (arith, if1-left)) body-is))))))
+    let body-at = c .before .before .before in
+    let old = column (body-at .before .before .before) in
+    let plan-is = body-at .before .before .before .before .before .plan-in .ensures in
+    read-completed _ old (accepted (body-at .before)) (body-at .body .ensures) (put (c .before)) plan-is))

@@ -1,8 +1,43 @@
-use mathlib.Core.Path.{sym, _∙_}
+use mathlib.Core.Path.{_≡_, sym, _∙_}
+use mathlib.Core.Bool.{Bool, false}
+use mathlib.Core.List.{List}
+use Prim.Native.Nat.{ℕ}
 use Rattle.algebra.specs.Laws.Tests.{is}
-use Rattle.sheet.proofs.Judging.{bad, by-plan, too-narrow, lengths-wrong, beyond, marked, accepted}
+use Rattle.plan.specs.declared.types.Plan.{Plan}
+use Rattle.plan.specs.Check.{planRefused}
+use Rattle.fields.specs.Fields.{Fields, fieldsOf}
+use Rattle.fields.specs.Rules.{badFields}
+use Rattle.sheet.proofs.Judging.{Opened, Measured, Within, bad, by-plan, too-narrow, lengths-wrong, beyond, marked, accepted}
 use Rattle.sheet.proofs.refusals.sheet_refused.Statement.{statement}
 use Rattle.sheet.proofs.refusals.sheet_refused.Tie as tie
+
+-- what is known beyond each test
+fine : (c : tie.Else1) → badFields (fieldsOf (c .before .before .before .args .sheet .now)) ≡ false
+fine c = is (c .before .bad-fields .ensures) (c .if1 .left)
+
+ok : (c : tie.Else2) → planRefused (c .before .before .before .before .before .args .p) ≡ 0
+ok c = sym (c .before .lowest .ensures) ∙ c .if2 .left
+
+-- and of the two bodies
+abbrev Of : (Fields → Plan → Bool → List ℕ → List ℕ → Type 0) → tie.After-body2 → Type 0
+Of Known c =
+    let args = c .before .before .before .before .before .before .before .before .args in
+    Known (fieldsOf (args .sheet .now)) (args .p) (args .narrow) (c .before .body .result .now) (c .body2 .result .now)
+
+opened : (c : tie.After-body2) → Of Opened c
+opened c = record {
+  fine = fine (c .before .before .before .before .before);
+  ok = ok (c .before .before .before);
+  wide = c .before .before .if3 .left;
+  readings-are = c .before .body .ensures;
+  marks-are = c .body2 .ensures;
+}
+
+measured : (c : tie.Else4) → Of Measured (c .before .before)
+measured c = record { opened = opened (c .before .before); lengths = is (c .before .wrong-lengths .ensures) (c .if4 .left) }
+
+within : (c : tie.Else5) → Of Within (c .before .before .before .before)
+within c = record { measured = measured (c .before .before); within = is (c .before .any-beyond .ensures) (c .if5 .left) }
 
 pub sheet-refused-spec : {M : Type 1} → statement M
 sheet-refused-spec =
@@ -11,60 +46,14 @@ sheet-refused-spec =
     (λ c κs. tt)
     (λ c. bad _ _ _ (is (c .before .bad-fields .ensures) (c .if1 .taken)))
     (λ c κs. tt)
-    (λ c.
-    let bad-fields-is = c .before .before .before .bad-fields .ensures in
-    by-plan _ _ _ (is bad-fields-is (c .before .before .if1 .left)) (c .before .lowest .ensures) (c .if2 .taken))
-    (λ c.
-    let bad-fields-is = c .before .before .before .before .bad-fields .ensures in
-    let if1-left = c .before .before .before .if1 .left in
-    too-narrow _ _ _ (is bad-fields-is if1-left) (sym (c .before .before .lowest .ensures) ∙ c .before .if2 .left) (c .if3 .taken))
+    (λ c. by-plan _ _ _ (fine (c .before .before)) (c .before .lowest .ensures) (c .if2 .taken))
+    (λ c. too-narrow _ _ _ (fine (c .before .before .before)) (ok (c .before)) (c .if3 .taken))
     (λ c κs. tt)
     (λ c κs. tt)
-    (λ c κs.
-    let lowest-is = c .before .before .before .before .lowest .ensures in
-    let if2-left = c .before .before .before .if2 .left in
-    sym lowest-is ∙ if2-left)
-    (λ c.
-    let bad-fields-is = c .before .before .before .before .before .before .before .before .bad-fields .ensures in
-    let if1-left = c .before .before .before .before .before .before .before .if1 .left in
-    let lowest-is = c .before .before .before .before .before .before .lowest .ensures in
-    let if2-left = c .before .before .before .before .before .if2 .left in
-    let if3-left = c .before .before .before .before .if3 .left in
-    let body-is = c .before .before .before .body .ensures in
-    lengths-wrong _ _ _ (is bad-fields-is if1-left) (sym lowest-is ∙ if2-left) if3-left body-is (c .before .before .body2 .ensures) (is (c .before .wrong-lengths .ensures) (c .if4 .taken)))
+    (λ c κs. ok (c .before .before .before))
+    (λ c. lengths-wrong (opened (c .before .before)) (is (c .before .wrong-lengths .ensures) (c .if4 .taken)))
     (λ c κs. tt)
-    (λ c.
-    let bad-fields-is = c .before .before .before .before .before .before .before .before .before .before .bad-fields .ensures in
-    let if1-left = c .before .before .before .before .before .before .before .before .before .if1 .left in
-    let lowest-is = c .before .before .before .before .before .before .before .before .lowest .ensures in
-    let if2-left = c .before .before .before .before .before .before .before .if2 .left in
-    let if3-left = c .before .before .before .before .before .before .if3 .left in
-    let body-is = c .before .before .before .before .before .body .ensures in
-    let body2-is = c .before .before .before .before .body2 .ensures in
-    let wrong-lengths-is = c .before .before .before .wrong-lengths .ensures in
-    search (beyond _ _ _ (is bad-fields-is if1-left) (sym lowest-is ∙ if2-left) if3-left body-is body2-is (is wrong-lengths-is (c .before .before .if4 .left)) (is (c .before .any-beyond .ensures) (c .if5 .taken))))
+    (λ c. beyond (measured (c .before .before)) (is (c .before .any-beyond .ensures) (c .if5 .taken)))
     (λ c κs. tt)
-    (λ c.
-    let bad-fields-is = c .before .before .before .before .before .before .before .before .before .before .before .before .bad-fields .ensures in
-    let if1-left = c .before .before .before .before .before .before .before .before .before .before .before .if1 .left in
-    let lowest-is = c .before .before .before .before .before .before .before .before .before .before .lowest .ensures in
-    let if2-left = c .before .before .before .before .before .before .before .before .before .if2 .left in
-    let if3-left = c .before .before .before .before .before .before .before .before .if3 .left in
-    let body-is = c .before .before .before .before .before .before .before .body .ensures in
-    let body2-is = c .before .before .before .before .before .before .body2 .ensures in
-    let wrong-lengths-is = c .before .before .before .before .before .wrong-lengths .ensures in
-    let if4-left = c .before .before .before .before .if4 .left in
-    let any-beyond-is = c .before .before .before .any-beyond .ensures in
-    marked _ _ _ (is bad-fields-is if1-left) (sym lowest-is ∙ if2-left) if3-left body-is body2-is (is wrong-lengths-is if4-left) (is any-beyond-is (c .before .before .if5 .left)) (is (c .before .bad-marks .ensures) (c .if6 .taken)))
-    (λ c.
-    let bad-fields-is = c .before .before .before .before .before .before .before .before .before .before .before .before .bad-fields .ensures in
-    let if1-left = c .before .before .before .before .before .before .before .before .before .before .before .if1 .left in
-    let lowest-is = c .before .before .before .before .before .before .before .before .before .before .lowest .ensures in
-    let if2-left = c .before .before .before .before .before .before .before .before .before .if2 .left in
-    let if3-left = c .before .before .before .before .before .before .before .before .if3 .left in
-    let body-is = c .before .before .before .before .before .before .before .body .ensures in
-    let body2-is = c .before .before .before .before .before .before .body2 .ensures in
-    let wrong-lengths-is = c .before .before .before .before .before .wrong-lengths .ensures in
-    let if4-left = c .before .before .before .before .if4 .left in
-    let any-beyond-is = c .before .before .before .any-beyond .ensures in
-    accepted _ _ _ (is bad-fields-is if1-left) (sym lowest-is ∙ if2-left) if3-left body-is body2-is (is wrong-lengths-is if4-left) (is any-beyond-is (c .before .before .if5 .left)) (is (c .before .bad-marks .ensures) (c .if6 .left))))
+    (λ c. marked (within (c .before .before)) (is (c .before .bad-marks .ensures) (c .if6 .taken)))
+    (λ c. accepted (within (c .before .before)) (is (c .before .bad-marks .ensures) (c .if6 .left))))

@@ -1,13 +1,21 @@
-use mathlib.Core.Path.{refl, sym, _∙_}
+use mathlib.Core.Path.{_≡_, refl, sym, _∙_}
+use mathlib.Core.Bool.{false}
 use native.Mathlib.Omega.{arith}
 use borrow.Author.Needs.{needs}
 use borrow.Author.Tests.{le-leb, lt-leb}
-use Rattle.plan.specs.Check.{spacingAt}
+use Rattle.plan.specs.Check.{badLevels, badFactors, spacingAt}
 use Rattle.plan.specs.Laws.Accepted.{levels-known, levels-small, factors-known, at-most-ten}
 use Rattle.plan.specs.Laws.Sizes.{spacing-power}
 use Rattle.algebra.specs.Laws.Tests.{is}
 use Rattle.sizes.proofs.counts.spacing.Statement.{statement}
 use Rattle.sizes.proofs.counts.spacing.Tie as tie
+
+-- what is known beyond each test
+levels-fine : (c : tie.Else1) → badLevels (c .before .before .args .p .levels) ≡ false
+levels-fine c = is (c .before .bad-levels .ensures) (c .if1 .left)
+
+factors-fine : (c : tie.Else2) → badFactors (c .before .before .before .before .args .p .levels) (c .before .before .before .before .args .p .k) ≡ false
+factors-fine c = is (c .before .bad-factors .ensures) (c .if2 .left)
 
 pub spacing-spec : {M : Type 1} → statement M
 unfolding spacingAt
@@ -17,26 +25,16 @@ spacing-spec =
     (λ c κs. search needs)
     (λ c. rw (is (c .before .bad-levels .ensures) (c .if1 .taken)) refl)
     (λ c κs. search needs)
-    (λ c.
-    let bad-levels-is = c .before .before .before .bad-levels .ensures in
-    rw (is bad-levels-is (c .before .before .if1 .left), is (c .before .bad-factors .ensures) (c .if2 .taken)) refl)
+    (λ c. rw (levels-fine (c .before .before), is (c .before .bad-factors .ensures) (c .if2 .taken)) refl)
     (λ c. search needs)
-    (λ c.
-    let bad-levels-is = c .before .before .before .before .before .bad-levels .ensures in
-    let if1-left = c .before .before .before .before .if1 .left in
-    let bad-factors-is = c .before .before .before .bad-factors .ensures in
-    rw (is bad-levels-is if1-left, is bad-factors-is (c .before .before .if2 .left), le-leb _ _ (c .if3 .taken)) refl)
+    (λ c. rw (levels-fine (c .before .before .before .before), factors-fine (c .before .before), le-leb _ _ (c .if3 .taken)) refl)
     (λ c. search needs)
     (λ c κs.
-    let bad-levels-is = c .before .before .before .before .before .before .bad-levels .ensures in
-    let if1-left = c .before .before .before .before .before .if1 .left in
-    let bad-factors-is = c .before .before .before .before .bad-factors .ensures in
-    let if2-left = c .before .before .before .if2 .left in
-    (levels-small _ (is bad-levels-is if1-left), omega (arith, c .before .if3 .left, at-most-ten _ (factors-known _ _ (is bad-factors-is if2-left) .1))))
+    let past = c .before .before .before in
+    let few = at-most-ten _ (factors-known _ _ (factors-fine past) .1) in
+    (levels-small _ (levels-fine (past .before .before)), omega (arith, c .before .if3 .left, few)))
     (λ c.
-    let bad-levels-is = c .before .before .before .before .before .before .before .bad-levels .ensures in
-    let if1-left = c .before .before .before .before .before .before .if1 .left in
-    let bad-factors-is = c .before .before .before .before .before .bad-factors .ensures in
-    let if2-left = c .before .before .before .before .if2 .left in
-    let if3-left = c .before .before .if3 .left in
-    rw (is bad-levels-is if1-left, is bad-factors-is if2-left, lt-leb _ _ if3-left) (c .to-the-power .ensures ∙ sym (spacing-power _ _ (levels-known _ (is bad-levels-is if1-left)) if3-left))))
+    let past = c .before .before .before .before in
+    let fine = levels-fine (past .before .before) in
+    let a-base = c .before .before .if3 .left in
+    rw (fine, factors-fine past, lt-leb _ _ a-base) (c .to-the-power .ensures ∙ sym (spacing-power _ _ (levels-known _ fine) a-base))))

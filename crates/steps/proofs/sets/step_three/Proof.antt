@@ -23,78 +23,40 @@ step-three-spec =
     Inv-loop
     μ-loop
     (λ c. step-begun (c .pre))
-    (λ c.
-    let pre = c .before .before .pre in
-    omega (arith, pre .whole, pre .same))
-    (λ c.
-    let pre = c .before .before .pre in
-    omega (arith, pre .whole, pre .same))
-    (λ c.
-    let pre = c .before .before .pre in
-    omega (arith, pre .whole, pre .same))
-    (λ c.
-    let pre = c .before .before .before .pre in
-    omega (arith, pre .whole, pre .same))
-    (λ c.
-    let pre = c .before .before .before .pre in
-    omega (arith, pre .whole, pre .same))
-    (λ c.
-    let pre = c .before .before .before .pre in
-    omega (arith, pre .whole, pre .same))
-    (λ c.
-    let pre = c .before .before .before .before .pre in
-    omega (arith, pre .whole, pre .same))
-    (λ c.
-    let pre = c .before .before .before .before .pre in
-    omega (arith, pre .whole, pre .same))
-    (λ c.
-    let pre = c .before .before .before .before .pre in
-    omega (arith, pre .whole, pre .same))
-    (λ c.
-    let pre = c .before .before .before .before .before .pre in
-    omega (arith, pre .whole, pre .same))
-    (λ c.
-    let pre = c .before .before .before .before .before .pre in
-    omega (arith, pre .whole, pre .same))
-    (λ c.
-    let pre = c .before .before .before .before .before .pre in
-    omega (arith, pre .whole, pre .same))
+    (λ c. omega (arith, c .before .before .pre))
+    (λ c. omega (arith, c .before .before .pre))
+    (λ c. omega (arith, c .before .before .pre))
+    (λ c. omega (arith, c .before .before .before .pre))
+    (λ c. omega (arith, c .before .before .before .pre))
+    (λ c. omega (arith, c .before .before .before .pre))
+    (λ c. omega (arith, c .before .before .before .before .pre))
+    (λ c. omega (arith, c .before .before .before .before .pre))
+    (λ c. omega (arith, c .before .before .before .before .pre))
+    (λ c. omega (arith, c .before .before .before .before .before .pre))
+    (λ c. omega (arith, c .before .before .before .before .before .pre))
+    (λ c. omega (arith, c .before .before .before .before .before .pre))
     (λ c.
     let pre = c .before .before .before .before .before .pre in
     sum-fits (small-from pre _) (small-from pre _))
     (λ c.
     let pre = c .before .before .before .before .before .pre in
     all-fits (small-from pre _) (small-from pre _) (small-from pre _))
-    (λ c.
-    let pre = c .before .before .before .before .before .pre in
-    omega (arith, pre .whole, pre .same))
-    (λ c.
-    let inv = c .before .before .before .before .loop .inv in
-    omega (arith, as-long (pos 0) inv))
+    (λ c. omega (arith, c .before .before .before .before .before .pre))
+    (λ c. omega (arith, as-long (pos 0) (c .before .before .before .before .loop .inv)))
     (λ c.
     let pre = c .before .before .before .before .before .pre in
     less-fits (small-from pre _) (small-from pre _))
-    (λ c.
-    let pre = c .before .before .before .before .before .pre in
-    omega (arith, pre .whole, pre .same))
-    (λ c.
-    let inv = c .before .before .before .before .loop .inv in
-    simp length-set (omega (arith, as-long (pos 0) inv)))
-    (λ c.
-    let pre = c .before .before .before .before .before .pre in
-    scaled-fits _ (lit≤ tt) (small-from pre _))
+    (λ c. omega (arith, c .before .before .before .before .before .pre))
+    (λ c. simp length-set (omega (arith, as-long (pos 0) (c .before .before .before .before .loop .inv))))
+    (λ c. scaled-fits _ (lit≤ tt) (small-from (c .before .before .before .before .before .pre) _))
     (λ c.
     let pre = c .before .before .before .before .before .pre in
     without-fits _ (lit≤ tt) (small-from pre _) (small-from pre _))
     (λ c.
     let pre = c .before .before .before .before .before .pre in
     third-fits _ (lit≤ tt) (small-from pre _) (small-from pre _) (small-from pre _))
-    (λ c.
-    let pre = c .before .before .before .before .before .pre in
-    omega (arith, pre .whole, pre .same))
-    (λ c.
-    let inv = c .before .before .before .before .loop .inv in
-    simp length-set (omega (arith, as-long (pos 0) inv)))
+    (λ c. omega (arith, c .before .before .before .before .before .pre))
+    (λ c. simp length-set (omega (arith, as-long (pos 0) (c .before .before .before .before .loop .inv))))
     (λ c. omega arith)
     (λ c. omega arith)
     (λ c.

@@ -22,45 +22,23 @@ step-two-spec =
     Inv-loop
     μ-loop
     (λ c. step-begun (c .pre))
-    (λ c.
-    let pre = c .before .before .pre in
-    omega (arith, pre .whole, pre .same))
-    (λ c.
-    let pre = c .before .before .pre in
-    omega (arith, pre .whole, pre .same))
-    (λ c.
-    let pre = c .before .before .pre in
-    omega (arith, pre .whole, pre .same))
-    (λ c.
-    let pre = c .before .before .before .pre in
-    omega (arith, pre .whole, pre .same))
-    (λ c.
-    let pre = c .before .before .before .pre in
-    omega (arith, pre .whole, pre .same))
-    (λ c.
-    let pre = c .before .before .before .pre in
-    omega (arith, pre .whole, pre .same))
-    (λ c.
-    let pre = c .before .before .before .before .pre in
-    omega (arith, pre .whole, pre .same))
+    (λ c. omega (arith, c .before .before .pre))
+    (λ c. omega (arith, c .before .before .pre))
+    (λ c. omega (arith, c .before .before .pre))
+    (λ c. omega (arith, c .before .before .before .pre))
+    (λ c. omega (arith, c .before .before .before .pre))
+    (λ c. omega (arith, c .before .before .before .pre))
+    (λ c. omega (arith, c .before .before .before .before .pre))
     (λ c.
     let pre = c .before .before .before .before .pre in
     sum-fits (small-from pre _) (small-from pre _))
-    (λ c.
-    let pre = c .before .before .before .before .pre in
-    omega (arith, pre .whole, pre .same))
-    (λ c.
-    let inv = c .before .before .before .loop .inv in
-    omega (arith, as-long (pos 0) inv))
+    (λ c. omega (arith, c .before .before .before .before .pre))
+    (λ c. omega (arith, as-long (pos 0) (c .before .before .before .loop .inv)))
     (λ c.
     let pre = c .before .before .before .before .pre in
     less-fits (small-from pre _) (small-from pre _))
-    (λ c.
-    let pre = c .before .before .before .before .pre in
-    omega (arith, pre .whole, pre .same))
-    (λ c.
-    let inv = c .before .before .before .loop .inv in
-    simp length-set (omega (arith, as-long (pos 0) inv)))
+    (λ c. omega (arith, c .before .before .before .before .pre))
+    (λ c. simp length-set (omega (arith, as-long (pos 0) (c .before .before .before .loop .inv))))
     (λ c. omega arith)
     (λ c. omega arith)
     (λ c.

@@ -14,7 +14,6 @@ put-letter-spec =
     (λ c κs. tt)
     (λ c. search needs)
     (λ c.
-    let has-letter-is = c .before .before .before .before .before .has-letter .ensures in
-    let if1-taken = c .before .before .before .before .if1 .taken in
-    with-letter _ _ (is has-letter-is if1-taken) (c .before .before .put .ensures))
+    let there = c .before .before .before .before in
+    with-letter _ _ (is (there .before .has-letter .ensures) (there .if1 .taken)) (c .before .before .put .ensures))
     (λ c. without-letter _ _ _ _ (is (c .before .has-letter .ensures) (c .if1 .left))))

@@ -33,20 +33,16 @@ pub +number-spec : {M : Type 1} → statement M
     (λ c κs. tt)
     (λ c. same-size (c .before .before .put .ensures))
     (λ c.
-    let if1-taken = c .before .before .before .before .before .if1 .taken in
-    let last-digit-is = c .before .before .before .last-digit .ensures in
-    few-digits if1-taken last-digit-is (c .before .before .put .ensures))
-    (λ c κs.
-    let pre = c .before .before .before .pre in
-    (tenth-less (pre .0) (c .before .if1 .left), tt))
+    let digit = c .before .before .before in
+    few-digits (digit .before .before .if1 .taken) (digit .last-digit .ensures) (c .before .before .put .ensures))
+    (λ c κs. (tenth-less (c .before .before .before .pre .0) (c .before .if1 .left), tt))
     (λ c κs. tt)
     (λ c κs. tt)
     (λ c.
     let number-is = c .before .before .before .before .before .before .before .number .ensures in
     same-size (then number-is (c .before .before .put2 .ensures)))
     (λ c.
-    let n-fits = c .before .before .before .before .before .before .before .before .before .before .before .fits .n in
-    let if1-left = c .before .before .before .before .before .before .before .before .before .if1 .left in
-    let number-is = c .before .before .before .before .before .before .before .number .ensures in
-    let last-digit2-is = c .before .before .before .last-digit2 .ensures in
-    more-digits (n-fits .fits) if1-left last-digit2-is (then number-is (c .before .before .put2 .ensures)))
+    let digit = c .before .before .before in
+    let tenth = digit .before .before .before .before in
+    let longer = tenth .before .before in
+    more-digits (longer .before .before .fits .n .fits) (longer .if1 .left) (digit .last-digit2 .ensures) (then (tenth .number .ensures) (c .before .before .put2 .ensures)))

@@ -13,15 +13,13 @@ value-spec =
     (λ c κs. tt)
     (λ c. search needs)
     (λ c.
-    let x-fits = c .before .before .before .before .before .before .before .before .before .before .before .fits .x in
-    let size-is = c .before .before .before .before .before .before .before .before .before .size .ensures in
-    let if1-taken = c .before .before .before .before .before .before .before .before .if1 .taken in
-    let put-is = c .before .before .before .before .before .before .put .ensures in
-    signed-below x-fits if1-taken size-is (then put-is (c .before .before .number .ensures)))
+    let negative = c .before .before .before .before .before .before .before .before in
+    let sized = negative .before in
+    let sign-put = c .before .before .before .before .before .before .put .ensures in
+    signed-below (sized .before .before .fits .x) (negative .if1 .taken) (sized .size .ensures) (then sign-put (c .before .before .number .ensures)))
     (λ c κs. tt)
     (λ c. search needs)
     (λ c.
-    let x-fits = c .before .before .before .before .before .before .before .fits .x in
-    let size-is = c .before .before .before .before .before .size .ensures in
-    let if1-left = c .before .before .before .before .if1 .left in
-    signed-above x-fits if1-left size-is (c .before .before .number2 .ensures)))
+    let upright = c .before .before .before .before in
+    let sized = upright .before in
+    signed-above (sized .before .before .fits .x) (upright .if1 .left) (sized .size .ensures) (c .before .before .number2 .ensures)))

@@ -24,12 +24,8 @@ is-among-spec =
     (λ c. unfound _ _)
     (λ c. omega arith)
     (λ c. omega arith)
-    (λ c.
-    let inv = c .before .before .before .loop .inv in
-    found inv (c .before .before .loop-test .taken) (eq-eqb _ _ (c .if1 .taken)))
+    (λ c. found (c .before .before .before .loop .inv) (c .before .before .loop-test .taken) (eq-eqb _ _ (c .if1 .taken)))
     (λ c. omega arith)
     (λ c. omega arith)
-    (λ c.
-    let inv = c .before .before .before .loop .inv in
-    onward inv (c .before .before .loop-test .taken) (ne-eqb _ _ (c .if1 .left)))
+    (λ c. onward (c .before .before .before .loop .inv) (c .before .before .loop-test .taken) (ne-eqb _ _ (c .if1 .left)))
     (λ c. nowhere (c .before .loop .inv) (c .loop-test .left)))

@@ -17,9 +17,7 @@ all-passes-spec =
     Inv-loop
     μ-loop
     (λ c. all-none (c .pre))
-    (λ c κs.
-    let pre = c .before .before .before .pre in
-    all-ready pre (c .before .before .loop .inv) (c .before .loop-test .taken))
+    (λ c κs. all-ready (c .before .before .before .pre) (c .before .before .loop .inv) (c .before .loop-test .taken))
     (λ c.
     let pre = c .before .before .before .before .before .pre in
     let inv = c .before .before .before .before .loop .inv in

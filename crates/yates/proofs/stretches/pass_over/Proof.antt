@@ -32,13 +32,8 @@ pass-over-spec =
     let inv = c .before .loop .inv in
     omega (arith, room inv (c .loop-test .taken), room-now inv (c .loop-test .taken)))
     (λ c. room-now (c .before .loop .inv) (c .loop-test .taken))
-    (λ c κs.
-    let pre = c .before .before .before .pre in
-    next-stretch (c .before .before .loop .inv) (c .before .loop-test .taken) pre)
-    (λ c.
-    let inv = c .before .before .before .before .loop .inv in
-    let inside = c .before .before .before .loop-test .taken in
-    omega (arith, room inv inside))
+    (λ c κs. next-stretch (c .before .before .loop .inv) (c .before .loop-test .taken) (c .before .before .before .pre))
+    (λ c. omega (arith, room (c .before .before .before .before .loop .inv) (c .before .before .before .loop-test .taken)))
     (λ c.
     let pre = c .before .before .before .before .before .pre in
     let inv = c .before .before .before .before .loop .inv in

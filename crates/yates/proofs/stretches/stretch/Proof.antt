@@ -13,10 +13,6 @@ stretch-spec =
     let pre = c .before .before .pre in
     rw (the-three _ (pre .kind) (c .before .if1 .left)) at pre)
     (λ c. search needs)
-    (λ c.
-    let if1-taken = c .before .before .before .if1 .taken in
-    c .before .stretch-two .ensures ∙ rw (as-two _ if1-taken) refl)
+    (λ c. c .before .stretch-two .ensures ∙ rw (as-two _ (c .before .before .before .if1 .taken)) refl)
     (λ c. search needs)
-    (λ c.
-    let if1-left = c .before .before .before .if1 .left in
-    c .before .stretch-three .ensures ∙ rw (as-three _ if1-left) refl))
+    (λ c. c .before .stretch-three .ensures ∙ rw (as-three _ (c .before .before .before .if1 .left)) refl))

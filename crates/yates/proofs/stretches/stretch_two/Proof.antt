@@ -11,12 +11,8 @@ stretch-two-spec =
     (λ c κs. search needs)
     (λ c κs. search needs)
     (λ c. search needs)
-    (λ c.
-    let if1-taken = c .before .before .before .if1 .taken in
-    c .before .work-pairs .ensures ∙ rw if1-taken refl)
+    (λ c. c .before .work-pairs .ensures ∙ rw (c .before .before .before .if1 .taken) refl)
     (λ c. search needs)
-    (λ c.
-    let if2-taken = c .before .before .before .if2 .taken in
-    c .before .work-pairs2 .ensures ∙ rw if2-taken refl)
+    (λ c. c .before .work-pairs2 .ensures ∙ rw (c .before .before .before .if2 .taken) refl)
     (λ c. search needs)
     (λ c. search needs))

@@ -1,9 +1,11 @@
 use mathlib.Core.Path.{sym, _∙_}
-use Prim.Native.Nat.{_-_}
+use Prim.Native.Nat.{_+_, _-_}
 use native.Mathlib.Omega.{arith}
 use lib.ListN.{length-set}
 use Rattle.algebra.specs.Laws.Spread.{as-long}
 use lib.IntN.{pos}
+use Rattle.contrasts.specs.Columns.{read}
+use Rattle.contrasts.specs.Laws.Small.{Small}
 use Rattle.contrasts.specs.Laws.Sets.{sum-fits, less-fits}
 use Rattle.yates.proofs.Worked.{Stretched, stretch-begun, stretch-ended, pair, stretch-two}
 use Rattle.yates.proofs.stretches.work_pairs.Statement.{statement}
@@ -15,6 +17,11 @@ Inv-loop part₀ spacing i₀ part i = Stretched 2 spacing part₀ i part
 abbrev μ-loop : tie.MeasureT-loop
 μ-loop part₀ spacing i₀ part i = spacing - i
 
+-- the two values that are read are small
+small : (c : tie.After-second Inv-loop μ-loop)
+    → let loop = c .before .before .before .loop in Small (read (loop .part) (loop .i)) × Small (read (loop .part) (loop .i + c .before .before .before .before .args .spacing))
+small c = pair (c .before .before .before .before .pre) (c .before .before .before .loop .inv) (c .before .before .loop-test .taken)
+
 pub work-pairs-spec : {M : Type 1} → statement M
 work-pairs-spec =
     tie.close
@@ -25,30 +32,14 @@ work-pairs-spec =
     (λ c. omega (arith, c .before .before .pre .whole))
     (λ c. omega (arith, c .before .before .pre .whole))
     (λ c. omega (arith, as-long (pos 0) (c .before .loop .inv)))
-    (λ c.
-    let pre = c .before .before .before .pre in
-    omega (arith, pre .whole))
+    (λ c. omega (arith, c .before .before .before .pre .whole))
     (λ c. omega (arith, as-long (pos 0) (c .before .before .loop .inv)))
-    (λ c.
-    let pre = c .before .before .before .before .pre in
-    let inv = c .before .before .before .loop .inv in
-    let s = pair pre inv (c .before .before .loop-test .taken) in sum-fits (s .0) (s .1))
-    (λ c.
-    let pre = c .before .before .before .before .pre in
-    omega (arith, pre .whole))
-    (λ c.
-    let inv = c .before .before .before .loop .inv in
-    omega (arith, as-long (pos 0) inv))
-    (λ c.
-    let pre = c .before .before .before .before .pre in
-    let inv = c .before .before .before .loop .inv in
-    let s = pair pre inv (c .before .before .loop-test .taken) in search (less-fits, s .0, s .1))
-    (λ c.
-    let pre = c .before .before .before .before .pre in
-    omega (arith, pre .whole))
-    (λ c.
-    let inv = c .before .before .before .loop .inv in
-    simp length-set (omega (arith, as-long (pos 0) inv)))
+    (λ c. sum-fits (small c .0) (small c .1))
+    (λ c. omega (arith, c .before .before .before .before .pre .whole))
+    (λ c. omega (arith, as-long (pos 0) (c .before .before .before .loop .inv)))
+    (λ c. search (less-fits, small c .0, small c .1))
+    (λ c. omega (arith, c .before .before .before .before .pre .whole))
+    (λ c. simp length-set (omega (arith, as-long (pos 0) (c .before .before .before .loop .inv))))
     (λ c. omega arith)
     (λ c. omega arith)
     (λ c.

@@ -1,10 +1,12 @@
 use lib.Dec.{lit≤}
 use mathlib.Core.Path.{sym, _∙_}
-use Prim.Native.Nat.{_-_}
+use Prim.Native.Nat.{_+_, _-_, _*_}
 use native.Mathlib.Omega.{arith}
 use lib.ListN.{length-set}
 use Rattle.algebra.specs.Laws.Spread.{as-long}
 use lib.IntN.{pos}
+use Rattle.contrasts.specs.Columns.{read}
+use Rattle.contrasts.specs.Laws.Small.{Small}
 use Rattle.contrasts.specs.Laws.Sets.{sum-fits, less-fits, all-fits, scaled-fits, without-fits, third-fits}
 use Rattle.yates.proofs.Worked.{Stretched, stretch-begun, stretch-ended, triple, stretch-three}
 use Rattle.yates.proofs.stretches.work_triples.Statement.{statement}
@@ -15,6 +17,13 @@ Inv-loop part₀ spacing i₀ part i = Stretched 3 spacing part₀ i part
 
 abbrev μ-loop : tie.MeasureT-loop
 μ-loop part₀ spacing i₀ part i = spacing - i
+
+-- the three values that are read are small
+small : (c : tie.After-third Inv-loop μ-loop)
+    → let loop = c .before .before .before .before .loop in
+    let h = c .before .before .before .before .before .args .spacing in
+    Small (read (loop .part) (loop .i)) × Small (read (loop .part) (loop .i + h)) × Small (read (loop .part) (loop .i + 2 * h))
+small c = triple (c .before .before .before .before .before .pre) (c .before .before .before .before .loop .inv) (c .before .before .before .loop-test .taken)
 
 pub work-triples-spec : {M : Type 1} → statement M
 work-triples-spec =
@@ -28,64 +37,22 @@ work-triples-spec =
     (λ c. omega (arith, c .before .before .pre .whole))
     (λ c. omega (arith, c .before .before .pre .whole))
     (λ c. omega (arith, as-long (pos 0) (c .before .loop .inv)))
-    (λ c.
-    let pre = c .before .before .before .pre in
-    omega (arith, pre .whole))
+    (λ c. omega (arith, c .before .before .before .pre .whole))
     (λ c. omega (arith, as-long (pos 0) (c .before .before .loop .inv)))
-    (λ c.
-    let pre = c .before .before .before .before .pre in
-    omega (arith, pre .whole))
-    (λ c.
-    let inv = c .before .before .before .loop .inv in
-    omega (arith, as-long (pos 0) inv))
-    (λ c.
-    let pre = c .before .before .before .before .before .pre in
-    let inv = c .before .before .before .before .loop .inv in
-    let inside = c .before .before .before .loop-test .taken in
-    let s = triple pre inv inside in sum-fits (s .0) (s .1))
-    (λ c.
-    let pre = c .before .before .before .before .before .pre in
-    let inv = c .before .before .before .before .loop .inv in
-    let inside = c .before .before .before .loop-test .taken in
-    let s = triple pre inv inside in all-fits (s .0) (s .1) (s .2))
-    (λ c.
-    let pre = c .before .before .before .before .before .pre in
-    omega (arith, pre .whole))
-    (λ c.
-    let inv = c .before .before .before .before .loop .inv in
-    omega (arith, as-long (pos 0) inv))
-    (λ c.
-    let pre = c .before .before .before .before .before .pre in
-    let inv = c .before .before .before .before .loop .inv in
-    let inside = c .before .before .before .loop-test .taken in
-    let s = triple pre inv inside in less-fits (s .0) (s .2))
-    (λ c.
-    let pre = c .before .before .before .before .before .pre in
-    omega (arith, pre .whole))
-    (λ c.
-    let inv = c .before .before .before .before .loop .inv in
-    simp length-set (omega (arith, as-long (pos 0) inv)))
-    (λ c.
-    let pre = c .before .before .before .before .before .pre in
-    let inv = c .before .before .before .before .loop .inv in
-    let inside = c .before .before .before .loop-test .taken in
-    let s = triple pre inv inside in scaled-fits _ (lit≤ tt) (s .1))
-    (λ c.
-    let pre = c .before .before .before .before .before .pre in
-    let inv = c .before .before .before .before .loop .inv in
-    let inside = c .before .before .before .loop-test .taken in
-    let s = triple pre inv inside in without-fits _ (lit≤ tt) (s .0) (s .1))
-    (λ c.
-    let pre = c .before .before .before .before .before .pre in
-    let inv = c .before .before .before .before .loop .inv in
-    let inside = c .before .before .before .loop-test .taken in
-    let s = triple pre inv inside in third-fits _ (lit≤ tt) (s .0) (s .1) (s .2))
-    (λ c.
-    let pre = c .before .before .before .before .before .pre in
-    omega (arith, pre .whole))
-    (λ c.
-    let inv = c .before .before .before .before .loop .inv in
-    simp length-set (omega (arith, as-long (pos 0) inv)))
+    (λ c. omega (arith, c .before .before .before .before .pre .whole))
+    (λ c. omega (arith, as-long (pos 0) (c .before .before .before .loop .inv)))
+    (λ c. sum-fits (small c .0) (small c .1))
+    (λ c. all-fits (small c .0) (small c .1) (small c .2))
+    (λ c. omega (arith, c .before .before .before .before .before .pre .whole))
+    (λ c. omega (arith, as-long (pos 0) (c .before .before .before .before .loop .inv)))
+    (λ c. less-fits (small c .0) (small c .2))
+    (λ c. omega (arith, c .before .before .before .before .before .pre .whole))
+    (λ c. simp length-set (omega (arith, as-long (pos 0) (c .before .before .before .before .loop .inv))))
+    (λ c. scaled-fits _ (lit≤ tt) (small c .1))
+    (λ c. without-fits _ (lit≤ tt) (small c .0) (small c .1))
+    (λ c. third-fits _ (lit≤ tt) (small c .0) (small c .1) (small c .2))
+    (λ c. omega (arith, c .before .before .before .before .before .pre .whole))
+    (λ c. simp length-set (omega (arith, as-long (pos 0) (c .before .before .before .before .loop .inv))))
     (λ c. omega arith)
     (λ c. omega arith)
     (λ c.
