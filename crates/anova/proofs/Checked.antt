@@ -21,9 +21,9 @@ use Rattle.contrasts.specs.Columns.{read}
 use Rattle.contrasts.specs.Limits.{readingLimit}
 use Rattle.contrasts.specs.Factors.{three, ofLevels}
 use Rattle.contrasts.specs.Checks.{rounds}
-use Rattle.contrasts.specs.Laws.Kinds.{some-levels, the-three, as-two, as-three}
+use Rattle.contrasts.specs.Laws.Levels.{some-levels, the-three, as-two, as-three}
 use Rattle.contrasts.specs.Laws.TwoLevels.{rounds-two}
-use Rattle.columns.specs.Inner.Copies.{copied}
+use Rattle.columns.specs.Copies.{copied}
 use Rattle.anova.specs.Inner.Ready.{Rounds, Checkable}
 
 -- the one fact on the limit

@@ -34,7 +34,7 @@ use Rattle.plan.specs.Plan.{factorsOf, runsOf}
 use Rattle.plan.specs.Laws.Accepted.{accepted}
 use Rattle.plan.specs.Laws.Sizes.{as-power, plan-kind, factors-two, factors-three, runs-few}
 use Rattle.contrasts.specs.Limits.{mostThree}
-use Rattle.contrasts.specs.Laws.Kinds.{the-three}
+use Rattle.contrasts.specs.Laws.Levels.{the-three}
 use Rattle.rows.specs.Kinds.{rowsIn, Kind, meanRow, blocksRow, errorRow, keptRow, codeOf, kindIn}
 use Rattle.rows.specs.Laws.Kinds.{four-kinds, kind-in}
 use Rattle.rows.specs.Laws.Rows.{rows-few}
@@ -42,7 +42,8 @@ use Rattle.anova.specs.declared.types.Source.{Source}
 use Rattle.anova.specs.declared.types.Figures.{Figures}
 use Rattle.anova.specs.declared.walks.Sums.{Sums}
 use Rattle.anova.specs.Laws.Admitted.{within-limit, limit-fits}
-use Rattle.anova.specs.Inner.Ready.{SquaresFit, Checkable, TableReady}
+use Rattle.anova.specs.Inner.Ready.{SquaresFit, Checkable}
+use Rattle.anova.specs.Laws.Admitted.{TableReady}
 use Rattle.anova.specs.Table.{sourceOf, totalSource, checksOf, tableFigures}
 use Rattle.anova.specs.Inner.Walk.{squaresOf, sumsOf}
 

@@ -10,18 +10,19 @@
 --   rowsOf p xs                the row numerators
 --   tableTotals, tableRows     the lent slices at exit
 --   tableOutcome               the cases of the call's answer
+--   SourceWithin s             degrees and numerator of a source are within the limit
 use mathlib.Core.Bool.{Bool, cond, _||_}
 use mathlib.Core.List.{List, [], _∷_}
-use Prim.Native.Nat.{ℕ, _*_}
+use Prim.Native.Nat.{ℕ, _*_, _≤_}
 use lib.IntN.{ℤ}
 use lib.ListN.{length}
 use Rattle.algebra.specs.Naturals.{Σℕ}
 use Rattle.algebra.specs.Sum.{Σ}
 use Rattle.algebra.specs.Tab.{tab}
 use Rattle.contrasts.specs.Columns.{read, totalsOf}
-use Rattle.contrasts.specs.Limits.{readingLimit}
+use Rattle.contrasts.specs.Limits.{readingLimit, numeratorLimit}
 use Rattle.contrasts.specs.Rows.{degreesOf, rowNumerator}
-use Rattle.contrasts.specs.Totals.{total, denominator, squared}
+use Rattle.contrasts.specs.Totals.{total, denominator, squared, numerator}
 use Rattle.contrasts.specs.Checks.{rounds}
 use Rattle.plan.specs.declared.types.Plan.{Plan}
 use Rattle.plan.specs.Check.{withPlan}
@@ -108,3 +109,10 @@ tableRows p readings marks totals rows = written (tableRefused p readings marks 
 abbrev pub tableOutcome : Table → Outcome Figures
 tableOutcome (Made figures) = given figures
 tableOutcome (Refused n) = refused n
+
+-- ---- the limit
+
+-- T20: no number of a source exceeds the limit of numerators
+pub record SourceWithin (s : Source) : Type 0 where
+  pub degrees : s .degrees ≤ numeratorLimit
+  pub numerator : s .numerator ≤ numeratorLimit

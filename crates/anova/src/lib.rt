@@ -3,8 +3,8 @@
 //   table(p, readings, marks, totals, rows)   totals, row numerators and the figures of the table
 //   Table, Figures, Source, Checks            what it answers
 //   estimate(p, effect, total), Estimate      of the crate `estimates`
-mod checks;
 mod refusals;
+mod rounds;
 mod squares;
 mod tables;
 mod types;

@@ -4,8 +4,8 @@ ghost use mathlib.Core.Bool.{cond};
 ghost use Prim.Native.Nat.{_*_, _<_, _≤_};
 ghost use lib.Dec.{eqb};
 ghost use lib.ListN.{getD};
-use super::checks::check_number;
 use super::refusals::table_refused;
+use super::rounds::check_number;
 use super::squares::sum_of_squares;
 use super::types::Checks;
 use super::types::Figures;
@@ -22,7 +22,7 @@ ghost use Rattle.contrasts.specs.Columns.{totalsOf};
 ghost use Rattle.contrasts.specs.Totals.{denominator};
 ghost use Rattle.plan.specs.Outcome.{outcome};
 ghost use Rattle.plan.specs.Plan.{factorsOf};
-ghost use Rattle.anova.specs.Inner.Ready.{TableReady};
+ghost use Rattle.anova.specs.Laws.Admitted.{TableReady};
 ghost use Rattle.anova.specs.Table.{tableRefused, tableFigures, tableTotals, tableRows, tableOutcome, rowsOf};
 ghost use Rattle.anova.specs.Inner.Walk.{sumsOf};
 

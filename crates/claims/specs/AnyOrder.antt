@@ -23,9 +23,7 @@ use Rattle.contrasts.specs.Columns.{AllWithin, passOf, totalsOf}
 use Rattle.contrasts.specs.Limits.{readingLimit}
 use Rattle.contrasts.specs.Passes.{count}
 use Rattle.plan.specs.declared.types.Plan.{Plan}
-use Rattle.words.specs.Words.{any}
 use Rattle.plan.specs.Check.{planRefused}
-use Rattle.plan.specs.Examples.{plan}
 use Rattle.plan.specs.Outcome.{Outcome, given, refused, outcome}
 use Rattle.plan.specs.Plan.{factorsOf, runsOf}
 use Rattle.yates.specs.Calls.{passRefused, passColumn}

@@ -10,9 +10,7 @@ use Prim.Native.Nat.{ℕ, zero, suc, _+_, _*_}
 use lib.IntN.{ℤ, pos, _+ℤ_, _*ℤ_, _-ℤ_}
 use Rattle.algebra.specs.Sum.{Σ}
 use Rattle.contrasts.specs.Columns.{read}
-use Rattle.contrasts.specs.Factors.{two, three}
 use Rattle.contrasts.specs.Totals.{Column}
-use Rattle.contrasts.specs.Checks.{rounds}
 use Rattle.plan.specs.declared.types.Plan.{Plan}
 use Rattle.plan.specs.Plan.{runsOf}
 use Rattle.anova.specs.declared.types.Checks.{Checks}

@@ -15,7 +15,7 @@ use Rattle.plan.specs.declared.types.Plan.{Plan}
 use Rattle.plan.specs.Check.{planRefusals, planRefused}
 use Rattle.plan.specs.Outcome.{Refusal, refusal}
 use Rattle.plan.specs.Plan.{runsOf}
-use Rattle.plan.specs.Laws.Lowest.{Lowest}
+use Rattle.plan.specs.Outcome.{Lowest}
 use Rattle.contrasts.specs.Limits.{readingLimit}
 use Rattle.columns.specs.Refusals.{anyBeyond}
 use Rattle.rows.specs.Kinds.{badMarks}
@@ -26,7 +26,7 @@ use Rattle.yates.specs.Calls.{passRefusals, passRefused, totalsRefusals, totals
 use Rattle.steps.specs.Step.{stepRefusals, stepRefused}
 use Rattle.anova.specs.Table.{wrongLengths, tableRefusals, tableRefused}
 use Rattle.fields.specs.Fields.{Fields, fieldsOf}
-use Rattle.fields.specs.Rules.{badFields}
+use Rattle.fields.specs.Tags.{badFields}
 use Rattle.contents.specs.Contents.{planIn}
 use Rattle.sheet.specs.Sheet.{sheetRefusals, readRefused, marksRefused}
 use Rattle.printing.specs.Printed.{longestSheet, printRefused}

@@ -22,7 +22,6 @@ use Rattle.algebra.specs.Tab.{tab}
 use Rattle.contrasts.specs.Columns.{read}
 use Rattle.contrasts.specs.Codings.{neg}
 use Rattle.contrasts.specs.Totals.{total, divisor*, denominator, numeratorOf, squared}
-use Rattle.words.specs.Words.{times}
 use Rattle.plan.specs.declared.types.Plan.{Plan}
 use Rattle.plan.specs.Examples.{plan, A, AB, BC, ABC, AD, BCD}
 use Rattle.plan.specs.Outcome.{Outcome, given, refused}

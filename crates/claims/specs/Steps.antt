@@ -15,7 +15,6 @@ use Rattle.plan.specs.declared.types.Plan.{Plan}
 use Rattle.plan.specs.Check.{planRefused}
 use Rattle.plan.specs.Outcome.{Outcome, given, outcome}
 use Rattle.plan.specs.Plan.{factorsOf, runsOf}
-use Rattle.plan.specs.Laws.Accepted.{accepted}
 use Rattle.steps.specs.Step.{stepRefused, stepColumn}
 use Rattle.claims.specs.AnyOrder.{Readings}
 

@@ -12,7 +12,7 @@ use lib.IntN.{ℤ, natAbs}
 use Rattle.algebra.specs.Fractions.{Fraction, _over_, sumOf, Is}
 use Rattle.algebra.specs.Naturals.{Σℕ}
 use Rattle.contrasts.specs.Columns.{read}
-use Rattle.contrasts.specs.Totals.{total, divisor*, denominator, weight*, numeratorOf, squared}
+use Rattle.contrasts.specs.Totals.{divisor*, denominator, weight*, numeratorOf, squared}
 use Rattle.contrasts.specs.Laws.Squares.{numerators}
 use Rattle.plan.specs.declared.types.Plan.{Plan}
 use Rattle.plan.specs.Check.{planRefused}

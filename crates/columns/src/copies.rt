@@ -1,7 +1,7 @@
 // Readings as the values of a column.
 ghost use mathlib.Core.Path.{_≡_};
 ghost use lib.ListN.{length};
-ghost use Rattle.columns.specs.Inner.Copies.{copied};
+ghost use Rattle.columns.specs.Copies.{copied};
 
 fn put_readings(readings: &[i32], column: &mut [i64])
     requires { ⌜ length (now readings) ≡ length (now column) ⌝ }

@@ -8,7 +8,7 @@ use Rattle.algebra.specs.Tab.{tab}
 use Rattle.plan.specs.declared.types.Plan.{Plan}
 use Rattle.fields.specs.Fields.{Fields, bodies, bodyAt}
 use Rattle.contents.specs.Contents.{byteAt, wordIn, planIn}
-use Rattle.contents.specs.Inner.Held.{held}
+use Rattle.contents.specs.Held.{held}
 
 pub made : (fs : Fields) (p : Plan) → p .levels ≡ byteAt 0 (bodyAt 1 0 fs) → p .k ≡ byteAt 1 (bodyAt 1 0 fs) → p .added ≡ min (length (bodies 2 fs)) 7
     → p .words ≡ tab 6 (λ i. wordIn (bodyAt 2 i fs)) → p .signs ≡ tab 6 (λ i. byteAt 2 (bodyAt 2 i fs)) → p .blocks ≡ min (length (bodies 3 fs)) 5

@@ -5,7 +5,7 @@ use mathlib.Core.Path.{_≡_, refl}
 use mathlib.Core.List.{[], _∷_, map}
 use lib.ListN.{replicate}
 use Rattle.plan.specs.Examples.{AB, plan}
-use Rattle.contents.specs.Inner.Held.{held}
+use Rattle.contents.specs.Held.{held}
 
 counts : map (λ n. held (plan 2 4 (replicate n AB) (replicate n 0) []) .added) (6 ∷ 7 ∷ 9 ∷ [])
     ∷ map (λ n. held (plan 2 4 [] [] (replicate n AB)) .blocks) (4 ∷ 5 ∷ 9 ∷ [])

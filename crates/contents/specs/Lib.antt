@@ -1,10 +1,10 @@
 -- What the calls on the contents of a sheet promise.
 --
 --   Contents    what fields say
+--   Held        the plan as the code holds it
 --   Examples    plans as they are held, computed
 --   Laws        laws on readings and on plans that are held
---   Inner       what the inner functions ask and leave; no promise of a call
 pub mod Contents
+pub mod Held
 pub mod Examples
 pub mod Laws
-pub mod Inner

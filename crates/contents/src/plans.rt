@@ -9,7 +9,7 @@ use plan::Plan;
 ghost use Rattle.algebra.specs.Tab.{tab};
 ghost use Rattle.fields.specs.Fields.{fieldsOf, bodyAt};
 ghost use Rattle.contents.specs.Contents.{byteAt, wordIn, planIn};
-ghost use Rattle.contents.specs.Inner.Held.{held};
+ghost use Rattle.contents.specs.Held.{held};
 
 // Any number up to the limit, and the limit for those beyond it.
 fn at_most(n: usize, limit: u8) -> u8

@@ -6,7 +6,7 @@ use columns::is_reading_beyond;
 use numerals::reading;
 ghost use Rattle.contrasts.specs.Limits.{readingLimit};
 ghost use Rattle.columns.specs.Refusals.{anyBeyond};
-ghost use Rattle.columns.specs.Inner.Copies.{copied};
+ghost use Rattle.columns.specs.Copies.{copied};
 ghost use Rattle.contents.specs.Contents.{readingAt, readingsOf};
 
 fn reading_at(body: &[u8], i: usize) -> i32

@@ -1,28 +1,28 @@
 -- The theorems, each for any list of factors; after them what they come to where factors are alike, and at two and three levels.
 --
---   Digits       totals and passes by the lowest digit: what inductions go by
---   Order        passes in any order end as the totals
---   Steps        the report's own steps do
---   Divisors     divisors, weights and the denominator
---   Orthogonal   the coefficients are orthogonal
---   Squares      the sum of squares, the bound on numerators
---   Recovery     readings back from totals
---   CheckSum     the sum of all totals
---   Bounds       how large values grow
---   Degrees      the degrees of rows
---   Rows         the rows of effects, and sums over rows
---   Stretches    a pass stretch by stretch
---   Lists        the theorems over columns that are lists
---   Within       bounds on all values of a list
---   Alike        plans of k factors that are alike
---   TwoLevels    two levels, in the words of the rules
---   ThreeLevels  three levels, in the words of the rules
---   Limits       what readings within their limit come to
---   Kinds        the number of levels, and the factor of so many
---   Signed       readings times signs, and contrasts whose signs turn
---   Small        values that a pass or a step admits fit an i64
---   Sets         a turn of a loop over sets of values: its sums fit, and it writes what the rows say
---   Rounds       a turn of the loop that makes a round of the check
+--   Digits         totals and passes by the lowest digit: what inductions go by
+--   Order          passes in any order end as the totals
+--   Steps          the report's own steps do
+--   Divisors       divisors, weights and the denominator
+--   Orthogonal     the coefficients are orthogonal
+--   Squares        the sum of squares, the bound on numerators
+--   Recovery       readings back from totals
+--   CheckSum       the sum of all totals
+--   Bounds         how large values grow
+--   Degrees        the degrees of rows
+--   Rows           the rows of effects, and sums over rows
+--   Stretches      a pass stretch by stretch
+--   Lists          the theorems over columns that are lists
+--   Within         bounds on all values of a list
+--   Replicated     plans of k factors that are alike
+--   TwoLevels      two levels, in the words of the rules
+--   ThreeLevels    three levels, in the words of the rules
+--   Limits         what readings within their limit come to
+--   Levels         the number of levels, and the factor of so many
+--   Signed         readings times signs, and contrasts whose signs turn
+--   Small          values that a pass or a step admits fit an i64
+--   Sets           a turn of a loop over sets of values: its sums fit, and it writes what the rows say
+--   Rounds         a turn of the loop that makes a round of the check
 pub mod Digits
 pub mod Order
 pub mod Steps
@@ -37,11 +37,11 @@ pub mod Rows
 pub mod Stretches
 pub mod Lists
 pub mod Within
-pub mod Alike
+pub mod Replicated
 pub mod TwoLevels
 pub mod ThreeLevels
 pub mod Limits
-pub mod Kinds
+pub mod Levels
 pub mod Signed
 pub mod Small
 pub mod Sets

@@ -15,7 +15,7 @@ use lib.Dec.{eqb}
 use lib.ListN.{length, getD}
 use Rattle.fields.specs.Fields.{Fields, fieldsOf, bodies}
 use Rattle.fields.specs.Inner.Places.{endAt}
-use Rattle.fields.specs.Rules.{rules, admits, badFrom, badFields}
+use Rattle.fields.specs.Tags.{tagRules, admits, badFrom, badFields}
 use Rattle.fields.proofs.Walking.{Rest, begin, ended, cut-here, Next}
 
 pub itself : (b : Bool) → not b ≡ not (cond b true false)
@@ -48,11 +48,11 @@ module _ {s : List ℕ} {at last : ℕ} (w : Passed s at last) where
       size : n ≡ r - (at + 3)
       size = omega (arith, q, on .past)
 
-      pub passed-unknown : not (admits rules (getD s at 0) n) ≡ true → true ≡ badFrom 0 (fieldsOf s)
+      pub passed-unknown : not (admits tagRules (getD s at 0) n) ≡ true → true ≡ badFrom 0 (fieldsOf s)
       unfolding badFrom
       passed-unknown d = sym (w .so ∙ rw (on .so, le-ltb (getD s at 0) last h, on .long, ← size, d) refl)
 
-      pub passed-one : not (admits rules (getD s at 0) n) ≡ false → Passed s r (getD s at 0)
+      pub passed-one : not (admits tagRules (getD s at 0) n) ≡ false → Passed s r (getD s at 0)
       unfolding badFrom
       passed-one d = record {
         fs = on .more;

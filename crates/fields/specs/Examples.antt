@@ -10,7 +10,7 @@ use mathlib.Core.List.{List, [], _∷_, _++_, map}
 use Prim.Native.Nat.{ℕ}
 use Rattle.numerals.specs.Numbers.{big}
 use Rattle.fields.specs.Fields.{parse, fieldsOf, bodies, bodyAt}
-use Rattle.fields.specs.Rules.{badFrom, badFields}
+use Rattle.fields.specs.Tags.{badFrom, badFields}
 
 abbrev one : List ℕ
 one = 1 ∷ 0 ∷ 2 ∷ 2 ∷ 1 ∷ []

@@ -3,9 +3,9 @@
 //   bad_fields(sheet)         whether refusal 1 of the table of refusals applies
 //   count(sheet, tag)         how many fields there are of a tag
 //   body(sheet, tag, place)   the body of one of them
-mod rules;
+mod tags;
 mod walks;
 
-pub use rules::bad_fields;
+pub use tags::bad_fields;
 pub use walks::body;
 pub use walks::count;

@@ -2,7 +2,7 @@
 use mathlib.Core.Path.{_≡_, refl}
 use lib.IntN.{pos, negsuc}
 use Rattle.text.specs.Text.{ascii}
-use Rattle.text.specs.Fields.{letterOf, lettersIn, decimalIn}
+use Rattle.text.specs.Spelled.{letterOf, lettersIn, decimalIn}
 use Rattle.rows.specs.Kinds.{meanRow, blocksRow, errorRow}
 use Rattle.lines.specs.Lines.{lineOf, labelOf, kindWords, rowLine, namedLine, sourceLine, checkLine}
 

@@ -14,7 +14,7 @@ use Prim.Native.Nat.{ℕ}
 use lib.Dec.{eqb}
 use lib.IntN.{ℤ}
 use Rattle.text.specs.Text.{ascii}
-use Rattle.text.specs.Fields.{lettersOf, decimal, signed}
+use Rattle.text.specs.Spelled.{lettersOf, decimal, signed}
 use Rattle.rows.specs.Kinds.{Kind, meanRow, blocksRow, errorRow, keptRow}
 
 -- W9

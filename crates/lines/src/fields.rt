@@ -6,7 +6,7 @@ use text::number;
 use text::put;
 use text::value;
 ghost use Rattle.text.specs.Text.{Wrote};
-ghost use Rattle.text.specs.Fields.{decimal, signed};
+ghost use Rattle.text.specs.Spelled.{decimal, signed};
 ghost use Rattle.rows.specs.Kinds.{kindIn};
 ghost use Rattle.lines.specs.Lines.{space, newline, labelOf};
 ghost use Rattle.lines.specs.Inner.Written.{kindText};

@@ -25,11 +25,11 @@ use Rattle.columns.specs.Refusals.{wrongLength, isBeyond, anyBeyond}
 use Rattle.rows.specs.Kinds.{wrongRows, kindByMark, kindOf, badMark, badMarks}
 use Rattle.numerals.specs.Numbers.{big, twos}
 use Rattle.fields.specs.Fields.{parse, fieldsOf, bodies, bodyAt}
-use Rattle.fields.specs.Rules.{badFrom, badFields}
+use Rattle.fields.specs.Tags.{badFrom, badFields}
 use Rattle.contents.specs.Contents.{planIn, readingAt, readingsOf}
 use Rattle.sheet.specs.Sheet.{refusedWith, marksRefused}
 use Rattle.text.specs.Text.{ascii}
-use Rattle.text.specs.Fields.{letterOf, lettersIn, decimalIn}
+use Rattle.text.specs.Spelled.{letterOf, lettersIn, decimalIn}
 use Rattle.lines.specs.Lines.{lineOf, labelOf, kindWords, rowLine, namedLine, sourceLine, checkLine}
 use Rattle.anova.specs.Table.{sourceOf, totalSource, checksOf, tableFigures, rowsOf}
 use Rattle.printing.specs.Printed.{rowLines, tableText, printed, sheetTable, printRefused, textOf}

@@ -23,7 +23,7 @@ use Rattle.columns.specs.Laws.Admitted.{as-long}
 use Rattle.fields.specs.Fields.{fieldsOf, bodyAt}
 use Rattle.contents.specs.Contents.{planIn, readingsOf, readingsIn, marksIn}
 use Rattle.sheet.specs.Sheet.{refusedWith, readRefused, noPlan, readPlan, readColumn, marksRefused, marksOf}
-use Rattle.contents.specs.Inner.Held.{held}
+use Rattle.contents.specs.Held.{held}
 use Rattle.contents.specs.Laws.Readings.{readings-long}
 use Rattle.sheet.specs.Laws.Admitted.{read-admitted}
 use Rattle.contents.specs.Laws.Holding.{held-all}

@@ -12,8 +12,8 @@ use Rattle.plan.specs.Check.{planRefused, runCount}
 use Rattle.plan.specs.Plan.{runsOf}
 use Rattle.plan.specs.Laws.Sizes.{run-count}
 use Rattle.fields.specs.Fields.{Fields}
-use Rattle.fields.specs.Rules.{badFields}
-use Rattle.contents.specs.Inner.Held.{held}
+use Rattle.fields.specs.Tags.{badFields}
+use Rattle.contents.specs.Held.{held}
 use Rattle.contents.specs.Laws.Holding.{held-refused, held-all}
 use Rattle.sheet.specs.Sheet.{refusedWith}
 use Rattle.sheet.specs.Laws.Admitted.{own-refused}

@@ -20,7 +20,7 @@ use Rattle.columns.specs.Laws.Lengths.{wrong, right}
 use Rattle.rows.specs.Kinds.{wrongRows, badMarks, rowCount}
 use Rattle.rows.specs.Laws.Rows.{rows-by}
 use Rattle.fields.specs.Fields.{Fields, bodyAt}
-use Rattle.fields.specs.Rules.{badFields}
+use Rattle.fields.specs.Tags.{badFields}
 use Rattle.contents.specs.Contents.{readingsOf}
 use Rattle.sheet.specs.Sheet.{refusedWith}
 use Rattle.contents.specs.Laws.Readings.{readings-long}

@@ -20,7 +20,7 @@ use Rattle.plan.specs.Plan.{runsOf}
 use Rattle.columns.specs.Refusals.{wrongLength, anyBeyond}
 use Rattle.rows.specs.Kinds.{wrongRows, badMarks}
 use Rattle.fields.specs.Fields.{Fields, fieldsOf}
-use Rattle.fields.specs.Rules.{badFields}
+use Rattle.fields.specs.Tags.{badFields}
 use Rattle.contents.specs.Contents.{planIn, readingsIn, marksIn}
 
 -- ---- what is refused

@@ -13,7 +13,7 @@ use Rattle.contrasts.specs.Columns.{stepOf}
 use Rattle.contrasts.specs.Factor.{Factor}
 use Rattle.contrasts.specs.Limits.{valueLimit}
 use Rattle.contrasts.specs.Factors.{ofLevels}
-use Rattle.contrasts.specs.Laws.Kinds.{some-levels}
+use Rattle.contrasts.specs.Laws.Levels.{some-levels}
 use Rattle.plan.specs.declared.types.Plan.{Plan}
 use Rattle.plan.specs.Plan.{runsOf}
 use Rattle.plan.specs.Laws.Accepted.{accepted}

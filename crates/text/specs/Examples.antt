@@ -3,7 +3,7 @@ use mathlib.Core.Path.{_≡_, refl}
 use lib.IntN.{pos, negsuc}
 use lib.Seq.{sets}
 use Rattle.text.specs.Text.{ascii}
-use Rattle.text.specs.Fields.{letterOf, lettersIn, lettersOf, decimalIn, decimal, signed}
+use Rattle.text.specs.Spelled.{letterOf, lettersIn, lettersOf, decimalIn, decimal, signed}
 
 row-AC : lettersOf 5 ≡ ascii "AC"
 unfolding lettersIn letterOf

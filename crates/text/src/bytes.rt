@@ -3,7 +3,7 @@ ghost use mathlib.Core.List.{[], _∷_};
 ghost use Prim.Native.Nat.{_<_};
 use words::has_letter;
 ghost use Rattle.text.specs.Text.{Wrote};
-ghost use Rattle.text.specs.Fields.{letterOf, lettersOf};
+ghost use Rattle.text.specs.Spelled.{letterOf, lettersOf};
 
 pub fn put(text: &mut [u8], at: usize, byte: u8) -> usize
     ensures { λ r. ⌜ Wrote (now (text .entry)) at (byte ∷ []) (now (text .exit)) r ⌝ }

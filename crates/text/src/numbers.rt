@@ -4,7 +4,7 @@ ghost use Prim.Native.Nat.{_+_, _%_};
 ghost use lib.IntN.{natAbs};
 use super::bytes::put;
 ghost use Rattle.text.specs.Text.{Wrote};
-ghost use Rattle.text.specs.Fields.{decimal, digit, signed};
+ghost use Rattle.text.specs.Spelled.{decimal, digit, signed};
 
 // The last digit.
 fn last_digit(n: u64) -> u8

@@ -25,7 +25,7 @@ use Rattle.columns.specs.Refusals.{wrongLength, isBeyond, anyBeyond}
 use Rattle.rows.specs.Kinds.{wrongRows, badMark, badMarks}
 use Rattle.numerals.specs.Numbers.{big, twos}
 use Rattle.fields.specs.Fields.{parse, fieldsOf, bodies, bodyAt}
-use Rattle.fields.specs.Rules.{badFrom, badFields}
+use Rattle.fields.specs.Tags.{badFrom, badFields}
 use Rattle.contents.specs.Contents.{planIn, readingAt, readingsOf}
 use Rattle.sheet.specs.Sheet.{refusedWith, readRefused, noPlan, readPlan, readColumn, marksRefused, marksOf}
 use Rattle.writing.specs.Writer.{bytes, bytesOf, each, readingBytes, sheetFields, sheetOf}

@@ -23,8 +23,8 @@ use Rattle.contrasts.specs.Limits.{readingLimit, valueLimit}
 use Rattle.contrasts.specs.Factors.{ofLevels}
 use Rattle.contrasts.specs.Totals.{size}
 use Rattle.contrasts.specs.Passes.{passes, count}
-use Rattle.contrasts.specs.Laws.Alike.{size-alike, spacing-alike}
-use Rattle.contrasts.specs.Laws.Kinds.{some-levels}
+use Rattle.contrasts.specs.Laws.Replicated.{size-alike, spacing-alike}
+use Rattle.contrasts.specs.Laws.Levels.{some-levels}
 use Rattle.contrasts.specs.Laws.Limits.{values-fit}
 use Rattle.contrasts.specs.Laws.Lists.{tab-read, pass-over, passes-list, passes-more, order-list}
 use Rattle.contrasts.specs.Laws.Within.{within-tab}

@@ -1,13 +1,12 @@
 -- What the inner functions ask of what they are handed.
 --
---   Squarable x                     the square of x fits
---   SquaresFit xs                   the sum of the squares of a column fits
---   Weighable t w                   a numerator fits
+--   Squarable x                            the square of x fits
+--   SquaresFit xs                          the sum of the squares of a column fits
+--   Weighable t w                          a numerator fits
 --   Walkable ts effects d ds kinds rows    the walk stays within its slices, and its sums fit
---   Sets n xs                       n sets of three that a round turns
---   Rounds k xs                     the readings of k three-level factors
---   Checkable levels k readings column    readings of an accepted plan, and a column for the rounds
---   TableReady p readings marks totals rows    a table that is not refused
+--   Sets n xs                              n sets of three that a round turns
+--   Rounds k xs                            the readings of k three-level factors
+--   Checkable levels k readings column     readings of an accepted plan, and a column for the rounds
 use mathlib.Core.Path.{_≡_}
 use mathlib.Core.List.{List}
 use Prim.Native.Nat.{ℕ, _*_, _/_, _^_, _<_, _≤_}
@@ -17,10 +16,6 @@ use Rattle.algebra.specs.Naturals.{Σℕ}
 use Rattle.contrasts.specs.Columns.{AllWithin}
 use Rattle.contrasts.specs.Limits.{readingLimit, valueLimit}
 use Rattle.contrasts.specs.Factors.{ofLevels}
-use Rattle.plan.specs.declared.types.Plan.{Plan}
-use Rattle.plan.specs.Check.{planRefused}
-use Rattle.plan.specs.Plan.{runsOf}
-use Rattle.rows.specs.Kinds.{rowsIn}
 use Rattle.anova.specs.Inner.Walk.{walkNumerator, walkRow, walkKind, zeros, squaresOf}
 
 pub record Squarable (x : ℤ) : Type 0 where
@@ -60,11 +55,4 @@ pub record Checkable (levels k : ℕ) (readings column : List ℤ) : Type 0 wher
   pub few : length readings ≤ 1024
   pub whole : length readings ≡ levels ^ k
   pub same : length column ≡ length readings
-  pub within : AllWithin readingLimit readings
-
-pub record TableReady (p : Plan) (readings : List ℤ) (marks : List ℕ) (totals : List ℤ) (rows : List ℕ) : Type 0 where
-  pub plan : planRefused p ≡ 0
-  pub whole : length readings ≡ runsOf p
-  pub same : length totals ≡ runsOf p
-  pub rows-long : length rows ≡ rowsIn p
   pub within : AllWithin readingLimit readings

@@ -1,10 +1,11 @@
 -- What is known of a table that is not refused.
 --
---   table-admitted             lengths and bounds, from the number
---   table-admits               and this is all that is asked, with readings within the limit and marks that are lawful
---   rows-power                 R is 2 to the power of the number of factors
---   limit-fits                 the limit of numerators fits an i64
---   within-limit               the total, by the sum of squares, is within that limit
+--   TableReady p readings marks totals rows    lengths and bounds of a table that is not refused
+--   table-admitted                             these, from the number
+--   table-admits                               and this is all that is asked, with readings within the limit and marks that are lawful
+--   rows-power                                 R is 2 to the power of the number of factors
+--   limit-fits                                 the limit of numerators fits an i64
+--   within-limit                               the total, by the sum of squares, is within that limit
 use mathlib.Core.Path.{_≡_, refl, _∙_, ap}
 use mathlib.Core.Bool.{false, _||_}
 use mathlib.Core.List.{List}
@@ -15,7 +16,7 @@ use lib.Dec.{lit<}
 use lib.IntN.{ℤ}
 use lib.ListN.{length, length-replicate}
 use Rattle.algebra.specs.Laws.Tests.{neither}
-use Rattle.contrasts.specs.Columns.{read}
+use Rattle.contrasts.specs.Columns.{read, AllWithin}
 use Rattle.contrasts.specs.Limits.{readingLimit, numeratorLimit}
 use Rattle.contrasts.specs.Factors.{ofLevels}
 use Rattle.contrasts.specs.Totals.{denominator, squared}
@@ -29,8 +30,14 @@ use Rattle.columns.specs.Refusals.{wrongLength, anyBeyond}
 use Rattle.columns.specs.Laws.Admitted.{all-within, as-long}
 use Rattle.rows.specs.Kinds.{rowsIn, wrongRows, badMarks}
 use Rattle.rows.specs.Laws.Rows.{rows-as-long}
-use Rattle.anova.specs.Inner.Ready.{TableReady}
 use Rattle.anova.specs.Table.{wrongLengths, tableRefused}
+
+pub record TableReady (p : Plan) (readings : List ℤ) (marks : List ℕ) (totals : List ℤ) (rows : List ℕ) : Type 0 where
+  pub plan : planRefused p ≡ 0
+  pub whole : length readings ≡ runsOf p
+  pub same : length totals ≡ runsOf p
+  pub rows-long : length rows ≡ rowsIn p
+  pub within : AllWithin readingLimit readings
 
 pub table-admitted : (p : Plan) (readings : List ℤ) (marks : List ℕ) (totals : List ℤ) (rows : List ℕ)
     → tableRefused p readings marks totals rows ≡ 0 → TableReady p readings marks totals rows

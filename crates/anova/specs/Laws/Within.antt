@@ -1,14 +1,13 @@
 -- What a table that is not refused adds up to, and that none of its numbers exceeds the limit of numerators.
 --
---   all-rows                       the numerators of all rows add up to the total's
---   all-degrees                    the degrees of all rows add up to N
---   fit                            the denominator and N are within the limit
---   some-within                    any sum of some effects' numerators is
---   row-within                     the numerator of a row is
---   SourceWithin s                 degrees and numerator of a source are within the limit
+--   all-rows                            the numerators of all rows add up to the total's
+--   all-degrees                         the degrees of all rows add up to N
+--   fit                                 the denominator and N are within the limit
+--   some-within                         any sum of some effects' numerators is
+--   row-within                          the numerator of a row is
 --   kind-within, total-source-within    those of the rows of one kind are, and those of the total
---   total-within-limit             each total is, in size
---   check-small, checks-within     both check numbers are, in size
+--   total-within-limit                  each total is, in size
+--   check-small, checks-within          both check numbers are, in size
 use mathlib.Core.Path.{_≡_, _∙_}
 use mathlib.Core.Bool.{Bool, cond}
 use mathlib.Core.List.{List}
@@ -35,14 +34,10 @@ use Rattle.plan.specs.declared.types.Plan.{Plan}
 use Rattle.plan.specs.Plan.{factorsOf, runsOf}
 use Rattle.plan.specs.Laws.Sizes.{plan-within}
 use Rattle.rows.specs.Kinds.{rowsIn, Kind, kindOf, same}
-use Rattle.anova.specs.declared.types.Source.{Source}
-use Rattle.anova.specs.Inner.Ready.{TableReady}
+use Rattle.anova.specs.Laws.Admitted.{TableReady}
 use Rattle.anova.specs.Table.{sourceOf, totalSource, checksOf}
 use Rattle.anova.specs.Laws.Admitted.{rows-power, within-limit}
-
-pub record SourceWithin (s : Source) : Type 0 where
-  pub degrees : s .degrees ≤ numeratorLimit
-  pub numerator : s .numerator ≤ numeratorLimit
+use Rattle.anova.specs.Table.{SourceWithin}
 
 module _ {p : Plan} {readings : List ℤ} {marks : List ℕ} {totals : List ℤ} {rows : List ℕ} (a : TableReady p readings marks totals rows) where
   -- ---- what all rows add up to

@@ -20,10 +20,9 @@ use Rattle.contrasts.specs.Laws.Limits.{values-fit}
 use Rattle.contrasts.specs.Laws.Lists.{tab-read, passes-list, passes-more, order-list, pass-past}
 use Rattle.contrasts.specs.Laws.Within.{within-tab}
 use Rattle.plan.specs.declared.types.Plan.{Plan}
-use Rattle.words.specs.Words.{beyond}
 use Rattle.plan.specs.Check.{planRefused}
 use Rattle.plan.specs.Examples.{plan}
-use Rattle.plan.specs.Outcome.{Outcome, given, outcome}
+use Rattle.plan.specs.Outcome.{Outcome, outcome}
 use Rattle.plan.specs.Plan.{factorsOf, runsOf}
 use Rattle.plan.specs.Laws.Answers.{unwritten, written-new}
 use Rattle.plan.specs.Laws.Sizes.{plan-within}

@@ -12,7 +12,8 @@ use Rattle.plan.specs.declared.types.Plan.{Plan}
 use Rattle.plan.specs.Check.{planRefusals, planRefused, withPlan}
 use Rattle.plan.specs.Outcome.{Refusal, refusal, lowest}
 use Rattle.plan.specs.Plan.{runsOf}
-use Rattle.plan.specs.Laws.Lowest.{Lowest, is-lowest, with-plan, lowest-with-plan}
+use Rattle.plan.specs.Outcome.{Lowest}
+use Rattle.plan.specs.Laws.Lowest.{is-lowest, with-plan, lowest-with-plan}
 use Rattle.contrasts.specs.Limits.{readingLimit}
 use Rattle.columns.specs.Refusals.{anyBeyond, columnsRefused}
 use Rattle.rows.specs.Kinds.{badMarks}
@@ -23,7 +24,7 @@ use Rattle.yates.specs.Calls.{passRefusals, passRefused, totalsRefusals}
 use Rattle.steps.specs.Step.{stepRefusals}
 use Rattle.anova.specs.Table.{wrongLengths, tableRefusals, tableRefused}
 use Rattle.fields.specs.Fields.{Fields, fieldsOf}
-use Rattle.fields.specs.Rules.{badFields}
+use Rattle.fields.specs.Tags.{badFields}
 use Rattle.contents.specs.Contents.{planIn}
 use Rattle.sheet.specs.Sheet.{sheetRefusals, refusedWith, readRefused, marksRefused}
 use Rattle.printing.specs.Printed.{longestSheet, printRefused}

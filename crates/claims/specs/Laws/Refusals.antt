@@ -24,7 +24,7 @@ use Rattle.yates.specs.Calls.{passRefusals, passRefused, passColumn, totalsRefu
 use Rattle.steps.specs.Step.{stepRefusals, stepColumn}
 use Rattle.anova.specs.Table.{tableRefusals, tableRefused, tableTotals, tableRows}
 use Rattle.fields.specs.Fields.{Fields, fieldsOf}
-use Rattle.fields.specs.Rules.{badFields}
+use Rattle.fields.specs.Tags.{badFields}
 use Rattle.contents.specs.Contents.{planIn}
 use Rattle.sheet.specs.Sheet.{sheetRefusals, refusedWith, readRefused, readColumn, marksRefused, marksOf}
 use Rattle.printing.specs.Printed.{longestSheet, printRefused}

@@ -36,7 +36,7 @@ use Rattle.anova.specs.declared.types.Figures.{Figures}
 use Rattle.anova.specs.Table.{wrongLengths, tableRefused, sourceOf, totalSource, checksOf, tableFigures, tableTotals}
 use Rattle.numerals.specs.Numbers.{big, twos}
 use Rattle.fields.specs.Fields.{parse, fieldsOf, bodies, bodyAt}
-use Rattle.fields.specs.Rules.{badFrom, badFields}
+use Rattle.fields.specs.Tags.{badFrom, badFields}
 use Rattle.contents.specs.Contents.{planIn, readingAt, readingsOf}
 use Rattle.sheet.specs.Sheet.{refusedWith, marksRefused, marksOf}
 use Rattle.printing.specs.Printed.{printed, printRefused, textOf}

@@ -13,7 +13,7 @@ use lib.Dec.{ltb}
 use Rattle.plan.specs.declared.types.Plan.{Plan}
 use Rattle.plan.specs.Check.{badCounts, planRefused}
 use Rattle.plan.specs.Laws.Accepted.{sizes}
-use Rattle.contents.specs.Inner.Held.{held}
+use Rattle.contents.specs.Held.{held}
 
 min-small : (n m : ℕ) → n ≤ m → min n m ≡ n
 min-small n m h = omega arith

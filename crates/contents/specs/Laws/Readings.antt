@@ -11,7 +11,7 @@ use lib.IntN.{ℤ, pos}
 use lib.ListN.{length}
 use Rattle.algebra.specs.Laws.Tab.{length-tab, getD-tab}
 use Rattle.contrasts.specs.Columns.{read}
-use Rattle.columns.specs.Inner.Copies.{copied}
+use Rattle.columns.specs.Copies.{copied}
 use Rattle.contents.specs.Contents.{readingAt, readingsOf}
 
 pub readings-long : (body : List ℕ) → length (readingsOf body) ≡ length body / 4

@@ -27,7 +27,7 @@ use Rattle.contrasts.specs.Factors.{two, three}
 use Rattle.contrasts.specs.Totals.{Column, size, total, denominator, numerator, squared}
 use Rattle.contrasts.specs.Passes.{passes, count}
 use Rattle.contrasts.specs.Steps.{steps}
-use Rattle.contrasts.specs.Laws.Alike.{growth-alike}
+use Rattle.contrasts.specs.Laws.Replicated.{growth-alike}
 use Rattle.contrasts.specs.Laws.Bounds.{Within, reach, growth, bound-each, bound-total, bound-steps}
 use Rattle.contrasts.specs.Laws.Digits.{size-pos}
 use Rattle.contrasts.specs.Laws.Divisors.{denominator-pos}

@@ -25,7 +25,7 @@ use Rattle.contrasts.specs.Factor.{Factor}
 use Rattle.contrasts.specs.Totals.{Column, size, total}
 use Rattle.contrasts.specs.Passes.{pass, passes, count, spacing}
 use Rattle.contrasts.specs.Steps.{step, steps}
-use Rattle.contrasts.specs.Laws.Alike.{size-alike}
+use Rattle.contrasts.specs.Laws.Replicated.{size-alike}
 use Rattle.contrasts.specs.Laws.Digits.{size-pos, pass-cong, pass-beyond}
 use Rattle.contrasts.specs.Laws.Order.{order}
 use Rattle.contrasts.specs.Laws.Steps.{step-cong, rotated, all-steps}

@@ -25,7 +25,7 @@ use Rattle.contrasts.specs.Totals.{Column, size, divisor*, denominator}
 use Rattle.contrasts.specs.Passes.{passAt}
 use Rattle.contrasts.specs.Steps.{step}
 use Rattle.contrasts.specs.Checks.{checkWeight, round}
-use Rattle.contrasts.specs.Laws.Alike.{size-alike, denominator-alike, divisor-fewer}
+use Rattle.contrasts.specs.Laws.Replicated.{size-alike, denominator-alike, divisor-fewer}
 use Rattle.contrasts.specs.Laws.Steps.{step-value}
 use Rattle.contrasts.specs.Laws.Stretches.{pass-value}
 

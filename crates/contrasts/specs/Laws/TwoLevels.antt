@@ -27,7 +27,7 @@ use Rattle.contrasts.specs.Totals.{Column, size, total, divisor*, denomi
 use Rattle.contrasts.specs.Passes.{passAt}
 use Rattle.contrasts.specs.Steps.{step}
 use Rattle.contrasts.specs.Checks.{checkWeight, round, rounds}
-use Rattle.contrasts.specs.Laws.Alike.{size-alike, denominator-alike}
+use Rattle.contrasts.specs.Laws.Replicated.{size-alike, denominator-alike}
 use Rattle.contrasts.specs.Laws.CheckSum.{check-rounds}
 use Rattle.contrasts.specs.Laws.Steps.{step-value}
 use Rattle.contrasts.specs.Laws.Stretches.{pass-value}

@@ -9,7 +9,7 @@ use Rattle.algebra.specs.Naturals.{Σℕ, most}
 use Rattle.contrasts.specs.Limits.{readingLimit}
 use Rattle.contrasts.specs.Factors.{two}
 use Rattle.contrasts.specs.Totals.{Column, total}
-use Rattle.contrasts.specs.Laws.Alike.{growth-alike}
+use Rattle.contrasts.specs.Laws.Replicated.{growth-alike}
 use Rattle.contrasts.specs.Laws.Bounds.{Within, reach, growth, bound-total}
 use Rattle.words.specs.Laws.Letters.{beyond-none}
 use Rattle.plan.specs.declared.types.Plan.{Plan}

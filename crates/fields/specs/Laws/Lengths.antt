@@ -17,7 +17,7 @@ use lib.ListN.{length, take, drop, getD, length-drop}
 use lib.Seq.{length-take-le}
 use Rattle.numerals.specs.Numbers.{big}
 use Rattle.fields.specs.Fields.{Fields, end, cut, field, first, parse, fieldsOf, bodies, bodyAt}
-use Rattle.fields.specs.Rules.{badFrom, badFields}
+use Rattle.fields.specs.Tags.{badFrom, badFields}
 use Rattle.fields.specs.Laws.Passed.{Known, one, two, three, four, five, passes, all-pass, once}
 
 unfoldable pub spanOf : Fields → ℕ

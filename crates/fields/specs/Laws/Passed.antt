@@ -12,7 +12,7 @@ use lib.Dec.{eqb, ltb}
 use lib.ListN.{length}
 use Rattle.algebra.specs.Laws.Tests.{neither}
 use Rattle.fields.specs.Fields.{Fields, field, bodies}
-use Rattle.fields.specs.Rules.{rules, admits, badFrom, anyNotOnce, badFields}
+use Rattle.fields.specs.Tags.{tagRules, admits, badFrom, anyNotOnce, badFields}
 
 pub data Known (t n : ℕ) : Type 0 where
   one : t ≡ 1 → n ≡ 2 → Known t n
@@ -21,7 +21,7 @@ pub data Known (t n : ℕ) : Type 0 where
   four : t ≡ 4 → n % 4 ≡ 0 → Known t n
   five : t ≡ 5 → Known t n
 
-pub known : (t n : ℕ) → admits rules t n ≡ true → Known t n
+pub known : (t n : ℕ) → admits tagRules t n ≡ true → Known t n
 known t n e = by (eqb t 1) (eqb t 2) (eqb t 3) (eqb t 4) (eqb t 5) refl refl refl refl refl e
   where
     by : (a b c d f : Bool) → eqb t 1 ≡ a → eqb t 2 ≡ b → eqb t 3 ≡ c → eqb t 4 ≡ d → eqb t 5 ≡ f
@@ -38,18 +38,18 @@ pub passes : (last t : ℕ) (body : List ℕ) (rest : Fields) → badFrom last (
     → (last ≤ t) × Known t (length body) × (badFrom t rest ≡ false)
 unfolding badFrom
 passes last t body rest e =
-    let i = neither (ltb t last) (not (admits rules t (length body)) || badFrom t rest) e in
-    let j = neither (not (admits rules t (length body))) (badFrom t rest) (i .1) in
-    (ltb-false t last (i .0), known t (length body) (not-false (admits rules t (length body)) (j .0)), j .1)
+    let i = neither (ltb t last) (not (admits tagRules t (length body)) || badFrom t rest) e in
+    let j = neither (not (admits tagRules t (length body))) (badFrom t rest) (i .1) in
+    (ltb-false t last (i .0), known t (length body) (not-false (admits tagRules t (length body)) (j .0)), j .1)
 
 pub all-pass : (fs : Fields) → badFields fs ≡ false → badFrom 0 fs ≡ false
 unfolding badFields
-all-pass fs e = neither (badFrom 0 fs) (anyNotOnce rules fs) e .0
+all-pass fs e = neither (badFrom 0 fs) (anyNotOnce tagRules fs) e .0
 
 pub once : (fs : Fields) → badFields fs ≡ false → (length (bodies 1 fs) ≡ 1) × (length (bodies 4 fs) ≡ 1) × (length (bodies 5 fs) ≡ 1)
 unfolding badFields
 once fs e =
-    let z = neither (badFrom 0 fs) (anyNotOnce rules fs) e in
+    let z = neither (badFrom 0 fs) (anyNotOnce tagRules fs) e in
     let a = neither (not (eqb (length (bodies 1 fs)) 1)) (not (eqb (length (bodies 4 fs)) 1) || (not (eqb (length (bodies 5 fs)) 1) || false)) (z .1) in
     let b = neither (not (eqb (length (bodies 4 fs)) 1)) (not (eqb (length (bodies 5 fs)) 1) || false) (a .1) in
     let c = neither (not (eqb (length (bodies 5 fs)) 1)) false (b .1) in

@@ -19,7 +19,7 @@ use mir.Syntax.{w64}
 use mir.Val.{SFits}
 use Rattle.algebra.specs.Laws.Machine.{wrap}
 use Rattle.text.specs.Text.{ascii, Wrote}
-use Rattle.text.specs.Fields.{lettersOf, decimal, signed}
+use Rattle.text.specs.Spelled.{lettersOf, decimal, signed}
 use Rattle.text.specs.Laws.Decimal.{signed-kept, decimal-long, signed-long}
 use Rattle.text.specs.Laws.Writing.{nothing, then, retext, letters-long}
 use Rattle.rows.specs.Kinds.{Kind, meanRow, blocksRow, errorRow, keptRow, kindIn}

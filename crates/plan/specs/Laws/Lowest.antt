@@ -1,9 +1,8 @@
 -- "The lowest number that applies": of refusals whose numbers rise, the first that holds.
 --
---   Lowest n refusals    n is the lowest number that applies of these refusals, and 0 where none does
---   is-lowest            `lowest` gives it, where the numbers rise
---   with-plan            the number of a call on a plan is that of the plan's refusals and its own, in one list
---   lowest-with-plan     so it is the lowest that applies of all these
+--   is-lowest           `lowest` gives it, where the numbers rise
+--   with-plan           the number of a call on a plan is that of the plan's refusals and its own, in one list
+--   lowest-with-plan    so it is the lowest that applies of all these
 use mathlib.Core.Path.{_≡_, refl}
 use mathlib.Core.Bool.{Bool, true, false, cond, _&&_, _||_}
 use mathlib.Core.List.{List, [], _∷_, _++_}
@@ -15,11 +14,7 @@ use Rattle.algebra.specs.Laws.Tests.{and-left, and-right}
 use Rattle.plan.specs.declared.types.Plan.{Plan}
 use Rattle.plan.specs.Outcome.{Refusal, refusal, lowest, rising, applies}
 use Rattle.plan.specs.Check.{planRefusals, planRefused, withPlan}
-
-pub record Lowest (n : ℕ) (refusals : List Refusal) : Type 0 where
-  pub own : (n ≡ 0 → ⊥) → applies n refusals ≡ true
-  pub below : (m : ℕ) → m < n → applies m refusals ≡ false
-  pub none : n ≡ 0 → (m : ℕ) → applies m refusals ≡ false
+use Rattle.plan.specs.Outcome.{Lowest}
 
 -- ---- refusals whose numbers rise
 

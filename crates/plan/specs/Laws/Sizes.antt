@@ -25,8 +25,8 @@ use borrow.Author.Tests.{eq-eqb, lt-leb}
 use Rattle.contrasts.specs.Limits.{mostTwo, mostThree}
 use Rattle.contrasts.specs.Factors.{two, three, ofLevels}
 use Rattle.contrasts.specs.Passes.{spacing}
-use Rattle.contrasts.specs.Laws.Alike.{size-alike, spacing-alike}
-use Rattle.contrasts.specs.Laws.Kinds.{kind-of}
+use Rattle.contrasts.specs.Laws.Replicated.{size-alike, spacing-alike}
+use Rattle.contrasts.specs.Laws.Levels.{kind-of}
 use Rattle.contrasts.specs.Laws.Limits.{withinLimits, two-within, three-within}
 use Rattle.plan.specs.declared.types.Plan.{Plan}
 use Rattle.plan.specs.Plan.{factorsOf, runsOf, allLetters, confoundedIn}

@@ -25,7 +25,7 @@ use Rattle.words.specs.Laws.Letters.{letters-ones}
 use Rattle.plan.specs.declared.types.Plan.{Plan}
 use Rattle.plan.specs.Plan.{factorsOf}
 use Rattle.plan.specs.Laws.Sizes.{plan-kind, factors-two, factors-three}
-use Rattle.contrasts.specs.Laws.Kinds.{the-three}
+use Rattle.contrasts.specs.Laws.Levels.{the-three}
 use Rattle.rows.specs.Kinds.{rowsIn, kindOf, codeOf, kindIn, kindsOf}
 use Rattle.rows.specs.Laws.Kinds.{kind-in}
 use Rattle.rows.specs.Laws.Rows.{rows-few}

@@ -23,7 +23,7 @@ use mir.Syntax.{w64}
 use mir.Val.{SFits}
 use Rattle.algebra.specs.Laws.Machine.{wrap}
 use Rattle.text.specs.Text.{Wrote}
-use Rattle.text.specs.Fields.{digit, decimalIn, decimal, signed}
+use Rattle.text.specs.Spelled.{digit, decimalIn, decimal, signed}
 use Rattle.text.specs.Laws.Writing.{retext}
 
 pub few : (f n : ℕ) → n < 10 → decimalIn f n ≡ digit n ∷ []

@@ -9,7 +9,7 @@ use Prim.Native.Nat.{ℕ, zero, suc, _+_, _*_, _-_, _/_, _^_, _<_}
 use native.Mathlib.Decide.{decLt}
 use native.Mathlib.Omega.{arith}
 use lib.ListN.{length, getD, length-append}
-use Rattle.text.specs.Fields.{digit, decimalIn, decimal}
+use Rattle.text.specs.Spelled.{digit, decimalIn, decimal}
 use Rattle.text.specs.Laws.Decimal.{few, more, tenth}
 
 -- the digit 0 is the byte 48

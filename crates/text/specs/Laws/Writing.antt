@@ -22,7 +22,7 @@ use lib.ListN.{length, take, drop, getD, set, length-append}
 use lib.Seq.{sets, length-sets, sets-eq, set-out, take-suc}
 use Rattle.words.specs.Words.{has}
 use Rattle.text.specs.Text.{Wrote}
-use Rattle.text.specs.Fields.{letterOf, lettersIn, lettersOf}
+use Rattle.text.specs.Spelled.{letterOf, lettersIn, lettersOf}
 
 -- ---- places of a list
 

@@ -1,7 +1,7 @@
 -- The bytes of fields give the fields.
 --
---   Whole fs      no field is cut short, and each body's length has two bytes
---   read-back     fields that are written are read
+--   Whole fs     no field is cut short, and each body's length has two bytes
+--   read-back    fields that are written are read
 use mathlib.Core.Path.{_≡_, refl, ap, _∙_}
 use mathlib.Core.Bool.{cond}
 use mathlib.Core.List.{_++_}

@@ -1,11 +1,11 @@
 -- Fields of one tag, one after the other.
 --
---   each-whole       they are whole where their bodies are short
---   each-fine        refusal 1 lets them pass where it lets their bodies and the rest
---   each-other       they are no fields of another tag
---   each-count       so many are added to those of their own tag
---   each-at          their bodies in order
---   each-past        and what comes after them
+--   each-whole    they are whole where their bodies are short
+--   each-fine     refusal 1 lets them pass where it lets their bodies and the rest
+--   each-other    they are no fields of another tag
+--   each-count    so many are added to those of their own tag
+--   each-at       their bodies in order
+--   each-past     and what comes after them
 use mathlib.Core.Path.{_≡_, refl, sym}
 use mathlib.Core.Bool.{true, false}
 use mathlib.Core.List.{List, []}
@@ -15,7 +15,7 @@ use native.Mathlib.Omega.{arith}
 use borrow.Author.Tests.{le-ltb, eq-eqb, ne-eqb}
 use lib.ListN.{length, getD}
 use Rattle.fields.specs.Fields.{Fields, bodies}
-use Rattle.fields.specs.Rules.{rules, admits, badFrom}
+use Rattle.fields.specs.Tags.{tagRules, admits, badFrom}
 use Rattle.writing.specs.Writer.{each}
 use Rattle.writing.specs.Laws.Back.{Whole}
 
@@ -24,7 +24,7 @@ unfolding each
 each-whole t zero body rest h w = w
 each-whole t (suc n) body rest h w = (h 0, each-whole t n (λ i. body (suc i)) rest (λ i. h (suc i)) w)
 
-pub each-fine : (t n : ℕ) (body : ℕ → List ℕ) (rest : Fields) → ((i : ℕ) → admits rules t (length (body i)) ≡ true)
+pub each-fine : (t n : ℕ) (body : ℕ → List ℕ) (rest : Fields) → ((i : ℕ) → admits tagRules t (length (body i)) ≡ true)
     → ((last : ℕ) → last ≤ t → badFrom last rest ≡ false) → (last : ℕ) → last ≤ t → badFrom last (each t n body rest) ≡ false
 unfolding each badFrom
 each-fine t zero body rest h r last l = r last l

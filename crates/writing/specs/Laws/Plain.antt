@@ -1,6 +1,5 @@
 -- The sheet that is written has bytes only, so that it can be lent to the calls.
 --
---   AllBytes bs                              each number is below 256
 --   plain-append, plain-list                 of two lists one after the other; of a list by its places
 --   plain-bytes                              the bytes of a number
 --   plain-readings                           and of readings
@@ -13,10 +12,7 @@ use lib.IntN.{ℤ}
 use lib.ListN.{length, getD}
 use Rattle.fields.specs.Fields.{Fields, end, cut, field}
 use Rattle.writing.specs.Writer.{bytes, bytesOf, each, complement, readingBytes}
-
-abbrev pub AllBytes : List ℕ → Type 0
-AllBytes [] = Unit
-AllBytes (b ∷ bs) = (b < 256) × AllBytes bs
+use Rattle.writing.specs.RoundTrip.{AllBytes}
 
 pub plain-append : (bs cs : List ℕ) → AllBytes bs → AllBytes cs → AllBytes (bs ++ cs)
 plain-append [] cs a c = c

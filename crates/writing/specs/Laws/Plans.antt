@@ -1,10 +1,9 @@
 -- The plan that is read back.
 --
---   Shaped p                 the plan's arrays have their places, and its words 16 letters
---   settled-alike            a plan and the same with 0 beyond its counts are alike
---   Clean p, settled-same    a plan that has 0 there stays as it is
---   plan-back                what is read of the fields that are written
---   Bodies, the-bodies       the bodies of these fields
+--   settled-alike         a plan and the same with 0 beyond its counts are alike
+--   settled-same          a plan that has 0 there stays as it is
+--   plan-back             what is read of the fields that are written
+--   Bodies, the-bodies    the bodies of these fields
 use mathlib.Core.Path.{_≡_, refl, sym, ap, _∙_}
 use mathlib.Core.Bool.{cond}
 use mathlib.Core.List.{List, [], _∷_, _++_}
@@ -27,14 +26,7 @@ use Rattle.contents.specs.Contents.{byteAt, wordIn, planIn}
 use Rattle.writing.specs.Writer.{bytes, each, readingBytes, addedBody, blockBody, sheetFields, settled}
 use Rattle.writing.specs.Laws.Bytes.{two-back}
 use Rattle.writing.specs.Laws.Each.{each-other, each-count, each-at, each-past}
-
--- "A word is a 16-bit set of base letters"; 6 places for added factors, 4 for block words
-pub record Shaped (p : Plan) : Type 0 where
-  pub words-long : length (p .words) ≡ 6
-  pub signs-long : length (p .signs) ≡ 6
-  pub blockwords-long : length (p .blockwords) ≡ 4
-  pub words-fit : (i : ℕ) → getD (p .words) i 0 < 65536
-  pub blockwords-fit : (i : ℕ) → getD (p .blockwords) i 0 < 65536
+use Rattle.writing.specs.RoundTrip.{Shaped, Clean}
 
 -- ---- 0 beyond the counts
 
@@ -60,11 +52,6 @@ settled-alike p s h k = record {
   blocks = refl;
   blockwords = front 4 (p .blocks) (p .blockwords) (s .blockwords-long) k;
 }
-
-pub record Clean (p : Plan) : Type 0 where
-  pub words : (i : ℕ) → p .added ≤ i → getD (p .words) i 0 ≡ 0
-  pub signs : (i : ℕ) → p .added ≤ i → getD (p .signs) i 0 ≡ 0
-  pub blockwords : (i : ℕ) → p .blocks ≤ i → getD (p .blockwords) i 0 ≡ 0
 
 stays : (m n : ℕ) (ws : List ℕ) → length ws ≡ m → ((i : ℕ) → n ≤ i → getD ws i 0 ≡ 0) → tab m (λ i. cond (ltb i n) (getD ws i 0) 0) ≡ ws
 stays m n ws l h = sym (is-tab 0 ws m (λ i. cond (ltb i n) (getD ws i 0) 0) l (λ i k. by i (decLt i n)))

@@ -1,10 +1,8 @@
 -- A sheet that is written from a plan, readings and marks is read back as the same.
 --
---   Sheetable p xs marks    an accepted plan, readings within the limit and lawful marks
---   ReadBack                what both calls give of the sheet that is written from them
---   round-trip              they give the plan with 0 beyond its counts, the readings and the marks
---   same-back               and the plan itself where it has 0 there
---   all-bytes               the sheet that is written has bytes only
+--   round-trip    both calls give the plan with 0 beyond its counts, the readings and the marks
+--   same-back     and the plan itself where it has 0 there
+--   all-bytes     the sheet that is written has bytes only
 use mathlib.Core.Path.{_≡_, refl, sym, ap, _∙_}
 use mathlib.Core.Bool.{Bool, false, not}
 use mathlib.Core.List.{List, [], _∷_, _++_}
@@ -20,18 +18,17 @@ use Rattle.algebra.specs.Laws.Tests.{none}
 use Rattle.contrasts.specs.Columns.{read}
 use Rattle.contrasts.specs.Limits.{readingLimit}
 use Rattle.plan.specs.declared.types.Plan.{Plan}
-use Rattle.plan.specs.Check.{planRefused}
 use Rattle.plan.specs.Plan.{addedSigns, factorsOf, runsOf}
 use Rattle.plan.specs.Laws.Accepted.{accepted as accepted-plan, sizes}
 use Rattle.plan.specs.Laws.Alike.{Alike, same-refused, same-factors}
 use Rattle.plan.specs.Laws.Answers.{written-new}
 use Rattle.plan.specs.Laws.Sizes.{runs-few}
-use Rattle.columns.specs.Refusals.{wrongLength, anyBeyond}
+use Rattle.columns.specs.Refusals.{wrongLength}
 use Rattle.columns.specs.Laws.Admitted.{all-within}
-use Rattle.rows.specs.Kinds.{rowsIn, wrongRows, badMarks}
+use Rattle.rows.specs.Kinds.{rowsIn, wrongRows}
 use Rattle.rows.specs.Laws.Rows.{rows-few, same-marks}
 use Rattle.fields.specs.Fields.{Fields, end, field, fieldsOf, bodyAt}
-use Rattle.fields.specs.Rules.{rules, badFrom, anyNotOnce, badFields}
+use Rattle.fields.specs.Tags.{tagRules, badFrom, anyNotOnce, badFields}
 use Rattle.contents.specs.Contents.{planIn, readingsOf, readingsIn, marksIn}
 use Rattle.sheet.specs.Sheet.{sheetRefused, readRefused, noPlan, readPlan, readColumn, marksRefused, marksOf}
 use Rattle.sheet.specs.Laws.Admitted.{Admitted, admits}
@@ -39,23 +36,12 @@ use Rattle.sheet.specs.Laws.Marks.{small-marks, accepted-without}
 use Rattle.writing.specs.Writer.{bytes, readingBytes, addedBody, blockBody, sheetFields, sheetOf, settled}
 use Rattle.writing.specs.Laws.Back.{read-back}
 use Rattle.writing.specs.Laws.Each.{each-whole, each-fine}
-use Rattle.writing.specs.Laws.Plans.{Shaped, settled-alike, Clean, settled-same, Bodies, the-bodies, plan-back}
-use Rattle.writing.specs.Laws.Plain.{AllBytes, plain-append, plain-list, plain-bytes, plain-readings, plain-fields, plain-each}
+use Rattle.writing.specs.Laws.Plans.{settled-alike, settled-same, Bodies, the-bodies, plan-back}
+use Rattle.writing.specs.RoundTrip.{Clean}
+use Rattle.writing.specs.RoundTrip.{AllBytes}
+use Rattle.writing.specs.Laws.Plain.{plain-append, plain-list, plain-bytes, plain-readings, plain-fields, plain-each}
 use Rattle.writing.specs.Laws.Readings.{reading-bytes-length, readings-back}
-
-pub record Sheetable (p : Plan) (xs : List ℤ) (marks : List ℕ) : Type 0 where
-  pub shaped : Shaped p
-  pub accepted : planRefused p ≡ 0
-  pub whole : length xs ≡ runsOf p
-  pub within : anyBeyond readingLimit xs ≡ false
-  pub rows : length marks ≡ rowsIn p
-  pub lawful : badMarks p marks ≡ false
-
-pub record ReadBack (p : Plan) (xs : List ℤ) (marks : List ℕ) (column : List ℤ) : Type 0 where
-  pub accepted : readRefused (sheetOf p xs marks) (length column) ≡ 0
-  pub plan-read : readPlan (sheetOf p xs marks) (length column) ≡ settled p
-  pub readings-read : readColumn (sheetOf p xs marks) column ≡ xs ++ drop (length xs) column
-  pub marks-read : marksOf (sheetOf p xs marks) ≡ marks
+use Rattle.writing.specs.RoundTrip.{Sheetable, ReadBack}
 
 module _ {p : Plan} {xs : List ℤ} {marks : List ℕ} (g : Sheetable p xs marks) where
   abbrev fs : Fields
@@ -90,7 +76,7 @@ module _ {p : Plan} {xs : List ℤ} {marks : List ℕ} (g : Sheetable p xs marks
   no-bad =
       each-fine 2 (p .added) (addedBody p) _ (λ i. refl) (λ m h. each-fine 3 (p .blocks) (blockBody p) _ (λ i. refl) (λ l k. last-two l (omega arith)) m (omega arith)) 1 (omega arith)
 
-  once : anyNotOnce rules fs ≡ false
+  once : anyNotOnce tagRules fs ≡ false
   once = rw (b .ones, b .fours, b .fives) refl
 
   fine : badFields fs ≡ false

@@ -1,7 +1,7 @@
 use mathlib.Core.Path.{_∙_, refl}
 use borrow.Author.Needs.{needs}
 use borrow.Author.Tests.{eq-eqb, ne-eqb}
-use Rattle.columns.specs.Inner.Copies.{copied}
+use Rattle.columns.specs.Copies.{copied}
 use Rattle.columns.proofs.copies.copy.Statement.{statement}
 use Rattle.columns.proofs.copies.copy.Tie as tie
 

@@ -6,7 +6,7 @@ use Rattle.algebra.specs.Laws.Tests.{is}
 use Rattle.plan.specs.declared.types.Plan.{Plan}
 use Rattle.plan.specs.Check.{planRefused}
 use Rattle.fields.specs.Fields.{Fields, fieldsOf}
-use Rattle.fields.specs.Rules.{badFields}
+use Rattle.fields.specs.Tags.{badFields}
 use Rattle.sheet.proofs.Judging.{Opened, Measured, Within, bad, by-plan, too-narrow, lengths-wrong, beyond, marked, accepted}
 use Rattle.sheet.proofs.refusals.sheet_refused.Statement.{statement}
 use Rattle.sheet.proofs.refusals.sheet_refused.Tie as tie

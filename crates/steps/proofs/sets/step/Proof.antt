@@ -1,6 +1,6 @@
 use mathlib.Core.Path.{_≡_, sym, _∙_}
 use Rattle.contrasts.specs.Limits.{valueLimit}
-use Rattle.contrasts.specs.Laws.Kinds.{the-three, as-two, as-three}
+use Rattle.contrasts.specs.Laws.Levels.{the-three, as-two, as-three}
 use Rattle.plan.specs.Laws.Answers.{stopped, completed}
 use Rattle.plan.specs.Laws.Sizes.{plan-kind}
 use Rattle.columns.specs.Laws.Admitted.{Columns, admitted}

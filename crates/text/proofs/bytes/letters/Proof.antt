@@ -1,7 +1,7 @@
 use native.Mathlib.Omega.{arith}
 use Prim.Native.Nat.{_-_, _≤_}
 use Rattle.text.specs.Text.{Wrote}
-use Rattle.text.specs.Fields.{lettersIn}
+use Rattle.text.specs.Spelled.{lettersIn}
 use Rattle.text.specs.Laws.Writing.{no-letters, letter-more, all-letters, same-size}
 use Rattle.text.proofs.bytes.letters.Statement.{statement}
 use Rattle.text.proofs.bytes.letters.Tie as tie

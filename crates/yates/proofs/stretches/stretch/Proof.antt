@@ -1,5 +1,5 @@
 use mathlib.Core.Path.{refl, _∙_}
-use Rattle.contrasts.specs.Laws.Kinds.{the-three, as-two, as-three}
+use Rattle.contrasts.specs.Laws.Levels.{the-three, as-two, as-three}
 use borrow.Author.Needs.{needs}
 use Rattle.yates.proofs.stretches.stretch.Statement.{statement}
 use Rattle.yates.proofs.stretches.stretch.Tie as tie

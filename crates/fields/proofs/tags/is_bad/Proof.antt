@@ -1,8 +1,8 @@
 use mathlib.Core.Path.{refl}
 use borrow.Author.Tests.{eq-eqb, ne-eqb}
 use Rattle.fields.proofs.Judging.{itself}
-use Rattle.fields.proofs.rules.is_bad.Statement.{statement}
-use Rattle.fields.proofs.rules.is_bad.Tie as tie
+use Rattle.fields.proofs.tags.is_bad.Statement.{statement}
+use Rattle.fields.proofs.tags.is_bad.Tie as tie
 
 pub is-bad-spec : {M : Type 1} → statement M
 is-bad-spec =

@@ -5,8 +5,8 @@ use native.Mathlib.Omega.{arith}
 use lib.ListN.{length}
 use Rattle.fields.proofs.Walking.{Next, next}
 use Rattle.fields.proofs.Judging.{Passed, passed-none, passed-cut, passed-falling, passed-unknown, passed-one, passed-all}
-use Rattle.fields.proofs.rules.any_bad_field.Statement.{statement}
-use Rattle.fields.proofs.rules.any_bad_field.Tie as tie
+use Rattle.fields.proofs.tags.any_bad_field.Statement.{statement}
+use Rattle.fields.proofs.tags.any_bad_field.Tie as tie
 
 abbrev Inv-loop : tie.InvT-loop
 Inv-loop sheet last₀ at₀ last at = Passed sheet at last

@@ -3,8 +3,8 @@ use lib.ListN.{length}
 use Rattle.algebra.specs.Laws.Machine.{kept, widened-fits}
 use Rattle.contrasts.specs.Columns.{read}
 use Rattle.anova.proofs.Checked.{count-fits, some-reading, first-fits, first-is, copy-is, rounds-ready, rounds-made}
-use Rattle.anova.proofs.checks.check_number.Statement.{statement}
-use Rattle.anova.proofs.checks.check_number.Tie as tie
+use Rattle.anova.proofs.rounds.check_number.Statement.{statement}
+use Rattle.anova.proofs.rounds.check_number.Tie as tie
 
 pub check-number-spec : {M : Type 1} → statement M
 check-number-spec =

@@ -4,11 +4,11 @@ ghost use mathlib.Core.Path.{_≡_};
 use super::walks::count;
 use super::walks::field_end;
 ghost use Rattle.fields.specs.Fields.{fieldsOf};
-ghost use Rattle.fields.specs.Rules.{rules, admits, badFrom, badFields};
+ghost use Rattle.fields.specs.Tags.{tagRules, admits, badFrom, badFields};
 
 // Whether the tag is unknown, or its fields have another length.
 fn is_bad(tag: u8, length: usize) -> bool
-    ensures { λ r. ⌜ r ≡ not (admits rules tag length) ⌝ }
+    ensures { λ r. ⌜ r ≡ not (admits tagRules tag length) ⌝ }
 {
     if tag == 1 {
         return length != 2;

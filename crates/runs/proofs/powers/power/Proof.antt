@@ -1,8 +1,8 @@
 use native.Mathlib.Omega.{arith}
 use borrow.Author.Needs.{needs}
 use Rattle.algebra.specs.Laws.Gathered.{one-shifted}
-use Rattle.runs.proofs.sets.power.Statement.{statement}
-use Rattle.runs.proofs.sets.power.Tie as tie
+use Rattle.runs.proofs.powers.power.Statement.{statement}
+use Rattle.runs.proofs.powers.power.Tie as tie
 
 pub power-spec : {M : Type 1} → statement M
 power-spec =

@@ -3,8 +3,8 @@ use Prim.Native.Nat.{_-_}
 use native.Mathlib.Omega.{arith}
 use Rattle.algebra.specs.Laws.Machine.{kept}
 use Rattle.anova.proofs.Rounded.{Rounding, rounding-none, rounding-long, rounding-more, rounding-all, small-set}
-use Rattle.anova.proofs.checks.round.Statement.{statement}
-use Rattle.anova.proofs.checks.round.Tie as tie
+use Rattle.anova.proofs.rounds.round.Statement.{statement}
+use Rattle.anova.proofs.rounds.round.Tie as tie
 
 abbrev Inv-loop : tie.InvT-loop
 Inv-loop column₀ sets i₀ column i = Rounding sets column₀ i column

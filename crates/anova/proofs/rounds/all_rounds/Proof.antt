@@ -3,8 +3,8 @@ use Prim.Native.Nat.{_-_}
 use native.Mathlib.Omega.{arith}
 use Rattle.algebra.specs.Laws.Machine.{kept}
 use Rattle.anova.proofs.Rounded.{Left, left-none, left-sets, left-some, left-more, left-all}
-use Rattle.anova.proofs.checks.all_rounds.Statement.{statement}
-use Rattle.anova.proofs.checks.all_rounds.Tie as tie
+use Rattle.anova.proofs.rounds.all_rounds.Statement.{statement}
+use Rattle.anova.proofs.rounds.all_rounds.Tie as tie
 
 abbrev Inv-loop : tie.InvT-loop
 Inv-loop k column₀ sets₀ i₀ column sets i = Left k column₀ i sets column

@@ -1,6 +1,6 @@
 use Rattle.contrasts.specs.Laws.Rounds.{triple-fits, drop-fits, round-fits, round-is}
-use Rattle.anova.proofs.checks.turned.Statement.{statement}
-use Rattle.anova.proofs.checks.turned.Tie as tie
+use Rattle.anova.proofs.rounds.turned.Statement.{statement}
+use Rattle.anova.proofs.rounds.turned.Tie as tie
 
 pub turned-spec : {M : Type 1} → statement M
 turned-spec =

@@ -3,8 +3,8 @@ use Prim.Native.Nat.{ℕ, _+_}
 use native.Mathlib.Omega.{arith}
 use borrow.Author.Needs.{needs}
 use Rattle.algebra.specs.Laws.Gathered.{room}
-use Rattle.runs.proofs.sets.put_if.Statement.{statement}
-use Rattle.runs.proofs.sets.put_if.Tie as tie
+use Rattle.runs.proofs.powers.put_if.Statement.{statement}
+use Rattle.runs.proofs.powers.put_if.Tie as tie
 
 pub put-if-spec : {M : Type 1} → statement M
 put-if-spec =

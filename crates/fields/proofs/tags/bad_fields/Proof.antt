@@ -3,10 +3,10 @@ use mathlib.Core.Bool.{false}
 use native.Mathlib.Omega.{arith}
 use Rattle.algebra.specs.Laws.Tests.{is}
 use Rattle.fields.specs.Fields.{fieldsOf}
-use Rattle.fields.specs.Rules.{badFrom, badFields}
+use Rattle.fields.specs.Tags.{badFrom, badFields}
 use Rattle.fields.proofs.Judging.{not-one, not-four, by-five}
-use Rattle.fields.proofs.rules.bad_fields.Statement.{statement}
-use Rattle.fields.proofs.rules.bad_fields.Tie as tie
+use Rattle.fields.proofs.tags.bad_fields.Statement.{statement}
+use Rattle.fields.proofs.tags.bad_fields.Tie as tie
 
 -- beyond the first test no field is bad by itself
 fine : (c : tie.Else1) → badFrom 0 (fieldsOf (c .before .before .before .args .sheet .now)) ≡ false
