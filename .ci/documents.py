@@ -20,8 +20,7 @@
 # such as Laws/Order.antt, is any path with that end. A star stands for any name, and so does a capital letter between
 # slashes. What is built, below target/, and paths outside the repository are passed over.
 #
-# Documents speak of today: a name of the past stands without backticks. docs/CHANGES.md is a history; of it the links
-# alone are compared.
+# Documents speak of today: a name of the past stands without backticks.
 #
 # Defined here:
 #   Repository                           its files and folders, and the words of its code
@@ -39,7 +38,7 @@ from itertools import zip_longest
 from pathlib import Path
 
 ROOT = Path(__file__).resolve().parent.parent
-MAP, RULES, CLAIMS, CRATES, HISTORY = "docs/MAP.md", "docs/RULES.md", "docs/CLAIMS.md", "crates.txt", "docs/CHANGES.md"
+MAP, RULES, CLAIMS, CRATES = "docs/MAP.md", "docs/RULES.md", "docs/CLAIMS.md", "crates.txt"
 MOST_LINES, MOST_WORDS = 120, 60
 
 ENDINGS = (".antt", ".rt", ".py", ".c", ".md", ".sheet", ".csv", ".txt", ".edit")
@@ -456,7 +455,7 @@ def check_rules(repository):
     lines = rule_lines()
     order, found = list(lines), []
     for path in repository.files:
-        if path == HISTORY or not (fnmatchcase(path, "docs/*.md") or fnmatchcase(path, "crates/*/specs/*.antt")):
+        if not (fnmatchcase(path, "docs/*.md") or fnmatchcase(path, "crates/*/specs/*.antt")):
             continue
         found += [(path, line, "there is no rule %s" % rule) for line, text in enumerate(read(path).splitlines(), 1)
                   for cited in rule_lists(path, text) for rule in rules_in(cited, order) if rule not in lines]
@@ -475,8 +474,6 @@ def complaints(repository):
         found += check(repository)
     for document in ["README.md"] + [path for path in repository.files if fnmatchcase(path, "docs/*.md")]:
         found += check_links(document)
-        if document == HISTORY:
-            continue
         found += check_code(repository, document)
         cited = citations(read(document))
         count += len(cited)
