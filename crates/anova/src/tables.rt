@@ -75,7 +75,7 @@ fn form(
     )
 }
 
-// The line of a kind.
+// The source of a kind.
 fn source(numerators: [u64; 4], degrees: [u64; 4], kind: usize) -> Source
     requires { ⌜ kind < 4 ⌝ }
     ensures { λ r. ⌜ (r .degrees ≡ getD degrees kind 0) × (r .numerator ≡ getD numerators kind 0) ⌝ }

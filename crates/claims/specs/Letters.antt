@@ -81,68 +81,68 @@ turnIf t z = cond t (negℤ z) z
 
 -- ---- the claims
 
--- The coefficient of run r in the total of the effect e is -1 exactly when an odd number of the effect's letters are high in the run, and
+-- T9: the coefficient of run r in the total of the effect e is -1 exactly when an odd number of the effect's letters are high in the run, and
 -- else 1.
 abbrev pub Coefficients : Type 0
 Coefficients = (p : Plan) → TwoLevels p → (e r : ℕ) → e < runsOf p → coef* (factorsOf p) e r ≡ sign p r e
 
--- Base factor i, 0 for A, is high in a run exactly when the coefficient of its letter is -1.
+-- P5, R2: base factor i, 0 for A, is high in a run exactly when the coefficient of its letter is -1.
 abbrev pub BaseFactors : Type 0
 BaseFactors = (p : Plan) → TwoLevels p → (i r : ℕ) → i < p .k → factorSign p r i ≡ coef* (factorsOf p) (2 ^ i) r
 
--- The word of added factor j, counted from 0, is an effect of the base factors. With sign 0 the factor is high in a run exactly when the
+-- P7 to P9: the word of added factor j, counted from 0, is an effect of the base factors. With sign 0 the factor is high in a run exactly when the
 -- coefficient of its word is -1, and with sign 1 exactly when it is 1. The word is a 16-bit set, as the words of every plan that a call is given.
 abbrev pub AddedFactors : Type 0
 AddedFactors =
     (p : Plan) → TwoLevels p → (j r : ℕ) → j < length (addedWords p) → word p j < 2 ^ 16
     → (word p j < runsOf p) × (factorSign p r (p .k + j) ≡ turnIf (turned p j) (coef* (factorsOf p) (word p j) r))
 
--- A confounded effect is one of the plan's, and any two runs of one block have the same coefficient in it: it cannot be told from a
+-- R4, R6: a confounded effect is one of the plan's, and any two runs of one block have the same coefficient in it: it cannot be told from a
 -- difference between blocks.
 abbrev pub SameInBlock : Type 0
 SameInBlock =
     (p : Plan) → TwoLevels p → (e r s : ℕ) → confoundedIn p e ≡ true → block p r ≡ block p s
     → (e < runsOf p) × (coef* (factorsOf p) e r ≡ coef* (factorsOf p) e s)
 
--- An effect in which any two runs of one block have the same coefficient is the mean or confounded.
+-- R4, R6: an effect in which any two runs of one block have the same coefficient is the mean or confounded.
 abbrev pub OnlyConfounded : Type 0
 OnlyConfounded =
     (p : Plan) → TwoLevels p → (e : ℕ) → e < runsOf p
     → ((r s : ℕ) → r < runsOf p → s < runsOf p → block p r ≡ block p s → coef* (factorsOf p) e r ≡ coef* (factorsOf p) e s)
     → (e ≡ 0) ⊎ (confoundedIn p e ≡ true)
 
--- The base word of an effect of all factors is an effect of the base factors, and in every run the effect's sign is the coefficient of its
+-- E8 to E10: the base word of an effect of all factors is an effect of the base factors, and in every run the effect's sign is the coefficient of its
 -- base word, turned exactly where the alias call says that it turns.
 abbrev pub Aliases : Type 0
 Aliases =
     (p : Plan) → TwoLevels p → (e r : ℕ) → e < 2 ^ allLetters p
     → (base p e < runsOf p) × (sign p r e ≡ turnIf (turn p e) (coef* (factorsOf p) (base p e) r))
 
--- A total is the sum of the readings of the runs in which an even number of the effect's letters are high, less the sum of the others.
+-- T8: a total is the sum of the readings of the runs in which an even number of the effect's letters are high, less the sum of the others.
 abbrev pub Totals : Type 0
 Totals = (p : Plan) → TwoLevels p → (x : Column) (e : ℕ) → e < runsOf p → total (factorsOf p) x e ≡ contrastOf p x e
 
--- The contrast of an effect of all factors is the total of its base word, turned exactly where the alias call says so: the readings cannot
+-- E8 to E10: the contrast of an effect of all factors is the total of its base word, turned exactly where the alias call says so: the readings cannot
 -- tell two effects apart that have one base word.
 abbrev pub AliasTotals : Type 0
 AliasTotals =
     (p : Plan) → TwoLevels p → (x : Column) (e : ℕ) → e < 2 ^ allLetters p
     → contrastOf p x e ≡ turnIf (turn p e) (total (factorsOf p) x (base p e))
 
--- For one factor, i = 0 for A: the total of its letter is the sum of the runs in which it is not high, less the sum of the others.
+-- G3: for one factor, i = 0 for A: the total of its letter is the sum of the runs in which it is not high, less the sum of the others.
 abbrev pub MainEffects : Type 0
 MainEffects =
     (p : Plan) → TwoLevels p → (x : Column) (i : ℕ) → i < p .k
     → total (factorsOf p) x (2 ^ i) ≡ contrast (runsOf p) (λ r. not (has (high p r) i)) x
 
--- For any factor, base or added: the sum of the runs in which it is not high, less the sum of the others, is the total of its base word, turned
+-- E8 to E10, G3: for any factor, base or added: the sum of the runs in which it is not high, less the sum of the others, is the total of its base word, turned
 -- exactly where the alias call says so.
 abbrev pub AnyFactor : Type 0
 AnyFactor =
     (p : Plan) → TwoLevels p → (x : Column) (i : ℕ) → i < allLetters p
     → contrast (runsOf p) (λ r. not (has (high p r) i)) x ≡ turnIf (turn p (2 ^ i)) (total (factorsOf p) x (base p (2 ^ i)))
 
--- Where the run call gives an answer, the plan is accepted and has two levels, and the run is one of it; where the alias call gives one of a
+-- R7, N9, N10: where the run call gives an answer, the plan is accepted and has two levels, and the run is one of it; where the alias call gives one of a
 -- 16-bit set of letters, the same of the plan, and the letters are those of its factors.
 abbrev pub Answered : Type 0
 Answered =

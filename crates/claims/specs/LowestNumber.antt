@@ -3,7 +3,7 @@
 --   onPlan p further               the refusals of a call on a plan: the plan's own, and the call's
 --   onSheet fs narrow              those of a call on a sheet: refusal 1, the plan's own, and the sheet's
 --   onBytes sheet                  those of the print call: refusal 1 holds of a sheet that is too long, too
---   tableRefusalsC                    those of the table call for C: refusal 11 holds where figures or checks have no room, too
+--   tableRefusalsC                 those of the table call for C: refusal 11 holds where figures or checks have no room, too
 --   LowestNumber                   THE CLAIM, call by call
 use mathlib.Core.Bool.{Bool, false, _||_}
 use mathlib.Core.List.{List, [], _∷_, _++_}
@@ -61,8 +61,9 @@ pub record LowestNumber : Type 0 where
   pub estimate : (p : Plan) (e : ℕ) (t : ℤ) → Lowest (estimateRefused p e t) (onPlan p (estimateRefusals p e t))
   -- L9: "the pass 10, 11, 12"
   pub pass : (p : Plan) (f : ℕ) (column : List ℤ) → Lowest (passRefused p f column) (onPlan p (passRefusals p f column))
-  -- L10: "the step 11, 12", and the totals
+  -- L10: "the step 11, 12"
   pub step : (p : Plan) (from to : List ℤ) → Lowest (stepRefused p from to) (onPlan p (stepRefusals p from to))
+  -- the totals call is ours, with the step's refusals
   pub totals : (p : Plan) (readings column : List ℤ) → Lowest (totalsRefused p readings column) (onPlan p (totalsRefusals p readings column))
   -- L11: "the table 11, 12, 13"
   pub table : (p : Plan) (readings : List ℤ) (marks : List ℕ) (column : List ℤ) (rows : List ℕ)

@@ -1,9 +1,9 @@
--- C14: "The starred runs are proved as a single fact over a list of them." Each run is stated by what the calls promise: whole answers, and every
+-- C14: "The starred runs are proved as a single fact over a list of them": each run is stated by what the calls promise: whole answers, and every
 -- slice that is lent to write (`Promised.antt`).
 --
 --   Sum, Divisors            figures that the rules name beside a table: the sum of squares; the divisors, by the rule and as the table has them
 --   Said                     what a call gives, by the call
---   Run                      what the calls promise of a run, and what the rules say of it
+--   StarredRun               what the calls promise of a run, and what the rules say of it
 --   source, both             a source with its degrees and numerator; two check numbers that are equal
 --   tabled p readings marks  the table call, on slices that hold zeros
 --   numeratorsOf p totals    the numerators of the effects with these totals
@@ -58,7 +58,7 @@ pub data Said : Type 0 where
   estimate : Outcome Value → Said
   alias : Outcome (ℕ × Bool) → Said
 
-pub record Run : Type 0 where
+pub record StarredRun : Type 0 where
   pub gives : List Said
   pub says : List Said
 
@@ -105,7 +105,7 @@ fourSaid = record {
   rows = 400 ∷ 36 ∷ 16 ∷ 4 ∷ [];
 }
 
-abbrev fourReadings : Run
+abbrev fourReadings : StarredRun
 fourReadings = record {
   gives = table four
       ∷ numerators (numeratorsOf (plan 2 2 [] [] []) (four .totals))
@@ -136,7 +136,7 @@ threeSaid = record {
   rows = 200 ∷ 28 ∷ [];
 }
 
-abbrev threeLevels : Run
+abbrev threeLevels : StarredRun
 threeLevels = record {
   gives = table threeReadings ∷ numerators (numeratorsOf (plan 3 1 [] [] []) (threeReadings .totals)) ∷ [];
   says = table threeSaid ∷ numerators (200 ∷ 3 ∷ 25 ∷ []) ∷ [];
@@ -165,7 +165,7 @@ eightSaid = record {
   rows = 1296 ∷ 16 ∷ 64 ∷ 0 ∷ 256 ∷ 0 ∷ 0 ∷ 0 ∷ [];
 }
 
-abbrev inBlocks : Run
+abbrev inBlocks : StarredRun
 inBlocks = record {
   gives = table eight
       ∷ kinds (tab 8 (kindOf (plan 2 3 [] [] (ABC ∷ [])) (replicate 8 0)))
@@ -199,14 +199,14 @@ limitsSaid = record {
   rows = 0 ∷ 40_000_000_000 ∷ [];
 }
 
-abbrev atLimits : Run
+abbrev atLimits : StarredRun
 atLimits = record {
   gives = table limits ∷ estimate (promisedEstimate (plan 2 1 [] [] []) A (read (limits .totals) A)) ∷ [];
   says = table limitsSaid ∷ estimate (given (difference (fin true 3125 (pos 6)))) ∷ [];
 }
 
 -- X5: "k = 3, D = ABC: AD reduces to BC, unturned; with sign 1, turned."
-abbrev reduced : Run
+abbrev reduced : StarredRun
 reduced = record {
   gives = alias (promisedAlias (plan 2 3 (ABC ∷ []) (0 ∷ []) []) AD) ∷ alias (promisedAlias (plan 2 3 (ABC ∷ []) (1 ∷ []) []) AD) ∷ [];
   says = alias (given (BC, false)) ∷ alias (given (BC, true)) ∷ [];
@@ -219,7 +219,7 @@ nine = 9 ∷ 6 ∷ 18 ∷ 6 ∷ 4 ∷ 12 ∷ 18 ∷ 12 ∷ 36 ∷ []
 abbrev divisorsIn : Plan → Divisors
 divisorsIn p = record { by-digits = tab (runsOf p) (divisor* (factorsOf p)); divided-by = take (runsOf p) (effectDivisors p) }
 
-abbrev nineDivisors : Run
+abbrev nineDivisors : StarredRun
 nineDivisors = record {
   gives = divisors (divisorsIn (plan 3 2 [] [] [])) ∷ [];
   says = divisors (record { by-digits = nine; divided-by = nine }) ∷ [];
@@ -229,7 +229,7 @@ nineDivisors = record {
 abbrev twoBlockWords : Plan
 twoBlockWords = plan 2 4 [] [] (AD ∷ ABC ∷ [])
 
-abbrev combination : Run
+abbrev combination : StarredRun
 combination = record {
   gives = check (promisedCheck twoBlockWords)
       ∷ estimate (promisedEstimate twoBlockWords AD (pos 0))
@@ -241,13 +241,13 @@ combination = record {
 }
 
 -- X8: the small inputs of N7 and N8, AB with AB and AB with ABC, with k = 3
-abbrev lostFactor : Run
+abbrev lostFactor : StarredRun
 lostFactor = record {
   gives = check (promisedCheck (plan 2 3 [] [] (AB ∷ AB ∷ []))) ∷ check (promisedCheck (plan 2 3 [] [] (AB ∷ ABC ∷ []))) ∷ [];
   says = check (refused 7) ∷ check (refused 8) ∷ [];
 }
 
-abbrev pub starredRuns : List Run
+abbrev pub starredRuns : List StarredRun
 starredRuns = fourReadings ∷ threeLevels ∷ inBlocks ∷ atLimits ∷ reduced ∷ nineDivisors ∷ combination ∷ lostFactor ∷ []
 
 -- ---- the claim

@@ -5,7 +5,8 @@
 -- named below; each is one that the call can be handed, and what is promised of it is computed.
 --
 --   PassCall, TableCall               what a pass call and a table call are, from their inputs to what they leave
---   KeepsCheck, .. , KeepsPrint      to keep a call's promise: to come to the same for every input
+--   KeepsCheck, KeepsPass, KeepsTotals, KeepsTable, KeepsEstimate, KeepsMarks, KeepsPrint
+--                                     to keep a call's promise: to come to the same for every input
 --   refusesPlans, refusesTables       refuse every plan, with any numbers
 --   constantText, constantTable       print one text for every sheet, or for every sheet that is accepted
 --   figuresBy, constantFigures        the table call with figures of its own; with the same figures for all
@@ -19,7 +20,8 @@
 --   inventedChecks                    and with one invented number for both checks
 --   lostAlways, lostForEvery          answer lost for every effect, or for every one that is not refused
 --   emptyPart                         gives an empty part for every sheet
---   four, readings, .. , blank        the named inputs; the sheets are those of `printing/specs/Examples.antt`
+--   four, readings, fourTotals, zeros, allKept, pooled, threeLevels, threeReadings, blank
+--                                     the named inputs; the sheets are those of `printing/specs/Examples.antt`
 --   WrongPrograms                     THE CLAIM
 use mathlib.Core.Path.{_≡_}
 use mathlib.Core.Bool.{cond}

@@ -5,7 +5,7 @@ use Prim.Native.Nat.{suc, min}
 use Rattle.contrasts.specs.Limits.{mostAdded, mostBlocks}
 use Rattle.plan.specs.declared.types.Plan.{Plan}
 
--- "over 6 added, over 4 block words" stays so
+-- N4: "over 6 added, over 4 block words" stays so
 unfoldable pub held : Plan → Plan
 held p = record {
   levels = p .levels;

@@ -9,7 +9,8 @@ use Rattle.algebra.specs.Sum.{Σ}
 use Rattle.contrasts.specs.Factor.{Factor}
 use Rattle.contrasts.specs.Totals.{Column}
 
--- T22: at three levels these are the numbers 3, -1 and 1 of "3 times first minus middle plus third"
+-- T21: at two levels these are 2 and 0
+-- T22: at three levels they are the numbers 3, -1 and 1 of "3 times first minus middle plus third"
 unfoldable pub checkWeight : Factor → ℕ → ℤ
 checkWeight F j = Σ (F .levels) (λ d. F .coef d j)
 

@@ -30,7 +30,7 @@ divisorOf t d = getD (t .divisors) d 0
 abbrev pub neg : ℕ → ℤ
 neg n = negℤ (pos n)
 
--- T9: "(1, 1) or (1, -1) at two levels"; T15: "2 to the power k at two levels"
+-- T9: "(1, 1) or (1, -1) at two levels"; T15, T18: "2 to the power k at two levels"
 abbrev pub twoCoding : Coding
 twoCoding = record {
   rows = (pos 1 ∷ pos 1 ∷ [])
@@ -40,7 +40,7 @@ twoCoding = record {
   common = 2;
 }
 
--- T9: "(1, 1, 1), (1, 0, -1) or (1, -2, 1) at three"; T15: "at three levels the product of 3, 2 or 6 by digit"
+-- T9: "(1, 1, 1), (1, 0, -1) or (1, -2, 1) at three"; T15: "at three levels the product of 3, 2 or 6 by digit"; T18: 6
 abbrev pub threeCoding : Coding
 threeCoding = record {
   rows = (pos 1 ∷ pos 1 ∷ pos 1 ∷ [])
@@ -51,7 +51,7 @@ threeCoding = record {
   common = 6;
 }
 
--- F9: "Four levels: (1,1,1,1), (3,1,-1,-3), (1,-1,-1,1), (1,-3,3,-1), divisors 4, 20, 4, 20."
+-- F9, of the request for mixed levels: "Four levels: (1,1,1,1), (3,1,-1,-3), (1,-1,-1,1), (1,-3,3,-1), divisors 4, 20, 4, 20."
 abbrev pub fourCoding : Coding
 fourCoding = record {
   rows = (pos 1 ∷ pos 1 ∷ pos 1 ∷ pos 1 ∷ [])
@@ -63,7 +63,7 @@ fourCoding = record {
   common = 20;
 }
 
--- F9: "Five levels: (1,1,1,1,1), (2,1,0,-1,-2), (2,-1,-2,-1,2), (1,-2,0,2,-1), (1,-4,6,-4,1), divisors 5, 10, 14, 10, 70."
+-- F9, of the request for mixed levels: "Five levels: (1,1,1,1,1), (2,1,0,-1,-2), (2,-1,-2,-1,2), (1,-2,0,2,-1), (1,-4,6,-4,1), divisors 5, 10, 14, 10, 70."
 abbrev pub fiveCoding : Coding
 fiveCoding = record {
   rows = (pos 1 ∷ pos 1 ∷ pos 1 ∷ pos 1 ∷ pos 1 ∷ [])

@@ -1,7 +1,8 @@
 -- The report's own step, over any list of factors.
 --
---   sets, step N F x    the report's own step over a column of N
---   steps N Fs x        a step for each factor, one after the other
+--   sets N F        how many sets of successive values a column of N has
+--   step N F x      the report's own step over it
+--   steps N Fs x    a step for each factor, one after the other
 use mathlib.Core.List.{List, [], _∷_}
 use Prim.Native.Nat.{ℕ, _+_, _*_, _/_, _%_}
 use lib.IntN.{_*ℤ_}

@@ -23,6 +23,7 @@ use Rattle.anova.specs.Table.{tableRefused, tableFigures, rowsOf}
 
 -- ---- the numbers
 
+-- V13
 abbrev pub figureNumbers : Figures → List ℕ
 figureNumbers f =
     f .denominator
@@ -43,6 +44,7 @@ checkNumbers f = f .checks .totals ∷ f .checks .readings ∷ []
 
 -- ---- what is refused
 
+-- N11, of slices that the rules do not know
 unfoldable pub wrongRoom : ℕ → ℕ → Bool
 wrongRoom figures checks = not (eqb figures 11) || not (eqb checks 2)
 

@@ -30,7 +30,7 @@ first rest (t ∷ h ∷ l ∷ bytes) =
     (field t (take (big (h ∷ l ∷ [])) bytes) (rest (drop (big (h ∷ l ∷ [])) bytes)))
     cut
 
--- the fields of at most n bytes; n bounds the steps, and any n from the number of bytes on gives the same (`Laws/Steps.antt` `enough`)
+-- the fields of at most n bytes; n bounds the steps, and any n from the number of bytes on gives the same (`Laws/Enough.antt` `enough`)
 unfoldable pub parse : ℕ → List ℕ → Fields
 parse zero bytes = first (λ rest. cut) bytes
 parse (suc n) bytes = first (parse n) bytes

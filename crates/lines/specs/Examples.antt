@@ -1,4 +1,8 @@
 -- The lines of the rules' example, and others, computed over the definitions.
+--
+--   over-line, mean-line, error-line, total-line    lines of W4
+--   blocks-line                                     a row that is lost to blocks
+--   negative-check                                  a check number below 0
 use mathlib.Core.Path.{_≡_, refl}
 use lib.IntN.{pos, negsuc}
 use Rattle.text.specs.Text.{ascii}

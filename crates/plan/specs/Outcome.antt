@@ -1,4 +1,4 @@
--- What every call answers: its values, or the number of its refusal, "the lowest number that applies".
+-- What every call answers: its values, or the number of its refusal, "The lowest number that applies".
 --
 --   Refusal, lowest         a refusal: its number, and whether its condition holds; the number of the first that holds
 --   rising last refusals    the numbers of the refusals rise, from above `last` on

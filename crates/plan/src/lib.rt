@@ -6,6 +6,8 @@
 //   bad_levels(levels)       refusal 2 by itself
 //   bad_factors(levels, k)   refusal 3 by itself
 //   confounded(p, word)      whether the effect of a word is lost to blocks
+//
+//   Plan, Check              a plan, and the check's answer
 mod blocks;
 mod checks;
 mod conditions;

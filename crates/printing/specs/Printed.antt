@@ -26,7 +26,7 @@ use Rattle.anova.specs.Table.{tableFigures, rowsOf}
 
 -- ---- the table
 
--- W7
+-- W5 to W7
 abbrev pub lineOfRow : Plan → List ℕ → List ℕ → ℕ → List ℕ
 lineOfRow p marks rows w = rowLine w (degreesOf (factorsOf p) w) (getD rows w 0) (kindOf p marks w)
 
@@ -64,7 +64,7 @@ sheetTable sheet =
 abbrev pub longestSheet : ℕ
 longestSheet = 5187
 
--- W2: else the number is that of the sheet; there is no column that could be too narrow
+-- W2, W3, L6: else the number is that of the sheet; there is no column that could be too narrow
 unfoldable pub printRefused : List ℕ → ℕ
 printRefused sheet = cond (ltb longestSheet (length sheet)) 1 (marksRefused sheet)
 

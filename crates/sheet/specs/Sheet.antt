@@ -25,7 +25,7 @@ use Rattle.contents.specs.Contents.{planIn, readingsIn, marksIn}
 
 -- ---- what is refused
 
--- L5: "the reader gives 1, 11, 12, 13"
+-- L5, L6: "the reader gives 1, 11, 12, 13"
 -- N11: "readings [..] or marks not N, [..] R long; [..] reader's column under N", where `narrow` says the last
 abbrev pub sheetRefusals : Fields → Plan → Bool → List Refusal
 sheetRefusals fs p narrow =
@@ -34,7 +34,7 @@ sheetRefusals fs p narrow =
     ∷ refusal 13 (badMarks p (marksIn fs))
     ∷ []
 
--- L5: refusal 1 before all others, then the plan's own numbers, then these
+-- L1, L4 to L6: refusal 1 before all others, then the plan's own numbers, then these
 unfoldable pub refusedWith : Fields → Plan → Bool → ℕ
 refusedWith fs p narrow = cond (badFields fs) 1 (withPlan p (sheetRefusals fs p narrow))
 

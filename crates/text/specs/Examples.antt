@@ -1,4 +1,9 @@
 -- Small texts, computed over the definitions.
+--
+--   row-AC, all-letters      letters of a row
+--   nothing, hundred, most   numbers: 0, 100, and the limit of numerators
+--   below, zero-unsigned     values: below 0, and 0, which has no sign
+--   within, cut-short        bytes written in the middle of a buffer, and at its end
 use mathlib.Core.Path.{_≡_, refl}
 use lib.IntN.{pos, negsuc}
 use lib.Seq.{sets}

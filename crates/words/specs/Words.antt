@@ -26,7 +26,7 @@ letter w i = bit w i
 abbrev pub has : ℕ → ℕ → Bool
 has w i = isSet w i
 
--- P6
+-- P7, N5: how many letters a word has
 unfoldable pub letters : ℕ → ℕ
 letters w = Σℕ 16 (letter w)
 
@@ -43,7 +43,7 @@ odd n = eqb (n % 2) 1
 unfoldable pub shared : ℕ → ℕ → ℕ
 shared a b = Σℕ 16 (λ i. letter a i * letter b i)
 
--- P8: "an odd number of its word's letters are high": of the run's letters that are high, and the word's
+-- P8, R4: "an odd number of its word's letters are high": of the run's letters that are high, and the word's
 unfoldable pub oddIn : ℕ → ℕ → Bool
 oddIn run w = odd (shared run w)
 

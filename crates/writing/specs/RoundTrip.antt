@@ -24,7 +24,7 @@ abbrev pub AllBytes : List ℕ → Type 0
 AllBytes [] = Unit
 AllBytes (b ∷ bs) = (b < 256) × AllBytes bs
 
--- "A word is a 16-bit set of base letters"; 6 places for added factors, 4 for block words
+-- P6: "A word is a 16-bit set of base letters"; P3: 6 places for added factors, 4 for block words
 pub record Shaped (p : Plan) : Type 0 where
   pub words-long : length (p .words) ≡ 6
   pub signs-long : length (p .signs) ≡ 6

@@ -1,4 +1,4 @@
--- "the column falls into consecutive stretches ... and each stretch is worked by itself. In it, values ... places apart belong together."
+-- T6, T7: "the column falls into consecutive stretches [..] and each stretch is worked by itself. In it, values [..] places apart belong together."
 --
 --   pass-is            the pass of a position is the pass of its factor at that spacing
 --   pass-value         what the pass writes at the place p + d s, where p is the place of stretch q at the offset i

@@ -2,6 +2,7 @@
 --
 --   combination, the-combination          a test holds of some combination where it holds of one, and then there is one
 --   no-combination, each-fails            it holds of none where it fails at each, and then it fails at each
+--   at ws f c                             the test f at a choice of words, which must choose one
 --   Trying ws f c                         a loop over the choices has found none below c
 --   trying, try-more, tried, tried-all    at its start, at its next turn, where it finds one, at its end
 use mathlib.Core.Path.{_≡_, refl, sym, _∙_}

@@ -83,10 +83,10 @@ module _ (p : Plan) (xs : List ℤ) (marks : List ℕ) where
 
   pub record Bodies : Type 0 where
     pub ones : bodies 1 (sheetFields p xs marks) ≡ (p .levels ∷ p .k ∷ []) ∷ []
-    pub twos : bodies 2 (sheetFields p xs marks) ≡ bodies 2 (each 2 (p .added) (addedBody p) after-added)
-    pub no-twos : bodies 2 after-added ≡ []
-    pub threes : bodies 3 (sheetFields p xs marks) ≡ bodies 3 after-added
-    pub no-threes : bodies 3 after-blocks ≡ []
+    pub added-bodies : bodies 2 (sheetFields p xs marks) ≡ bodies 2 (each 2 (p .added) (addedBody p) after-added)
+    pub no-more-added : bodies 2 after-added ≡ []
+    pub block-bodies : bodies 3 (sheetFields p xs marks) ≡ bodies 3 after-added
+    pub no-more-blocks : bodies 3 after-blocks ≡ []
     pub fours : bodies 4 (sheetFields p xs marks) ≡ readingBytes xs ∷ []
     pub fives : bodies 5 (sheetFields p xs marks) ≡ marks ∷ []
 
@@ -98,10 +98,10 @@ module _ (p : Plan) (xs : List ℤ) (marks : List ℕ) where
   unfolding sheetFields bodies
   the-bodies = record {
     ones = ap (λ bs. (p .levels ∷ p .k ∷ []) ∷ bs) (others 1 (λ e. omega (arith, e)) (λ e. omega (arith, e)));
-    twos = refl;
-    no-twos = each-other 3 (p .blocks) (blockBody p) after-blocks 2 (λ e. omega (arith, e));
-    threes = each-other 2 (p .added) (addedBody p) after-added 3 (λ e. omega (arith, e));
-    no-threes = refl;
+    added-bodies = refl;
+    no-more-added = each-other 3 (p .blocks) (blockBody p) after-blocks 2 (λ e. omega (arith, e));
+    block-bodies = each-other 2 (p .added) (addedBody p) after-added 3 (λ e. omega (arith, e));
+    no-more-blocks = refl;
     fours = others 4 (λ e. omega (arith, e)) (λ e. omega (arith, e));
     fives = others 5 (λ e. omega (arith, e)) (λ e. omega (arith, e));
   }
@@ -140,11 +140,11 @@ unfolding planIn settled bodyAt
 plan-back p xs marks s = λ i. record {
   levels = ap (λ bs. byteAt 0 (getD bs 0 [])) (b .ones) i;
   k = ap (λ bs. byteAt 1 (getD bs 0 [])) (b .ones) i;
-  added = counted 2 (p .added) (addedBody p) _ (b .twos) (b .no-twos) i;
-  words = placed 2 (p .added) 6 (addedBody p) _ wordIn (λ j. getD (p .words) j 0) (b .twos) (b .no-twos) no-word (λ j. word-of (getD (p .words) j 0) _ (s .words-fit j)) i;
-  signs = placed 2 (p .added) 6 (addedBody p) _ (byteAt 2) (λ j. getD (p .signs) j 0) (b .twos) (b .no-twos) refl (λ j. sign-of (getD (p .words) j 0) (getD (p .signs) j 0)) i;
-  blocks = counted 3 (p .blocks) (blockBody p) _ (b .threes) (b .no-threes) i;
-  blockwords = placed 3 (p .blocks) 4 (blockBody p) _ wordIn (λ j. getD (p .blockwords) j 0) (b .threes) (b .no-threes) no-word (λ j. block-of (getD (p .blockwords) j 0) (s .blockwords-fit j)) i;
+  added = counted 2 (p .added) (addedBody p) _ (b .added-bodies) (b .no-more-added) i;
+  words = placed 2 (p .added) 6 (addedBody p) _ wordIn (λ j. getD (p .words) j 0) (b .added-bodies) (b .no-more-added) no-word (λ j. word-of (getD (p .words) j 0) _ (s .words-fit j)) i;
+  signs = placed 2 (p .added) 6 (addedBody p) _ (byteAt 2) (λ j. getD (p .signs) j 0) (b .added-bodies) (b .no-more-added) refl (λ j. sign-of (getD (p .words) j 0) (getD (p .signs) j 0)) i;
+  blocks = counted 3 (p .blocks) (blockBody p) _ (b .block-bodies) (b .no-more-blocks) i;
+  blockwords = placed 3 (p .blocks) 4 (blockBody p) _ wordIn (λ j. getD (p .blockwords) j 0) (b .block-bodies) (b .no-more-blocks) no-word (λ j. block-of (getD (p .blockwords) j 0) (s .blockwords-fit j)) i;
 }
   where
     b : Bodies p xs marks
