@@ -39,9 +39,8 @@ use Rattle.rows.specs.Kinds.{rowsIn, kindOf, codeOf, kindIn, kindsOf}
 use Rattle.rows.specs.Laws.Kinds.{four-kinds, code-in}
 use Rattle.rows.specs.Laws.Rows.{rows-few}
 use Rattle.anova.specs.declared.walks.Sums.{Sums}
-use Rattle.anova.specs.Laws.Admitted.{rows-power, limit-fits, within-limit}
+use Rattle.anova.specs.Laws.Admitted.{rows-power, limit-fits, within-limit, TableReady}
 use Rattle.anova.specs.Inner.Ready.{Walkable}
-use Rattle.anova.specs.Laws.Admitted.{TableReady}
 use Rattle.anova.specs.Table.{sourceOf, rowsOf}
 use Rattle.anova.specs.Inner.Walk.{walkNumerator, walkRow, walkKind, rowsAfter, numeratorsAfter, degreesAfter, Walked, zeros, sumsOf}
 

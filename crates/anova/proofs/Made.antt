@@ -41,9 +41,8 @@ use Rattle.rows.specs.Laws.Rows.{rows-few}
 use Rattle.anova.specs.declared.types.Source.{Source}
 use Rattle.anova.specs.declared.types.Figures.{Figures}
 use Rattle.anova.specs.declared.walks.Sums.{Sums}
-use Rattle.anova.specs.Laws.Admitted.{within-limit, limit-fits}
+use Rattle.anova.specs.Laws.Admitted.{within-limit, limit-fits, TableReady}
 use Rattle.anova.specs.Inner.Ready.{SquaresFit, Checkable}
-use Rattle.anova.specs.Laws.Admitted.{TableReady}
 use Rattle.anova.specs.Table.{sourceOf, totalSource, checksOf, tableFigures}
 use Rattle.anova.specs.Inner.Walk.{squaresOf, sumsOf}
 

@@ -13,9 +13,8 @@ use lib.IntN.{ℤ}
 use lib.ListN.{length}
 use Rattle.plan.specs.declared.types.Plan.{Plan}
 use Rattle.plan.specs.Check.{planRefusals, planRefused}
-use Rattle.plan.specs.Outcome.{Refusal, refusal}
+use Rattle.plan.specs.Outcome.{Refusal, refusal, Lowest}
 use Rattle.plan.specs.Plan.{runsOf}
-use Rattle.plan.specs.Outcome.{Lowest}
 use Rattle.contrasts.specs.Limits.{readingLimit}
 use Rattle.columns.specs.Refusals.{anyBeyond}
 use Rattle.rows.specs.Kinds.{badMarks}

@@ -24,8 +24,7 @@ use Rattle.plan.specs.declared.types.Plan.{Plan}
 use Rattle.plan.specs.Plan.{factorsOf, runsOf}
 use Rattle.rows.specs.Kinds.{rowsIn, Kind, meanRow, blocksRow, errorRow, keptRow, kindOf, same}
 use Rattle.anova.specs.declared.types.Figures.{Figures}
-use Rattle.anova.specs.Table.{tableRefused, tableFigures, tableTotals, tableRows, rowsOf}
-use Rattle.anova.specs.Table.{SourceWithin}
+use Rattle.anova.specs.Table.{tableRefused, tableFigures, tableTotals, tableRows, rowsOf, SourceWithin}
 
 -- V6 to V10: "Row 0 is the mean. Confounded rows are blocks. Rows with mark 1 are error; mark 0 keeps any other row. Each of these four adds up the
 -- degrees and numerators of its rows."

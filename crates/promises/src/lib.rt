@@ -16,8 +16,7 @@ ghost use Rattle.aliases.specs.Alias.{aliasOutcome};
 ghost use Rattle.columns.specs.Refusals.{answerOutcome};
 ghost use Rattle.anova.specs.Table.{tableOutcome};
 ghost use Rattle.estimates.specs.Estimate.{estimateOutcome};
-ghost use Rattle.promises.specs.Promised.{promisedCheck, promisedRun, promisedAlias};
-ghost use Rattle.promises.specs.Promised.{promisedPass, promisedStep, promisedTotals, promisedTable, promisedEstimate};
+ghost use Rattle.promises.specs.Promised.{promisedCheck, promisedRun, promisedAlias, promisedPass, promisedStep, promisedTotals, promisedTable, promisedEstimate};
 ghost use Rattle.promises.specs.Promised.{promisedRead, promisedMarks, promisedPrint};
 
 fn check(p: Plan) -> Check

@@ -34,10 +34,8 @@ use Rattle.plan.specs.declared.types.Plan.{Plan}
 use Rattle.plan.specs.Plan.{factorsOf, runsOf}
 use Rattle.plan.specs.Laws.Sizes.{plan-within}
 use Rattle.rows.specs.Kinds.{rowsIn, Kind, kindOf, same}
-use Rattle.anova.specs.Laws.Admitted.{TableReady}
-use Rattle.anova.specs.Table.{sourceOf, totalSource, checksOf}
-use Rattle.anova.specs.Laws.Admitted.{rows-power, within-limit}
-use Rattle.anova.specs.Table.{SourceWithin}
+use Rattle.anova.specs.Laws.Admitted.{TableReady, rows-power, within-limit}
+use Rattle.anova.specs.Table.{sourceOf, totalSource, checksOf, SourceWithin}
 
 module _ {p : Plan} {readings : List ℤ} {marks : List ℕ} {totals : List ℤ} {rows : List ℕ} (a : TableReady p readings marks totals rows) where
   -- ---- what all rows add up to

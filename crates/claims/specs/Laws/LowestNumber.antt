@@ -10,9 +10,8 @@ use lib.IntN.{ℤ}
 use lib.ListN.{length}
 use Rattle.plan.specs.declared.types.Plan.{Plan}
 use Rattle.plan.specs.Check.{planRefusals, planRefused, withPlan}
-use Rattle.plan.specs.Outcome.{Refusal, refusal, lowest}
+use Rattle.plan.specs.Outcome.{Refusal, refusal, lowest, Lowest}
 use Rattle.plan.specs.Plan.{runsOf}
-use Rattle.plan.specs.Outcome.{Lowest}
 use Rattle.plan.specs.Laws.Lowest.{is-lowest, with-plan, lowest-with-plan}
 use Rattle.contrasts.specs.Limits.{readingLimit}
 use Rattle.columns.specs.Refusals.{anyBeyond, columnsRefused}

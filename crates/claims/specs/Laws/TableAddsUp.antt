@@ -22,9 +22,8 @@ use Rattle.plan.specs.Plan.{factorsOf, runsOf}
 use Rattle.plan.specs.Laws.Answers.{written-new}
 use Rattle.rows.specs.Kinds.{rowsIn, Kind, meanRow, blocksRow, errorRow, keptRow, kindOf, codeOf, same}
 use Rattle.rows.specs.Laws.Kinds.{four-kinds}
-use Rattle.anova.specs.Laws.Admitted.{TableReady}
+use Rattle.anova.specs.Laws.Admitted.{TableReady, table-admitted}
 use Rattle.anova.specs.Table.{tableRefused, sourceOf, totalSource, checksOf, tableFigures, tableTotals, tableRows, rowsOf}
-use Rattle.anova.specs.Laws.Admitted.{table-admitted}
 use Rattle.anova.specs.Laws.Within.{all-rows, all-degrees, fit, some-within, row-within, kind-within, total-source-within, total-within-limit, checks-within}
 use Rattle.claims.specs.TableAddsUp.{ofKind, Formed, AddsUp, NoneBeyond, TableAddsUp}
 

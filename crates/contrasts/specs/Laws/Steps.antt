@@ -7,8 +7,7 @@
 use mathlib.Core.Path.{_≡_, sym, _∙_, ap}
 use mathlib.Core.List.{List, [], _∷_}
 use Prim.Native.Nat.{ℕ, _+_, _*_, _/_, _%_, _<_}
-use native.Mathlib.Nat.{mul-comm, mul-assoc, mul-one, mul-pos, zero-mul, mul-div-right, div-div-eq-div-mul, div-one, mod-one, mod-lt}
-use native.Mathlib.Nat.{mod-eq-of-lt, add-zero, zero-add}
+use native.Mathlib.Nat.{mul-comm, mul-assoc, mul-one, mul-pos, zero-mul, mul-div-right, div-div-eq-div-mul, div-one, mod-one, mod-lt, mod-eq-of-lt, add-zero, zero-add}
 use native.Mathlib.Omega.{arith}
 use lib.Arith.{digits-div, digits-mod, digits-lt, mod-mul}
 use lib.Dec.{lit<}

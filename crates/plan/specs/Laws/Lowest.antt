@@ -12,9 +12,8 @@ use borrow.Author.Tests.{eq-eqb, ne-eqb}
 use lib.Dec.{T, eqb, ltb, ltb→lt}
 use Rattle.algebra.specs.Laws.Tests.{and-left, and-right}
 use Rattle.plan.specs.declared.types.Plan.{Plan}
-use Rattle.plan.specs.Outcome.{Refusal, refusal, lowest, rising, applies}
+use Rattle.plan.specs.Outcome.{Refusal, refusal, lowest, rising, applies, Lowest}
 use Rattle.plan.specs.Check.{planRefusals, planRefused, withPlan}
-use Rattle.plan.specs.Outcome.{Lowest}
 
 -- ---- refusals whose numbers rise
 

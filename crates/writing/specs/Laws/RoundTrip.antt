@@ -37,11 +37,9 @@ use Rattle.writing.specs.Writer.{bytes, readingBytes, addedBody, blockBo
 use Rattle.writing.specs.Laws.Back.{read-back}
 use Rattle.writing.specs.Laws.Each.{each-whole, each-fine}
 use Rattle.writing.specs.Laws.Plans.{settled-alike, settled-same, Bodies, the-bodies, plan-back}
-use Rattle.writing.specs.RoundTrip.{Clean}
-use Rattle.writing.specs.RoundTrip.{AllBytes}
+use Rattle.writing.specs.RoundTrip.{Clean, AllBytes, Sheetable, ReadBack}
 use Rattle.writing.specs.Laws.Plain.{plain-append, plain-list, plain-bytes, plain-readings, plain-fields, plain-each}
 use Rattle.writing.specs.Laws.Readings.{reading-bytes-length, readings-back}
-use Rattle.writing.specs.RoundTrip.{Sheetable, ReadBack}
 
 module _ {p : Plan} {xs : List ℤ} {marks : List ℕ} (g : Sheetable p xs marks) where
   abbrev fs : Fields
