@@ -3,7 +3,7 @@
 #
 #   crates/worked_plans/stdout    the plans of AMCP 706-112, Tables 12-3 and 12-4: published/amcp.py
 #   crates/worked_totals/stdout   steps, totals and passes of the published examples: published/examples.py
-#   crates/worked_answers/stdout  refusals of the table call, and estimates: cases/answers.py
+#   crates/worked_answers/stdout  refusals of the table call, estimates and aliases: cases/answers.py
 #   crates/worked_answers/stdin   the records of these, which that program reads
 #   crates/worked_sheets/stdout   answers of the two calls that take a sheet: cases/sheet_cases.py
 #   crates/worked_sheets/stdin    the sheets, which that program reads
@@ -13,8 +13,8 @@
 #   crates/factab/stdin           the sheet of that text, which that program reads
 #
 # Each of these files also checks what it lists against rules/. Beside them published/analyses.py compares published
-# analyses of variance with rules/table.py, and cases/csv_cases.py tries tools/csv_sheet.py and compares the sheets of
-# examples/ with the lines that they are made from.
+# analyses of variance with rules/table.py, published/daniel.py published aliases with rules/totals.py, and
+# cases/csv_cases.py tries tools/csv_sheet.py and compares the sheets of examples/ with the lines that they are made from.
 #
 # Defined here:
 #   PROGRAMS, INPUTS, OTHERS   which file makes and checks what
@@ -27,7 +27,7 @@ ROOT = Path(__file__).resolve().parent.parent
 sys.path.insert(0, str(ROOT))
 
 from reference.cases import answers, csv_cases, sheet_cases, text_cases
-from reference.published import amcp, analyses, examples
+from reference.published import amcp, analyses, daniel, examples
 
 # Each program with the reference file that makes what it must write.
 PROGRAMS = [
@@ -46,7 +46,7 @@ INPUTS = [
 ]
 
 # Reference files beside these that have something to check.
-OTHERS = [analyses, csv_cases]
+OTHERS = [analyses, daniel, csv_cases]
 
 
 def path_of(module):

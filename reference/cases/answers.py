@@ -1,19 +1,25 @@
-# Inputs of the table call that are refused, and inputs of the estimate call with their outcomes. Each is listed with the
-# answer that the rules give; check() compares it with what rules/table.py answers. And the input and the expected text of
-# the program worked_answers, which tries them.
+# Inputs of the table call that are refused, and inputs of the estimate and of the alias call with their outcomes. Each is
+# listed with the answer that the rules give; check() compares it with what rules/table.py and rules/totals.py answer. And
+# the input and the expected text of the program worked_answers, which tries them.
 #
-# The program reads records, one for each refusal and then one for each estimate: length, a byte, and so many bytes. These
-# are a sheet, which for an estimate has no readings and no marks, and a field 6 of what else the call takes: for a table
-# how many totals and rows are lent, a byte each; for an estimate the effect, two bytes, and its total, eight bytes in two's
-# complement, all big-endian.
+# The program reads records, one for each refusal, then one for each estimate, then one for each alias: length, a byte, and
+# so many bytes. These are a sheet, which has readings and marks for a table alone, and a field 6: the call, a byte, 1 for
+# the table, 2 for the estimate, 3 for the alias, and what else the call takes. For a table it is how many totals and rows
+# are lent, a byte each; for an estimate the effect, two bytes, and its total, eight bytes in two's complement; for an alias
+# the effect, two bytes; all big-endian.
 #
 # The program writes a line for each record. Of a table it is `refused` with the number, or `made`; then `unchanged` where
 # all totals and rows hold what they held before the call, else `changed`. Of an estimate it is the outcome, a double as the
-# number that its 64 bits are.
+# number that its 64 bits are. Of an alias it is `reduced` with the base word as a number, then `turned` or `unturned`; or
+# `refused` with the number.
+#
+# Signs: differences and aliases are high minus low, as AMCP and Daniel print them. The report prints low minus high, so its
+# differences have the other sign where the effect has an odd number of letters; totals are the report's.
 #
 # Defined here:
 #   REFUSALS         refused inputs of the table call: every refusal of the rules, and inputs to which several apply
 #   ESTIMATES        inputs of the estimate call: a plan, an effect and a total
+#   ALIASES          inputs of the alias call: a plan and an effect of all factors
 #   check            list of complaints, empty if all is well
 #   expected_text    the expected text
 #   inputs           the input of the program (answers.py inputs)
@@ -26,12 +32,12 @@ from os.path import abspath, dirname
 
 sys.path.insert(0, dirname(dirname(dirname(abspath(__file__)))))
 
-from reference.published import examples
-from reference.published.analyses import FOUR_BLOCKS, SIX_ADDED, TEN, TEN_BLOCKED
+from reference.published import daniel, examples
+from reference.published.analyses import TEN, TEN_ADDED, TEN_BLOCKED
 from reference.rules import sheet_bytes
 from reference.rules import table as table_rules
 from reference.rules import totals as totals_rules
-from reference.rules.table import row_number
+from reference.rules.table import row_label, row_number
 from reference.rules.totals import Plan
 
 Refusal = namedtuple("Refusal", "number why plan readings marks totals_length rows_length")
@@ -39,9 +45,13 @@ Refusal = namedtuple("Refusal", "number why plan readings marks totals_length ro
 # outcome: "mean", "difference" and the quotient, "lost", or "refused" and the number.
 Estimate = namedtuple("Estimate", "plan effect total outcome")
 
-# The most readings, totals and rows that the program can lend, and the tag of the field of what else a call takes.
+# outcome: "reduced", the letters of the base word and "turned" or "unturned", or "refused" and the number.
+Alias = namedtuple("Alias", "plan effect outcome")
+
+# The most readings, totals and rows that the program can lend; the tag of the field that names the call, and the calls.
 MOST_LENT = 8
 REST = 6
+TABLE, ESTIMATE, ALIAS = 1, 2, 3
 
 
 # ---- refusals of the table call ----
@@ -129,53 +139,92 @@ REPORT_TOTALS = "747 -111 -189 -11 -17 81 -97 117 -7 71 153 -21 165 215 -115 -21
 REPORT_DIFFERENCES = ("93.375 -13.875 -23.625 -1.375 -2.125 10.125 -12.125 14.625 -0.875 8.875 19.125 -2.625 20.625 26.875 "
                       "-14.375 -2.625")
 
+# AMCP, 12-2.2.1, step 5: what it prints of the estimated effects of Data Sample 12-2, rounded.
+AMCP_ROUNDED = {"A": "-1.6", "AD": "-0.3"}
+
+
+def high_minus_low(effect, figure):
+    """A figure of the report, which is low minus high, with the sign that the trade prints."""
+    return -figure if totals_rules.letter_count(effect) % 2 else figure
+
 
 def report_estimates():
-    """The report's column of differences; the mean is half of its first figure."""
+    """The report's column of differences, with the signs of the trade; the mean is half of its first figure."""
     found = []
     for effect, (total, printed) in enumerate(zip(REPORT_TOTALS.split(), REPORT_DIFFERENCES.split())):
-        outcome = "difference " + printed if effect else "mean 46.6875"
+        outcome = "difference %s" % high_minus_low(effect, Fraction(printed)) if effect else "mean 46.6875"
         found.append(Estimate(Plan(2, 4), effect, int(total), outcome))
     return found
 
 
+def printed_totals(example):
+    """The totals that AMCP prints, with its signs, in whole units of the readings."""
+    column = next(printed for printed in example.printed if printed.kind == example.k)
+    return [Fraction(figure) * 10 ** example.places for figure in column.text.split()]
+
+
+def amcp_estimates(example):
+    """The totals that the rules make of AMCP's readings, each with the outcome by the total that AMCP prints."""
+    k = example.k
+    totals = totals_rules.totals(2, k, examples.whole_readings(example))
+    outcomes = ["difference %s" % (printed / 2 ** (k - 1)) if effect else "mean %s" % (printed / 2 ** k)
+                for effect, printed in enumerate(printed_totals(example))]
+    return [Estimate(examples.plan(example), effect, total, outcomes[effect]) for effect, total in enumerate(totals)]
+
+
+# A plan for each number that refuses a plan.
+REFUSED_PLANS = [
+    (2, Plan(4, 2)),
+    (3, Plan(2, 11)),
+    (4, Plan(3, 1, (), (1,))),
+    (5, Plan(2, 2, (), (row_number("C"),))),
+    (6, Plan(2, 2, ((AB, 0), (AB, 0)), ())),
+    (7, Plan(2, 3, (), (AB, AB))),
+    (8, Plan(2, 3, (), (AB, ABC))),
+]
+
 AD_ABC = Plan(2, 4, (), (row_number("AD"), ABC))
-ESTIMATES = report_estimates() + [
+ESTIMATES = report_estimates() + amcp_estimates(examples.AMCP_WHOLE) + amcp_estimates(examples.AMCP_HALF) + [
     Estimate(TWO, 0, 20, "mean 5"),
-    Estimate(TWO, 1, -6, "difference -3"),
-    Estimate(TWO, 2, -4, "difference -2"),
+    Estimate(TWO, 1, -6, "difference 3"),
+    Estimate(TWO, 2, -4, "difference 2"),
     Estimate(TWO, 3, 2, "difference 1"),
     Estimate(Plan(2, 1), 0, 0, "mean 0"),
-    Estimate(Plan(2, 1), 1, -200000, "difference -200000"),
-    Estimate(Plan(2, 1), 1, 200000, "difference 200000"),
+    Estimate(Plan(2, 1), 1, -200000, "difference 200000"),
+    Estimate(Plan(2, 1), 1, 200000, "difference -200000"),
     Estimate(Plan(2, 1), 0, -200000, "mean -100000"),
     Estimate(Plan(2, 1), 1, 0, "difference 0"),
+    Estimate(TWO, 0, 0, "mean 0"),
+    Estimate(TWO, 1, 0, "difference 0"),
+    Estimate(TWO, 2, 0, "difference 0"),
+    Estimate(TWO, 3, 0, "difference 0"),
+    Estimate(Plan(2, 3), 7, 0, "difference 0"),
+    Estimate(TEN, 511, 0, "difference 0"),
+    Estimate(TEN, 1023, 0, "difference 0"),
     Estimate(Plan(2, 3, (), (ABC,)), 7, 0, "lost"),
     Estimate(Plan(2, 3, (), (ABC,)), 7, -800000, "lost"),
     Estimate(Plan(2, 3, (), (ABC,)), 0, 36, "mean 4.5"),
-    Estimate(Plan(2, 3, (), (ABC,)), 4, -16, "difference -4"),
+    Estimate(Plan(2, 3, (), (ABC,)), 4, -16, "difference 4"),
     Estimate(Plan(2, 3, (), (ABC,)), 3, 0, "difference 0"),
     Estimate(AD_ABC, row_number("AD"), 71, "lost"),
     Estimate(AD_ABC, row_number("ABC"), 117, "lost"),
     Estimate(AD_ABC, row_number("BCD"), -115, "lost"),
-    Estimate(AD_ABC, row_number("A"), -111, "difference -13.875"),
+    Estimate(AD_ABC, row_number("A"), -111, "difference 13.875"),
     Estimate(AD_ABC, row_number("ABCD"), -21, "difference -2.625"),
     Estimate(TEN_BLOCKED, 1023, 1, "lost"),
-    Estimate(TEN_BLOCKED, 511, 1, "difference 1/512"),
-    Estimate(Plan(2, 10, SIX_ADDED, FOUR_BLOCKS), row_number("AB"), 3, "difference 3/512"),
+    Estimate(TEN_BLOCKED, 511, 1, "difference -1/512"),
+    Estimate(TEN_ADDED, row_number("AB"), 3, "difference 3/512"),
+    Estimate(TEN_ADDED, row_number("ABD"), 3, "difference -3/512"),
     Estimate(TEN, 0, 1, "mean 1/1024"),
     Estimate(TEN, 0, -1, "mean -1/1024"),
     Estimate(TEN, 0, 102400000, "mean 100000"),
     Estimate(TEN, 0, -102400000, "mean -100000"),
     Estimate(TEN, 1023, 102399999, "difference 102399999/512"),
-    Estimate(TEN, 512, -102400000, "difference -200000"),
-    Estimate(Plan(4, 2), 0, 0, "refused 2"),
-    Estimate(Plan(2, 11), 0, 0, "refused 3"),
-    Estimate(Plan(3, 1, (), (1,)), 0, 0, "refused 4"),
-    Estimate(Plan(2, 2, (), (row_number("C"),)), 0, 0, "refused 5"),
-    Estimate(Plan(2, 2, ((AB, 0), (AB, 0)), ()), 0, 0, "refused 6"),
-    Estimate(Plan(2, 3, (), (AB, AB)), 0, 0, "refused 7"),
-    Estimate(Plan(2, 3, (), (AB, ABC)), 0, 0, "refused 8"),
+    Estimate(TEN, 511, 102399999, "difference -102399999/512"),
+    Estimate(TEN, 512, -102400000, "difference 200000"),
+    Estimate(TEN, 512, 102400000, "difference -200000"),
+    Estimate(TEN, row_number("AJ"), -102400000, "difference -200000"),
+] + [Estimate(plan, 0, 0, "refused %d" % number) for number, plan in REFUSED_PLANS] + [
     Estimate(Plan(2, 3, (), (AB, ABC)), 8, 800001, "refused 8"),
     Estimate(Plan(3, 1), 0, 10, "refused 9"),
     Estimate(Plan(3, 1), 2, 10 ** 9, "refused 9"),
@@ -188,6 +237,79 @@ ESTIMATES = report_estimates() + [
     Estimate(TEN, 0, 102400001, "refused 12"),
     Estimate(TEN, 1, -2 ** 63, "refused 12"),
     Estimate(TEN, 1, 2 ** 63 - 1, "refused 12"),
+]
+
+
+# ---- aliases ----
+
+def alias_text(label, turned):
+    """The outcome of an alias that is given, in words."""
+    return "reduced %s, %s" % (label, "turned" if turned else "unturned")
+
+
+def published_aliases():
+    """The aliases that Daniel prints, with his signs."""
+    return [Alias(own.plan, own.effect, alias_text(row_label(own.word), own.turned)) for own in daniel.published()]
+
+
+def alias(plan, letters, outcome):
+    """An input of the alias call, by the letters of the effect."""
+    return Alias(plan, row_number(letters), outcome)
+
+
+# D = ABC. C = AB, with sign 1. E = ABC, with sign 1, and F = BCD. E = AB and F = ABC, both with sign 1. E = AB, F = CD and
+# G = ABCD, all with sign 1.
+D_IS_ABC, D_TURNED, C_TURNED = Plan(2, 3, ((ABC, 0),)), Plan(2, 3, ((ABC, 1),)), Plan(2, 2, ((AB, 1),))
+MIXED = Plan(2, 4, ((ABC, 1), (row_number("BCD"), 0)))
+BOTH_TURNED = Plan(2, 4, ((AB, 1), (ABC, 1)))
+ALL_TURNED = Plan(2, 4, ((AB, 1), (row_number("CD"), 1), (row_number("ABCD"), 1)))
+ALL_LETTERS = "ABCDEFGHIJKLMNOP"
+
+ALIASES = published_aliases() + [
+    alias(D_IS_ABC, "AD", "reduced BC, unturned"),
+    alias(D_TURNED, "AD", "reduced BC, turned"),
+    alias(D_TURNED, "D", "reduced ABC, turned"),
+    alias(D_TURNED, "ABCD", "reduced mean, turned"),
+    alias(D_TURNED, "ABC", "reduced ABC, unturned"),
+    alias(C_TURNED, "AC", "reduced B, unturned"),
+    alias(C_TURNED, "A", "reduced A, unturned"),
+    alias(MIXED, "E", "reduced ABC, turned"),
+    alias(MIXED, "F", "reduced BCD, unturned"),
+    alias(MIXED, "EF", "reduced AD, turned"),
+    alias(MIXED, "DE", "reduced ABCD, turned"),
+    alias(MIXED, "AF", "reduced ABCD, unturned"),
+    alias(MIXED, "BCDF", "reduced mean, unturned"),
+    alias(MIXED, "ABCDEF", "reduced BC, turned"),
+    alias(BOTH_TURNED, "E", "reduced AB, unturned"),
+    alias(BOTH_TURNED, "F", "reduced ABC, turned"),
+    alias(BOTH_TURNED, "EF", "reduced C, turned"),
+    alias(BOTH_TURNED, "CEF", "reduced mean, turned"),
+    alias(BOTH_TURNED, "ABCDEF", "reduced ABD, turned"),
+    alias(ALL_TURNED, "EF", "reduced ABCD, unturned"),
+    alias(ALL_TURNED, "EFG", "reduced mean, unturned"),
+    alias(TEN_ADDED, "K", "reduced AB, turned"),
+    alias(TEN_ADDED, "N", "reduced CEHJ, unturned"),
+    alias(TEN_ADDED, "P", "reduced ABCDEFGHJ, turned"),
+    alias(TEN_ADDED, "OP", "reduced IJ, turned"),
+    alias(TEN_ADDED, "AJ", "reduced AJ, unturned"),
+    alias(TEN_ADDED, "mean", "reduced mean, unturned"),
+    alias(TEN_ADDED, ALL_LETTERS, "reduced ABCDFJ, turned"),
+    alias(TEN, "ABCDEFGHIJ", "reduced ABCDEFGHIJ, unturned"),
+    alias(Plan(2, 1), "A", "reduced A, unturned"),
+    alias(TWO, "mean", "reduced mean, unturned"),
+    alias(Plan(2, 3, (), (ABC,)), "ABC", "reduced ABC, unturned"),
+] + [alias(plan, "mean", "refused %d" % number) for number, plan in REFUSED_PLANS] + [
+    alias(Plan(4, 2), ALL_LETTERS, "refused 2"),
+    alias(Plan(3, 7), "P", "refused 3"),
+    alias(Plan(2, 3, (), (AB, ABC)), "D", "refused 8"),
+    alias(Plan(3, 1), "mean", "refused 9"),
+    alias(Plan(3, 1), "A", "refused 9"),
+    alias(Plan(3, 1), "B", "refused 9"),
+    alias(TWO, "C", "refused 10"),
+    alias(TWO, "P", "refused 10"),
+    alias(D_IS_ABC, "E", "refused 10"),
+    alias(D_IS_ABC, ALL_LETTERS, "refused 10"),
+    alias(TEN, "K", "refused 10"),
 ]
 
 
@@ -237,6 +359,71 @@ def check_report():
     return complaints
 
 
+def check_amcp():
+    """Totals that AMCP prints in Table 12-2 round, over 8, to the estimated effects that it prints."""
+    example = examples.AMCP_WHOLE
+    complaints = []
+    for label, rounded in AMCP_ROUNDED.items():
+        estimated = printed_totals(example)[row_number(label)] / 8 / 10 ** example.places
+        if abs(estimated - Fraction(rounded)) * 10 > Fraction(1, 2):
+            complaints.append("AMCP, Data Sample 12-2: estimated effect of " + label)
+    return complaints
+
+
+def check_zeros():
+    """A total of 0 gives positive zero, whose 64 bits are 0."""
+    return ["estimate of %d, total 0: not positive zero" % own.effect for own in ESTIMATES
+            if own.total == 0 and own.outcome.endswith(" 0") and not estimate_text(own).endswith(" 0")]
+
+
+def reduced_of(own):
+    """The outcome of an alias in words: base word and turn, or the number that refuses it."""
+    refused = totals_rules.alias_answer(own.plan, own.effect)
+    if refused:
+        return "refused %d" % refused
+    word, turned = totals_rules.alias(own.plan, own.effect)
+    return alias_text(row_label(word), turned)
+
+
+def counts(plan, effect):
+    """How each run counts in an effect, high minus low: 1 for each letter that is high and -1 for each that is low,
+    multiplied."""
+    letters = [letter for letter in range(effect.bit_length()) if effect >> letter & 1]
+    found = []
+    for run in range(2 ** plan.k):
+        count, high = 1, totals_rules.high_letters(plan, run)
+        for letter in letters:
+            count *= 1 if high >> letter & 1 else -1
+        found.append(count)
+    return found
+
+
+def listed_alias(own):
+    """The base word that is listed, and the turn as it is listed; None where a refusal is."""
+    if own.outcome.startswith("refused"):
+        return None
+    _, label, turn = own.outcome.replace(",", "").split()
+    return row_number(label), turn
+
+
+def counts_agree(own):
+    """Whether the effect counts in every run as the base word that is listed, the other way round where it is turned."""
+    word, turn = listed_alias(own)
+    return counts(own.plan, own.effect) == [-count if turn == "turned" else count for count in counts(own.plan, word)]
+
+
+def check_aliases():
+    """The outcome of every alias is the one that the rules give, and in the runs it is as listed."""
+    complaints = []
+    for own in ALIASES:
+        found = reduced_of(own)
+        if found != own.outcome:
+            complaints.append("alias of %d: %s, listed %s" % (own.effect, found, own.outcome))
+        elif listed_alias(own) and not counts_agree(own):
+            complaints.append("alias of %d: in the runs it is not %s" % (own.effect, own.outcome))
+    return complaints
+
+
 def check_lent():
     """The program can lend as much as every refusal wants."""
     return ["refusal, %s: over %d places" % (own.why, MOST_LENT) for own in REFUSALS
@@ -244,8 +431,9 @@ def check_lent():
 
 
 def check():
-    """List of all complaints about refusals and estimates."""
-    return check_refusals() + check_estimates() + check_report() + check_lent()
+    """List of all complaints about refusals, estimates and aliases."""
+    return (check_refusals() + check_estimates() + check_report() + check_amcp() + check_zeros() + check_aliases()
+            + check_lent())
 
 
 # ---- expected text ----
@@ -259,45 +447,62 @@ def estimate_text(own):
     return "%s %d" % (name, table_rules.double_pattern(table_rules.exact_double(Fraction(quotient))))
 
 
+def reduced_text(own):
+    """What the program writes of an alias: the base word as a number."""
+    return "reduced %d, %s" % listed_alias(own) if listed_alias(own) else own.outcome
+
+
 def numbered(texts):
     """A line for each text, with its number before it."""
     return "".join("%d: %s\n" % pair for pair in enumerate(texts, 1))
 
 
 def expected_text():
-    """What the program that tries refusals and estimates must write."""
-    return numbered(["refused %d, unchanged" % own.number for own in REFUSALS] + [estimate_text(own) for own in ESTIMATES])
+    """What the program that tries refusals, estimates and aliases must write."""
+    return numbered(["refused %d, unchanged" % own.number for own in REFUSALS] + [estimate_text(own) for own in ESTIMATES]
+                    + [reduced_text(own) for own in ALIASES])
 
 
 # ---- input ----
 
-def record(plan, readings, marks, rest):
+def record(plan, readings, marks, call, rest):
     """A record: length, sheet and field 6."""
-    fields = sheet_bytes.write(plan, readings, marks) + sheet_bytes.field(REST, rest)
+    fields = sheet_bytes.write(plan, readings, marks) + sheet_bytes.field(REST, bytes([call]) + rest)
     return bytes([len(fields)]) + fields
 
 
 def refusal_record(own):
     """The record of a refusal."""
-    return record(own.plan, own.readings, own.marks, bytes([own.totals_length, own.rows_length]))
+    return record(own.plan, own.readings, own.marks, TABLE, bytes([own.totals_length, own.rows_length]))
 
 
 def estimate_record(own):
     """The record of an estimate."""
-    return record(own.plan, [], [], own.effect.to_bytes(2, "big") + own.total.to_bytes(8, "big", signed=True))
+    return record(own.plan, [], [], ESTIMATE, own.effect.to_bytes(2, "big") + own.total.to_bytes(8, "big", signed=True))
+
+
+def alias_record(own):
+    """The record of an alias."""
+    return record(own.plan, [], [], ALIAS, own.effect.to_bytes(2, "big"))
 
 
 def inputs():
-    """The input of the program: the records of all refusals and estimates."""
-    return b"".join([refusal_record(own) for own in REFUSALS] + [estimate_record(own) for own in ESTIMATES])
+    """The input of the program: the records of all refusals, estimates and aliases."""
+    return b"".join([refusal_record(own) for own in REFUSALS] + [estimate_record(own) for own in ESTIMATES]
+                    + [alias_record(own) for own in ALIASES])
+
+
+def plan_text(plan):
+    """A plan in words."""
+    return "levels %d, k %d, added%s, blocks%s" % (
+        *plan[:2], "".join(" %d/%d" % pair for pair in plan.added), examples.values_text(plan.blocks))
 
 
 def list_text():
-    """A line for each record: why a table is refused; of an estimate plan, effect and total."""
-    return numbered(["refusal, " + own.why for own in REFUSALS] + [
-        "estimate, levels %d, k %d, added%s, blocks%s, effect %d, total %d" % (
-            *own.plan[:2], "".join(" %d/%d" % pair for pair in own.plan.added), examples.values_text(own.plan.blocks),
-            own.effect, own.total) for own in ESTIMATES])
+    """A line for each record: why a table is refused; of an estimate plan, effect and total; of an alias plan and effect."""
+    return numbered(["refusal, " + own.why for own in REFUSALS]
+                    + ["estimate, %s, effect %d, total %d" % (plan_text(own.plan), *own[1:3]) for own in ESTIMATES]
+                    + ["alias, %s, effect %d" % (plan_text(own.plan), own.effect) for own in ALIASES])
 
 
 if __name__ == "__main__":

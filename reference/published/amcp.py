@@ -6,7 +6,8 @@
 # The entries below are transcribed from a scan of the two tables, in the order of the print, with the entries
 # that the scan shows wrongly left as they stand. The expected text is made from these entries and from the
 # mends alone; only the words of the added factors of Table 12-4 are read off the runs. Blocks, confounded effects
-# and aliases are computed in the checks and nowhere else.
+# and aliases are computed in the checks and nowhere else. The checks also compare runs and aliases of Table 12-4, those
+# of every effect of all letters, with rules/totals.py.
 #
 # Damage: whether a wrong entry is in the print or only in the scan is not decided here. Each wrong entry has one
 # mend, with what is printed, what is meant and the reason. A mend is used only if the undamaged entries of the
@@ -35,6 +36,11 @@
 import re
 import sys
 from collections import namedtuple
+from os.path import abspath, dirname
+
+sys.path.insert(0, dirname(dirname(dirname(abspath(__file__)))))
+
+from reference.rules import totals as totals_rules
 
 BlockedPlan = namedtuple("BlockedPlan", "factors label effects blocks")
 FractionalPlan = namedtuple("FractionalPlan", "number factors halvings rows")
@@ -540,6 +546,25 @@ def computed_effects(plan, runs, word):
     return found
 
 
+def plan_of(plan, words):
+    """A plan of Table 12-4 as the rules have it, by the words of its added factors, all of sign 0."""
+    return totals_rules.Plan(2, base_count(plan), [(found[0], 0) for found in words.values()])
+
+
+def check_rules(name, own, runs):
+    """The runs are those of rules/totals.py. Every effect counts in them as the base word does to which it is reduced there;
+    the other way round exactly where the sign turns."""
+    complaints = []
+    if [totals_rules.high_letters(own, run) for run in range(2 ** own.k)] != runs:
+        complaints.append(name + ": runs are not those of the rules")
+    for effect in range(2 ** (own.k + len(own.added))):
+        word, turned = totals_rules.alias(own, effect)
+        meant = [-value if turned else value for value in coefficients(word, runs)]
+        if word >= 2 ** own.k or coefficients(effect, runs) != meant:
+            complaints.append("%s, %s: not the alias of the rules" % (name, effect_name(effect)))
+    return complaints
+
+
 def check_fractional_plan(plan):
     name = "table 12-4, plan %d" % plan.number
     complaints = []
@@ -556,6 +581,8 @@ def check_fractional_plan(plan):
     words = words_of_added(plan, sound)
     if any(len(found) != 1 for found in words.values()) or words != words_of_added(plan, runs):
         complaints.append(name + ": added letters not settled")
+    else:
+        complaints += check_rules(name, plan_of(plan, words), runs)
     for word, ((run, effects), (_, printed)) in enumerate(zip(rows, plan.rows)):
         if sorted(effects) != sorted(computed_effects(plan, runs, word)):
             complaints.append("%s, row %s: effects are not the computed ones" % (name, run))

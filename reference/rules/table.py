@@ -15,7 +15,7 @@
 #   Part, Table                         a part of a table, and a table
 #   table, table_of_totals              the table of readings and marks; the same where the totals are already there
 #   table_answer                        0, or the lowest of 2 to 8, 11, 12, 13 that applies
-#   estimate                            mean, difference or lost, with the exact quotient
+#   estimate                            mean, difference or lost, with the exact quotient; a difference is high minus low
 #   estimate_answer                     0, or the lowest of 2 to 8, 9, 10, 12 that applies
 #   exact_double, double_pattern        the double that is exactly a quotient, and its 64 bits as a number
 
@@ -141,12 +141,15 @@ LOST, DIFFERENCE = "lost", "difference"
 
 
 def estimate(plan, effect, total):
-    """The outcome for an effect of an accepted two-level plan, with the exact quotient; None where it is lost."""
+    """The outcome for an effect of an accepted two-level plan, with the exact quotient; None where it is lost.
+
+    A difference is negated when the effect has an odd number of letters. A total of 0 gives 0."""
     if effect in totals_rules.confounded(plan.blocks):
         return LOST, None
     if effect == 0:
         return MEAN, Fraction(total, 2 ** plan.k)
-    return DIFFERENCE, Fraction(total, 2 ** (plan.k - 1))
+    difference = Fraction(total, 2 ** (plan.k - 1))
+    return DIFFERENCE, -difference if totals_rules.letter_count(effect) % 2 else difference
 
 
 def estimate_answer(plan, effect, total):

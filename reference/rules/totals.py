@@ -20,8 +20,11 @@
 #   check_number                          what the totals must add up to, from the readings
 #   letter_count, combine, confounded     words of a plan
 #   block_of                              the block of a run
+#   high_letters                          the letters of all factors, base and added, that are high in a run
+#   alias                                 the base word of an effect of all factors, and whether its sign turns
 #   plan_answer                           the plan check: 0, or the lowest of 2 to 8 that applies
 #   pass_answer, totals_answer            the answers of these calls: 0, or the lowest number that applies
+#   alias_answer                          the same: 0, or the lowest of 2 to 8, 9, 10 that applies
 
 from collections import namedtuple
 from itertools import combinations
@@ -148,6 +151,30 @@ def block_of(plan, run):
     return sum(letter_count(word & run) % 2 << place for place, word in enumerate(plan.blocks))
 
 
+# ---- added factors ----
+
+def high_letters(plan, run):
+    """The letters of all factors that are high in a run: an added factor's where an odd number of the letters of its word
+    are; with sign 1 where an even number are."""
+    high = run
+    for place, (word, sign) in enumerate(plan.added, plan.k):
+        high |= (letter_count(word & run) + sign) % 2 << place
+    return high
+
+
+def alias(plan, effect):
+    """The base word to which an effect of all factors reduces, and whether the sign turns.
+
+    Each added letter is replaced by its word; the number of replaced letters with sign 1 is odd exactly when the sign
+    turns. This is reversed when the effect and its base word differ in being odd or even."""
+    replaced = [own for place, own in enumerate(plan.added, plan.k) if effect >> place & 1]
+    base = combine([effect % 2 ** plan.k] + [word for word, _ in replaced])
+    turned = [sign for _, sign in replaced].count(1) % 2 == 1
+    if letter_count(effect) % 2 != letter_count(base) % 2:
+        turned = not turned
+    return base, turned
+
+
 # ---- the plan check ----
 
 def too_many(plan):
@@ -230,3 +257,13 @@ def columns_answer(plan, read, written, limit):
 def totals_answer(plan, readings, column):
     """The totals of the readings, written to a column."""
     return columns_answer(plan, readings, column, MOST_READING)
+
+
+def alias_answer(plan, effect):
+    """The alias call: 2 to 8, 9, 10, or 0."""
+    refused = plan_answer(plan)
+    if refused:
+        return refused
+    if plan.levels == 3:
+        return 9
+    return 10 if effect >> plan.k + len(plan.added) else DONE

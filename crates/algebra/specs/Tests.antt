@@ -2,7 +2,8 @@
 --
 --   every n p    the test p passes at each number below n
 --   eqZ a b      the integers a and b are equal
-use mathlib.Core.Bool.{Bool, true, false, _&&_}
+--   differ a b   one of the tests a and b passes, and not both
+use mathlib.Core.Bool.{Bool, true, false, cond, not, _&&_}
 use Prim.Native.Nat.{ℕ, zero, suc}
 use lib.Dec.{eqb}
 use lib.IntN.{ℤ, pos, negsuc}
@@ -16,3 +17,6 @@ eqZ (pos a) (pos b) = eqb a b
 eqZ (pos a) (negsuc b) = false
 eqZ (negsuc a) (pos b) = false
 eqZ (negsuc a) (negsuc b) = eqb a b
+
+abbrev pub differ : Bool → Bool → Bool
+differ a b = cond a (not b) b

@@ -1,22 +1,24 @@
 -- The alias call: the base word that an effect of all factors reduces to, and whether the sign turns.
 --
 --   baseWord k words e    the base word
---   turnsOf, turns        how many of the replaced letters have sign 1, and whether the sign turns
+--   signOnes, oddSigns    how many of the replaced letters have sign 1, and whether that is an odd number
+--   turned                whether the sign turns
 --   aliasValues p e       both, of a plan
 --   aliasRefusals p e     the refusals of the call besides those of the plan
 --   aliasRefused p e      the lowest number that applies, 0 where the alias is given
 --   aliasOutcome          the cases of the call's answer
-use mathlib.Core.Bool.{Bool, cond, _&&_}
+use mathlib.Core.Bool.{Bool, cond, not, _&&_}
 use mathlib.Core.List.{List, [], _∷_}
 use Prim.Native.Nat.{ℕ, _/_, _%_, _^_}
 use lib.Dec.{eqb}
 use lib.ListN.{length, getD}
 use Rattle.algebra.specs.Naturals.{Σℕ}
+use Rattle.algebra.specs.Tests.{differ}
 use Rattle.plan.specs.declared.types.Plan.{Plan}
 use Rattle.aliases.specs.declared.types.Alias.{Alias}
 use Rattle.aliases.specs.declared.types.Alias.the-variants.{Reduced, Refused}
 use Rattle.plan.specs.Outcome.{Refusal, refusal, Outcome, given, refused}
-use Rattle.words.specs.Words.{has, odd, beyond, combined}
+use Rattle.words.specs.Words.{has, odd, oddWord, beyond, combined}
 use Rattle.plan.specs.Plan.{addedWords, addedSigns, allLetters}
 use Rattle.plan.specs.Check.{withPlan}
 
@@ -24,17 +26,23 @@ use Rattle.plan.specs.Check.{withPlan}
 unfoldable pub baseWord : ℕ → List ℕ → ℕ → ℕ
 baseWord k words e = combined (e % 2 ^ k) (e / 2 ^ k) words
 
--- E10: "the number of replaced letters with sign 1 is odd exactly when the sign turns"
-unfoldable pub turnsOf : ℕ → List ℕ → ℕ
-turnsOf replaced signs = Σℕ (length signs) (λ j. cond (has replaced j && eqb (getD signs j 0) 1) 1 0)
+-- E10: "the number of replaced letters with sign 1"
+unfoldable pub signOnes : ℕ → List ℕ → ℕ
+signOnes replaced signs = Σℕ (length signs) (λ j. cond (has replaced j && eqb (getD signs j 0) 1) 1 0)
 
--- E10
-unfoldable pub turns : ℕ → List ℕ → ℕ → Bool
-turns k signs e = odd (turnsOf (e / 2 ^ k) signs)
+-- E10: "is odd exactly when the sign turns": so it is low minus high
+unfoldable pub oddSigns : ℕ → List ℕ → ℕ → Bool
+oddSigns k signs e = odd (signOnes (e / 2 ^ k) signs)
+
+-- E10: "The alias call's turn is reversed when the effect and its base word differ in being odd or even.": so it is high minus low
+unfoldable pub turned : ℕ → List ℕ → List ℕ → ℕ → Bool
+turned k words signs e =
+    let reversed = differ (oddWord e) (oddWord (baseWord k words e)) in
+    cond reversed (not (oddSigns k signs e)) (oddSigns k signs e)
 
 -- E8: the values of the alias call
 abbrev pub aliasValues : Plan → ℕ → ℕ × Bool
-aliasValues p e = (baseWord (p .k) (addedWords p) e, turns (p .k) (addedSigns p) e)
+aliasValues p e = (baseWord (p .k) (addedWords p) e, turned (p .k) (addedWords p) (addedSigns p) e)
 
 -- L7: "the run and alias calls 9, 10"
 -- N9: "estimate, alias or run call asked at three levels"; N10: "alias letter [..] not in the plan"

@@ -1,9 +1,10 @@
 -- The proofs of the claims: a file for each, by the claim's name.
 --
---   LowestNumber, Refusals, Letters, CheckNumbers, AnyOrder, Steps, SumOfSquares, TableAddsUp, Starred, WrongPrograms
+--   LowestNumber, Refusals, Letters, HighMinusLow, CheckNumbers, AnyOrder, Steps, SumOfSquares, TableAddsUp, Starred, WrongPrograms
 pub mod LowestNumber
 pub mod Refusals
 pub mod Letters
+pub mod HighMinusLow
 pub mod CheckNumbers
 pub mod AnyOrder
 pub mod Steps

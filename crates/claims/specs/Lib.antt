@@ -3,6 +3,7 @@
 --   LowestNumber   demand 1: the number of every call is the lowest that applies
 --   Refusals       demand 1: thirteen numbers, and nothing is written
 --   Letters        demand 2: coefficients, totals, blocks and aliases in letters, at two levels
+--   HighMinusLow   estimates and aliases with the signs that journals print
 --   CheckNumbers   demand 2: both checks, in the rules' words
 --   AnyOrder       demand 3: passes in any order
 --   Steps          k steps give the totals
@@ -15,6 +16,7 @@
 pub mod LowestNumber
 pub mod Refusals
 pub mod Letters
+pub mod HighMinusLow
 pub mod CheckNumbers
 pub mod AnyOrder
 pub mod Steps

@@ -179,8 +179,8 @@ inBlocks = record {
       ∷ [];
 }
 
--- X4: "k = 1, -100,000 and 100,000: totals 0, -200,000; difference -200,000." The difference is that of the total which the table writes;
--- 3,125 times 2 to the power 6 is 200,000.
+-- X4: "k = 1, -100,000 and 100,000: totals 0, -200,000"; "The k = 1 reference difference becomes 200,000." The difference is that of the total
+-- which the table writes; 3,125 times 2 to the power 6 is 200,000.
 abbrev limits : Tabled
 limits = tabled (plan 2 1 [] [] []) (neg 100_000 ∷ pos 100_000 ∷ []) (replicate 2 0)
 
@@ -202,7 +202,7 @@ limitsSaid = record {
 abbrev atLimits : StarredRun
 atLimits = record {
   gives = table limits ∷ estimate (promisedEstimate (plan 2 1 [] [] []) A (read (limits .totals) A)) ∷ [];
-  says = table limitsSaid ∷ estimate (given (difference (fin true 3125 (pos 6)))) ∷ [];
+  says = table limitsSaid ∷ estimate (given (difference (fin false 3125 (pos 6)))) ∷ [];
 }
 
 -- X5: "k = 3, D = ABC: AD reduces to BC, unturned; with sign 1, turned."

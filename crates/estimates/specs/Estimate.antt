@@ -1,22 +1,23 @@
 -- The estimate call: the mean, a difference, or lost to blocks.
 --
 --   Value                   the three outcomes
---   meanOf, differenceOf    the mean and a difference, by k and the total
+--   printedTotal e t        the total t of the effect e with the sign that journals print, high minus low
+--   meanOf, differenceOf    the mean, by k and the total; a difference, by the effect too
 --   valueBy lost k e t      the outcome of the effect e with the total t, by whether it is lost
 --   estimateValue p e t     the outcome of an effect of a plan
 --   totalLimit p            the largest size of a total that is admitted
 --   estimateRefusals p e t  the refusals of the call besides those of the plan
 --   estimateRefused p e t   the lowest number that applies, 0 where an estimate is given
 --   estimateOutcome         the cases of the call's answer
---   ExactlyGiven p t o      a mean or a difference that is given is exactly its quotient
+--   ExactlyGiven p e t o    a mean or a difference that is given is exactly its quotient
 use mathlib.Core.Bool.{Bool, cond}
 use mathlib.Core.List.{List, [], _∷_}
 use Prim.Native.Nat.{ℕ, _*_, _-_, _^_}
 use lib.Dec.{eqb, ltb}
-use lib.IntN.{ℤ, natAbs}
+use lib.IntN.{ℤ, natAbs, negℤ}
 use lib.Ieee.{Float}
 use Rattle.contrasts.specs.Limits.{readingLimit}
-use Rattle.words.specs.Words.{beyond}
+use Rattle.words.specs.Words.{oddWord, beyond}
 use Rattle.plan.specs.declared.types.Plan.{Plan}
 use Rattle.plan.specs.Outcome.{Refusal, refusal, Outcome, given, refused}
 use Rattle.plan.specs.Plan.{confoundedIn}
@@ -37,13 +38,18 @@ pub data Value : Type 0 where
 unfoldable pub meanOf : ℕ → ℤ → Float
 meanOf k t = quotient t k
 
+-- E4: "negated when the effect has an odd number of letters"
+-- E6: "A zero total still gives positive zero.": it is the whole number that is negated, and not the double
+unfoldable pub printedTotal : ℕ → ℤ → ℤ
+printedTotal e t = cond (oddWord e) (negℤ t) t
+
 -- E4: "a difference the total over 2 to the power k - 1"
-unfoldable pub differenceOf : ℕ → ℤ → Float
-differenceOf k t = quotient t (k - 1)
+unfoldable pub differenceOf : ℕ → ℕ → ℤ → Float
+differenceOf k e t = quotient (printedTotal e t) (k - 1)
 
 -- E1, E2: the empty effect, 0, has the mean, and every other a difference
 unfoldable pub valueBy : Bool → ℕ → ℕ → ℤ → Value
-valueBy b k e t = cond b lost (cond (eqb e 0) (mean (meanOf k t)) (difference (differenceOf k t)))
+valueBy b k e t = cond b lost (cond (eqb e 0) (mean (meanOf k t)) (difference (differenceOf k e t)))
 
 -- E2: "Lost is the outcome exactly when the effect is confounded."
 abbrev pub estimateValue : Plan → ℕ → ℤ → Value
@@ -73,10 +79,10 @@ estimateOutcome (answer.Difference x) = given (difference x)
 estimateOutcome answer.Lost = given lost
 estimateOutcome (answer.Refused n) = refused n
 
--- E5: "The double is exactly that quotient": a mean times 2 to the power k is the total, and a difference times 2 to the power k - 1; there
--- is no number where the effect is lost or the call is refused
-abbrev pub ExactlyGiven : Plan → ℤ → Outcome Value → Type 0
-ExactlyGiven p t (given (mean x)) = Exactly t (p .k) x
-ExactlyGiven p t (given (difference x)) = Exactly t (p .k - 1) x
-ExactlyGiven p t (given lost) = Unit
-ExactlyGiven p t (refused n) = Unit
+-- E5: "The double is exactly that quotient": a mean times 2 to the power k is the total, and a difference times 2 to the power k - 1 the total
+-- as it is printed; there is no number where the effect is lost or the call is refused
+abbrev pub ExactlyGiven : Plan → ℕ → ℤ → Outcome Value → Type 0
+ExactlyGiven p e t (given (mean x)) = Exactly t (p .k) x
+ExactlyGiven p e t (given (difference x)) = Exactly (printedTotal e t) (p .k - 1) x
+ExactlyGiven p e t (given lost) = Unit
+ExactlyGiven p e t (refused n) = Unit

@@ -2,6 +2,7 @@
 --
 --   quotients              totals over powers of two, as doubles
 --   four, eight            readings 3, 5, 4, 8, and readings 1 to 8 with the block word ABC
+--   zeros                  totals of 0
 --   largest                "k = 1, -100,000 and 100,000"
 --   small-inputs           the small inputs of refusals 9, 10 and 12, and the lowest of them where several apply
 --   at-limits              the largest totals that are admitted, and those one larger
@@ -22,8 +23,8 @@ use Rattle.plan.specs.Examples.{plan, A, C, ABC}
 use Rattle.plan.specs.Outcome.{Outcome, given, refused, outcome}
 use Rattle.plan.specs.Plan.{someCombination, combinesTo}
 use Rattle.plan.specs.Check.{badLevels, badFactors, badCounts, badWord, badSign, badWords, dependent, factorWord, losesFactor, planRefused, withPlan}
-use Rattle.estimates.specs.Quotient.{quotient}
-use Rattle.estimates.specs.Estimate.{Value, mean, difference, lost, meanOf, differenceOf, valueBy, estimateValue, estimateRefused}
+use Rattle.estimates.specs.Quotient.{quotient, positiveZero}
+use Rattle.estimates.specs.Estimate.{Value, mean, difference, lost, printedTotal, meanOf, differenceOf, valueBy, estimateValue, estimateRefused}
 
 -- E5, E6: 7 / 4 is 7 * 2 ^ -2, 12 / 4 is 3, -6 / 8 is -3 * 2 ^ -2, and 0 / 8 is positive zero
 quotients : quotient (pos 7) 2 ∷ quotient (pos 12) 2 ∷ quotient (neg 6) 3 ∷ quotient (pos 0) 3 ∷ []
@@ -39,42 +40,45 @@ abbrev answers : Plan → ℕ → List ℤ → List (Outcome Value)
 answers p e [] = []
 answers p e (t ∷ ts) = answer p e t ∷ answers p (suc e) ts
 
-abbrev positiveZero : Float
-positiveZero = fin false 0 (pos 0)
-
 abbrev twoFactors : Plan
 twoFactors = plan 2 2 [] [] []
 
--- X1: "totals 20, -6, -4, 2": the mean is 5, and the differences are -3, -2 and 1
+-- X1: "totals 20, -6, -4, 2": the mean is 5, and the differences, high minus low, are 3, 2 and 1
 four : answers twoFactors 0 (pos 20 ∷ neg 6 ∷ neg 4 ∷ pos 2 ∷ [])
     ≡ given (mean (fin false 5 (pos 0)))
-    ∷ given (difference (fin true 3 (pos 0)))
-    ∷ given (difference (fin true 1 (pos 1)))
+    ∷ given (difference (fin false 3 (pos 0)))
+    ∷ given (difference (fin false 1 (pos 1)))
     ∷ given (difference (fin false 1 (pos 0)))
     ∷ []
-unfolding estimateRefused withPlan planRefused badLevels badFactors mostTwo mostThree badCounts badWords badWord badSign repeated dependent losesFactor factorWord any among beyond letters combined times someCombination combinesTo some bits Σℕ readingLimit valueBy meanOf differenceOf quotient
+unfolding estimateRefused withPlan planRefused badLevels badFactors mostTwo mostThree badCounts badWords badWord badSign repeated dependent losesFactor factorWord any among beyond letters combined times someCombination combinesTo some bits Σℕ readingLimit valueBy meanOf differenceOf printedTotal quotient
 four = refl
+
+-- E6: all four totals 0: no zero is negative, that of A and of B neither
+zeros : answers twoFactors 0 (pos 0 ∷ pos 0 ∷ pos 0 ∷ pos 0 ∷ [])
+    ≡ given (mean positiveZero) ∷ given (difference positiveZero) ∷ given (difference positiveZero) ∷ given (difference positiveZero) ∷ []
+unfolding estimateRefused withPlan planRefused badLevels badFactors mostTwo mostThree badCounts badWords badWord badSign repeated dependent losesFactor factorWord any among beyond letters combined times someCombination combinesTo some bits Σℕ readingLimit valueBy meanOf differenceOf printedTotal quotient
+zeros = refl
 
 abbrev inBlocks : Plan
 inBlocks = plan 2 3 [] [] (ABC ∷ [])
 
--- X3: "totals 36, -4, -8, 0, -16, 0, 0, 0; row ABC is blocks.": the mean is 4.5, differences are -1, -2, 0, -4, 0 and 0, and ABC is lost
+-- X3: "totals 36, -4, -8, 0, -16, 0, 0, 0; row ABC is blocks.": the mean is 4.5, differences are 1, 2, 0, 4, 0 and 0, and ABC is lost
 eight : answers inBlocks 0 (pos 36 ∷ neg 4 ∷ neg 8 ∷ pos 0 ∷ neg 16 ∷ pos 0 ∷ pos 0 ∷ pos 0 ∷ [])
     ≡ given (mean (fin false 9 (neg 1)))
-    ∷ given (difference (fin true 1 (pos 0)))
-    ∷ given (difference (fin true 1 (pos 1)))
+    ∷ given (difference (fin false 1 (pos 0)))
+    ∷ given (difference (fin false 1 (pos 1)))
     ∷ given (difference positiveZero)
-    ∷ given (difference (fin true 1 (pos 2)))
+    ∷ given (difference (fin false 1 (pos 2)))
     ∷ given (difference positiveZero)
     ∷ given (difference positiveZero)
     ∷ given lost
     ∷ []
-unfolding estimateRefused withPlan planRefused badLevels badFactors mostTwo mostThree badCounts badWords badWord badSign repeated dependent losesFactor factorWord any among beyond letters combined times someCombination combinesTo some bits Σℕ readingLimit valueBy meanOf differenceOf quotient
+unfolding estimateRefused withPlan planRefused badLevels badFactors mostTwo mostThree badCounts badWords badWord badSign repeated dependent losesFactor factorWord any among beyond letters combined times someCombination combinesTo some bits Σℕ readingLimit valueBy meanOf differenceOf printedTotal quotient
 eight = refl
 
--- X4: "totals 0, -200,000; difference -200,000", which is -3,125 * 2 ^ 6
-largest : answers (plan 2 1 [] [] []) 0 (pos 0 ∷ neg 200_000 ∷ []) ≡ given (mean positiveZero) ∷ given (difference (fin true 3_125 (pos 6))) ∷ []
-unfolding estimateRefused withPlan planRefused badLevels badFactors mostTwo mostThree badCounts badWords badWord badSign repeated dependent losesFactor factorWord any among beyond letters combined times someCombination combinesTo some bits Σℕ readingLimit valueBy meanOf differenceOf quotient
+-- X4: "totals 0, -200,000", "The k = 1 reference difference becomes 200,000", which is 3,125 * 2 ^ 6
+largest : answers (plan 2 1 [] [] []) 0 (pos 0 ∷ neg 200_000 ∷ []) ≡ given (mean positiveZero) ∷ given (difference (fin false 3_125 (pos 6))) ∷ []
+unfolding estimateRefused withPlan planRefused badLevels badFactors mostTwo mostThree badCounts badWords badWord badSign repeated dependent losesFactor factorWord any among beyond letters combined times someCombination combinesTo some bits Σℕ readingLimit valueBy meanOf differenceOf printedTotal quotient
 largest = refl
 
 -- N9: "levels 3, k = 1"; N10: k = 2, effect C; N12: k = 2, total 400,001
@@ -87,7 +91,7 @@ small-inputs : answer (plan 3 1 [] [] []) A (pos 0)
     ∷ answer twoFactors C (neg 1_000_000_000)
     ∷ []
     ≡ refused 9 ∷ refused 10 ∷ refused 12 ∷ refused 3 ∷ refused 9 ∷ refused 10 ∷ []
-unfolding estimateRefused withPlan planRefused badLevels badFactors mostTwo mostThree badCounts badWords badWord badSign repeated dependent losesFactor factorWord any among beyond letters combined times someCombination combinesTo some bits Σℕ readingLimit valueBy meanOf differenceOf quotient
+unfolding estimateRefused withPlan planRefused badLevels badFactors mostTwo mostThree badCounts badWords badWord badSign repeated dependent losesFactor factorWord any among beyond letters combined times someCombination combinesTo some bits Σℕ readingLimit valueBy meanOf differenceOf printedTotal quotient
 small-inputs = refl
 
 -- E7, N12: both ways, with two factors and with ten, and the smallest i64; an effect that is lost is refused by its total too

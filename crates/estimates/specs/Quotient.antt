@@ -5,6 +5,7 @@
 --   Exactly t j x       besides, x is a double, and no other double is that quotient
 --   double s m j        the double with the sign s that is m / 2 ^ j
 --   quotient t j        the double that is t / 2 ^ j
+--   positiveZero        zero with the sign of a positive number
 --   InDouble t j        a double holds t and 2 ^ j, as whole numbers
 use mathlib.Core.Path.{_≡_}
 use mathlib.Core.Bool.{Bool, true, false}
@@ -44,6 +45,10 @@ double s m j = ieee.odd (prec binary64) s m 0 j
 unfoldable pub quotient : ℤ → ℕ → Float
 unfolding double
 quotient t j = double (negative t) (natAbs t) j
+
+-- E6: "positive zero"
+abbrev pub positiveZero : Float
+positiveZero = fin false 0 (pos 0)
 
 -- ---- totals and powers that are held
 

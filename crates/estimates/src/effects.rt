@@ -9,10 +9,11 @@ use plan::Plan;
 use plan::confounded;
 use plan::lowest;
 use words::has_beyond;
+use words::is_odd_word;
 ghost use Rattle.contrasts.specs.Limits.{readingLimit};
 ghost use Rattle.plan.specs.Outcome.{outcome, given};
 ghost use Rattle.estimates.specs.Quotient.{InDouble};
-ghost use Rattle.estimates.specs.Estimate.{valueBy, estimateRefused, estimateValue, estimateOutcome, ExactlyGiven};
+ghost use Rattle.estimates.specs.Estimate.{printedTotal, valueBy, estimateRefused, estimateValue, estimateOutcome, ExactlyGiven};
 
 const READING_LIMIT: u64 = 100_000;
 
@@ -50,6 +51,18 @@ fn estimate_refused(p: Plan, effect: u16, total: i64) -> u8
     0
 }
 
+// The total with the sign that journals print, high minus low: negated where the effect has an odd number of letters. A total of 0 stays 0,
+// where a double would become negative zero.
+fn printed(effect: u16, total: i64) -> i64
+    requires { ⌜ natAbs total < 2 ^ 53 ⌝ }
+    ensures { λ r. ⌜ (r ≡ printedTotal effect total) × (natAbs r < 2 ^ 53) ⌝ }
+{
+    if is_odd_word(effect) {
+        return -total;
+    }
+    total
+}
+
 // The answer where nothing is refused, by whether the effect is lost.
 fn value(lost: bool, k: usize, effect: u16, total: i64) -> Estimate
     requires { ⌜ (0 < k) × InDouble total k ⌝ }
@@ -61,13 +74,13 @@ fn value(lost: bool, k: usize, effect: u16, total: i64) -> Estimate
     if effect == 0 {
         return Estimate::Mean(scaled(total, k));
     }
-    Estimate::Difference(scaled(total, k - 1))
+    Estimate::Difference(scaled(printed(effect, total), k - 1))
 }
 
 // The mean or the difference by the total of an effect, or that the effect is lost to blocks.
 pub fn estimate(p: Plan, effect: u16, total: i64) -> Estimate
     ensures { λ r. ⌜ estimateOutcome r ≡ outcome (estimateRefused p effect total) (estimateValue p effect total) ⌝ }
-    ensures { λ r. ⌜ ExactlyGiven p total (estimateOutcome r) ⌝ }
+    ensures { λ r. ⌜ ExactlyGiven p effect total (estimateOutcome r) ⌝ }
 {
     let n = estimate_refused(p, effect, total);
     if n != 0 {

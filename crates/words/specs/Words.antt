@@ -4,14 +4,15 @@
 --   letters w               how many letters w has
 --   beyond n w              w has a letter from n on
 --   wordOf n f              the set of those of the first n letters of which f holds
---   odd n                   n is odd
+--   odd n, oddWord w        n is odd; w has an odd number of letters
 --   shared a b, oddIn a b   how many letters a and b have in common, and whether that is an odd number
+--   lows, plusIn            how many letters of a word are low in a run, and whether the run counts plus in its effect
 --   times, combined         how often a letter occurs in some words, and the word that they combine to
 --   any f ws                f holds of one of the words
 --   among w ws, repeated    w is one of them, and one word is there twice
-use mathlib.Core.Bool.{Bool, _&&_}
+use mathlib.Core.Bool.{Bool, not, _&&_}
 use mathlib.Core.List.{List}
-use Prim.Native.Nat.{ℕ, _+_, _*_, _%_}
+use Prim.Native.Nat.{ℕ, _+_, _*_, _-_, _%_}
 use lib.Dec.{eqb, leb}
 use lib.ListN.{length, getD, take}
 use Rattle.algebra.specs.Naturals.{Σℕ}
@@ -40,12 +41,24 @@ wordOf n f = bits n f
 abbrev pub odd : ℕ → Bool
 odd n = eqb (n % 2) 1
 
+-- E4, E10: "an odd number of letters"
+abbrev pub oddWord : ℕ → Bool
+oddWord w = odd (letters w)
+
 unfoldable pub shared : ℕ → ℕ → ℕ
 shared a b = Σℕ 16 (λ i. letter a i * letter b i)
 
 -- P8, R4: "an odd number of its word's letters are high": of the run's letters that are high, and the word's
 unfoldable pub oddIn : ℕ → ℕ → Bool
 oddIn run w = odd (shared run w)
+
+-- how many letters of w are low in the run
+unfoldable pub lows : ℕ → ℕ → ℕ
+lows run w = Σℕ 16 (λ i. letter w i * (1 - letter run i))
+
+-- E11: "high minus low": each letter that is low turns the sign, so the run counts plus exactly when an even number of them are
+unfoldable pub plusIn : ℕ → ℕ → Bool
+plusIn run w = not (odd (lows run w))
 
 -- how often letter i occurs in the word w and those of the words ws that are chosen; a choice is a set of their places, bit j for word j.
 -- Of AB, BC, CD the choice 5, bits 0 and 2, takes AB and CD, which combine to ABCD.

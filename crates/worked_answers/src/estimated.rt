@@ -8,10 +8,10 @@ use numerals::byte;
 use numerals::pair;
 use plan::Plan;
 
-// The number of the bytes after the first two, in two's complement.
+// The number of the bytes after the first three, in two's complement.
 fn total_of(body: &[u8]) -> i64 {
     let mut bits: u64 = 0;
-    let mut i = 2;
+    let mut i = 3;
     while i < body.len() {
         bits = bits % 72_057_594_037_927_936 * 256 + body[i] as u64;
         i += 1;
@@ -31,9 +31,9 @@ fn print_double(name: &[u8], value: f64) {
     print(b"\n");
 }
 
-// The rest is the effect, two bytes, and its total, eight.
+// After the call the rest is the effect, two bytes, and its total, eight.
 pub fn try_estimate(p: Plan, rest: &[u8]) {
-    let effect = pair(byte(rest, 0), byte(rest, 1));
+    let effect = pair(byte(rest, 1), byte(rest, 2));
     match estimate(p, effect, total_of(rest)) {
         Estimate::Mean(value) => print_double(b" mean", value),
         Estimate::Difference(value) => print_double(b" difference", value),

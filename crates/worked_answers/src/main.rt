@@ -1,25 +1,31 @@
-// Tries the table call on plans, readings and marks that it refuses, and the estimate call, by the records of its input.
+// Tries the table call on plans, readings and marks that it refuses, the estimate call and the alias call, by the records of its input.
 // `reference/cases/answers.py` makes the input and the text that this program must write, and says how both are laid out.
 mod estimated;
+mod reduced;
 mod refused;
 mod text;
 
 use contents::plan_in;
 use estimated::try_estimate;
 use fields::body;
+use numerals::byte;
+use reduced::try_alias;
 use refused::try_refusal;
 use text::print;
 
-// Field 6 is what else the call takes: two bytes for a table, ten for an estimate.
+// Field 6 is the call, a byte, and what else it takes: 1 is the table, 2 the estimate, 3 the alias.
 fn work(number: u64, record: &[u8]) {
     io::print_decimal(1, number);
     print(b":");
     let p = plan_in(record);
     let rest = body(record, 6, 0);
-    if rest.len() == 2 {
-        try_refusal(p, record, rest[0], rest[1]);
-    } else {
+    let call = byte(rest, 0);
+    if call == 1 {
+        try_refusal(p, record, byte(rest, 1), byte(rest, 2));
+    } else if call == 2 {
         try_estimate(p, rest);
+    } else {
+        try_alias(p, rest);
     }
 }
 

@@ -45,7 +45,7 @@ fn try_table(p: Plan, body: &[u8], readings: &mut [i32], marks: &[u8], n: usize,
     }
 }
 
-// Field 6 is how many totals and rows are lent.
+// Lends so many totals and rows, at most eight of each, and the readings and marks of the record.
 pub fn try_refusal(p: Plan, record: &[u8], totals: u8, rows: u8) {
     let readings = body(record, 4, 0);
     let count = readings.len() / 4;

@@ -7,14 +7,12 @@ use aliases::alias;
 use plan::Plan;
 use words::count_letters;
 
-// The sign of an effect beside the word that it reduces to, where a difference is high minus low, as the table has it: the turn, and one
-// more turn where one of the two has an odd number of letters and the other an even one.
-fn print_sign(turned: bool, effect: u16, word: u16) {
-    let differ = count_letters(effect) % 2 != count_letters(word) % 2;
-    if turned == differ {
-        print(b" +");
-    } else {
+// The sign of an effect beside the word that it reduces to: minus where the alias call turns it.
+fn print_sign(turned: bool) {
+    if turned {
         print(b" -");
+    } else {
+        print(b" +");
     }
 }
 
@@ -25,7 +23,7 @@ fn print_alias(p: Plan, effect: u16, word: u16) -> bool {
             if base != word {
                 return false;
             }
-            print_sign(turned, effect, word);
+            print_sign(turned);
             print_effect(effect);
             true
         }

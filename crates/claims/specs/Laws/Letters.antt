@@ -1,5 +1,7 @@
 -- That the claims of `Letters.antt` hold.
 --
+--   k-few, high-same, base-in, letter-in
+--                          an accepted plan of two levels: k, a run's letters, base words and single letters
 --   coefficients, base-factors, added-factors, same-in-block, only-confounded, aliases, totals, alias-totals, main-effects, any-factor, answered
 --                          the proofs, in this order
 use mathlib.Core.Path.{_≡_, refl, sym, ap, _∙_}
@@ -29,28 +31,28 @@ use Rattle.runs.specs.Laws.Blocks.{constant, only-combined}
 use Rattle.runs.specs.Laws.High.{high-added, high-turned}
 use Rattle.runs.specs.Laws.BaseLetters.{high-odd}
 use Rattle.aliases.specs.Alias.{aliasRefusals, aliasRefused}
-use Rattle.aliases.specs.Laws.InRuns.{plan-reduces}
+use Rattle.aliases.specs.Laws.InRuns.{plan-reduces-odd}
 use Rattle.aliases.specs.Laws.BaseWord.{base-small}
-use Rattle.claims.specs.Letters.{TwoLevels, high, base, turn, word, turned, oddHigh, contrastOf, turnIf, Coefficients, BaseFactors, AddedFactors, SameInBlock, OnlyConfounded, Aliases, Totals, AliasTotals, MainEffects, AnyFactor, Answered}
+use Rattle.claims.specs.Letters.{TwoLevels, high, base, signsOdd, word, signOne, oddHigh, contrastOf, turnIf, Coefficients, BaseFactors, AddedFactors, SameInBlock, OnlyConfounded, Aliases, Totals, AliasTotals, MainEffects, AnyFactor, Answered}
 
 module _ (p : Plan) (t : TwoLevels p) where
-  a : Accepted p
+  pub a : Accepted p
   a = accepted p (t .accepted)
 
-  k-few : p .k ≤ 10
+  pub k-few : p .k ≤ 10
   k-few = sizes p (t .accepted) .0
 
   -- an effect of the base factors, by the run's number
   coef-odd : (e r : ℕ) → e < runsOf p → coef* (factorsOf p) e r ≡ signOf (oddIn r e)
   coef-odd e r h = plan-coef p (t .accepted) (t .two) e h r
 
-  high-same : (e r : ℕ) → e < runsOf p → oddHigh p r e ≡ oddIn r e
+  pub high-same : (e r : ℕ) → e < runsOf p → oddHigh p r e ≡ oddIn r e
   high-same e r h = high-odd (p .k) (addedWords p) (addedSigns p) r e (omega (arith, k-few)) (rw (runs-two p (t .two)) at h)
 
-  base-in : (e : ℕ) → base p e < runsOf p
+  pub base-in : (e : ℕ) → base p e < runsOf p
   base-in e = rw (runs-two p (t .two)) (base-small p a e)
 
-  letter-in : (i : ℕ) → i < p .k → 2 ^ i < runsOf p
+  pub letter-in : (i : ℕ) → i < p .k → 2 ^ i < runsOf p
   letter-in i h = rw (runs-two p (t .two)) (pow-lt h)
 
   one-high : (i r : ℕ) → i < allLetters p → oddHigh p r (2 ^ i) ≡ has (high p r) i
@@ -83,20 +85,20 @@ added-factors p t j r l w =
     let h : word p j < runsOf p = rw (runs-two p (t .two)) (within (p .k) (word p j) w (a p t .words j l .0)) in (
       h,
       ap signOf (high-added (p .k) (addedWords p) (addedSigns p) r j l ∙ high-turned (getD (addedSigns p) j 0) (word p j) r (signs-small (a p t) j))
-          ∙ sign-turned (turned p j) (oddIn r (word p j))
-          ∙ ap (turnIf (turned p j)) (sym (coef-odd p t (word p j) r h)),
+          ∙ sign-turned (signOne p j) (oddIn r (word p j))
+          ∙ ap (turnIf (signOne p j)) (sym (coef-odd p t (word p j) r h)),
     )
 
 odd-turned : (p : Plan) → TwoLevels p → (e : ℕ) → e < 2 ^ allLetters p → (r : ℕ)
-    → oddHigh p r e ≡ cond (turn p e) (not (oddIn r (base p e))) (oddIn r (base p e))
-odd-turned p t e f r = plan-reduces p (a p t) r e f
+    → oddHigh p r e ≡ cond (signsOdd p e) (not (oddIn r (base p e))) (oddIn r (base p e))
+odd-turned p t e f r = plan-reduces-odd p (a p t) r e f
 
 pub aliases : Aliases
 aliases p t e r f = (
   base-in p t e,
   ap signOf (odd-turned p t e f r)
-      ∙ sign-turned (turn p e) (oddIn r (base p e))
-      ∙ ap (turnIf (turn p e)) (sym (coef-odd p t (base p e) r (base-in p t e))),
+      ∙ sign-turned (signsOdd p e) (oddIn r (base p e))
+      ∙ ap (turnIf (signsOdd p e)) (sym (coef-odd p t (base p e) r (base-in p t e))),
 )
 
 pub totals : Totals
@@ -110,9 +112,9 @@ not-turned false b = refl
 
 pub alias-totals : AliasTotals
 alias-totals p t x e f =
-    contrast-turned (runsOf p) (λ r. not (oddHigh p r e)) (λ r. not (oddIn r (base p e))) x (turn p e)
-    (λ r h. ap not (odd-turned p t e f r) ∙ not-turned (turn p e) (oddIn r (base p e)))
-    ∙ ap (turnIf (turn p e)) (sym (plan-total p (t .accepted) (t .two) (base p e) (base-in p t e) x))
+    contrast-turned (runsOf p) (λ r. not (oddHigh p r e)) (λ r. not (oddIn r (base p e))) x (signsOdd p e)
+    (λ r h. ap not (odd-turned p t e f r) ∙ not-turned (signsOdd p e) (oddIn r (base p e)))
+    ∙ ap (turnIf (signsOdd p e)) (sym (plan-total p (t .accepted) (t .two) (base p e) (base-in p t e) x))
 
 -- the contrast of one letter
 one-contrast : (p : Plan) → TwoLevels p → (x : Column) (i : ℕ) → i < allLetters p

@@ -17,15 +17,15 @@ use Rattle.contrasts.specs.Checks.{checkWeight, round, rounds}
 use Rattle.words.specs.Words.{letters, beyond, times, combined, any, among, repeated}
 use Rattle.plan.specs.Plan.{factorsOf, someCombination, combinesTo}
 use Rattle.plan.specs.Check.{badLevels, badFactors, badCounts, badWord, badSign, badWords, dependent, factorWord, losesFactor, planRefused, withPlan, runCount, confoundedAccepted}
-use Rattle.aliases.specs.Alias.{baseWord, turnsOf, turns, aliasRefused}
+use Rattle.aliases.specs.Alias.{baseWord, signOnes, oddSigns, turned, aliasRefused}
 use Rattle.columns.specs.Refusals.{wrongLength, isBeyond, anyBeyond}
 use Rattle.effects.specs.Effects.{effectDivisors}
 use Rattle.rows.specs.Kinds.{wrongRows, kindByMark, kindOf, badMark, badMarks}
 use Rattle.estimates.specs.Quotient.{quotient}
-use Rattle.estimates.specs.Estimate.{meanOf, differenceOf, valueBy, estimateRefused}
+use Rattle.estimates.specs.Estimate.{printedTotal, meanOf, differenceOf, valueBy, estimateRefused}
 use Rattle.anova.specs.Table.{wrongLengths, tableRefused, sourceOf, totalSource, checksOf, tableFigures, tableTotals, tableRows, rowsOf}
 use Rattle.claims.specs.Starred.{Starred}
 
 pub starred : Starred
-unfolding tableRefused tableTotals tableRows tableFigures sourceOf totalSource checksOf rowsOf wrongLengths wrongRows wrongLength anyBeyond isBeyond badMarks badMark kindOf kindByMark withPlan planRefused badLevels badFactors mostTwo mostThree badCounts badWords badWord badSign repeated dependent losesFactor factorWord any among beyond letters combined times someCombination combinesTo some bits Σℕ Σ readingLimit factorsOf size two three total coef* totalsOf tabFrom divisor* denominator weight* numeratorOf squared checkWeight round rounds rowOf degreesOf sumAt baseWord turnsOf turns aliasRefused estimateRefused valueBy meanOf differenceOf quotient runCount effectDivisors confoundedAccepted
+unfolding tableRefused tableTotals tableRows tableFigures sourceOf totalSource checksOf rowsOf wrongLengths wrongRows wrongLength anyBeyond isBeyond badMarks badMark kindOf kindByMark withPlan planRefused badLevels badFactors mostTwo mostThree badCounts badWords badWord badSign repeated dependent losesFactor factorWord any among beyond letters combined times someCombination combinesTo some bits Σℕ Σ readingLimit factorsOf size two three total coef* totalsOf tabFrom divisor* denominator weight* numeratorOf squared checkWeight round rounds rowOf degreesOf sumAt baseWord signOnes oddSigns turned aliasRefused estimateRefused valueBy meanOf differenceOf printedTotal quotient runCount effectDivisors confoundedAccepted
 starred = refl

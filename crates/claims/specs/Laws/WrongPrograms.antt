@@ -111,7 +111,7 @@ A-estimated : estimateRefused four 1 (neg 6) ≡ 0
 unfolding estimateRefused withPlan planRefused badLevels badFactors mostTwo mostThree badCounts badWords badWord badSign repeated dependent losesFactor factorWord any among beyond letters combined times someCombination combinesTo some bits Σℕ readingLimit
 A-estimated = refl
 
-A-not-lost : estimateValue four 1 (neg 6) ≡ difference (differenceOf 2 (neg 6))
+A-not-lost : estimateValue four 1 (neg 6) ≡ difference (differenceOf 2 1 (neg 6))
 unfolding valueBy combinesTo someCombination combined times some bits Σℕ
 A-not-lost = refl
 
@@ -189,7 +189,7 @@ isLost (given (mean x)) = 0
 isLost (given (difference x)) = 0
 isLost (refused n) = 0
 
-promised-not-lost : promisedEstimate four 1 (neg 6) ≡ given (difference (differenceOf 2 (neg 6)))
+promised-not-lost : promisedEstimate four 1 (neg 6) ≡ given (difference (differenceOf 2 1 (neg 6)))
 promised-not-lost = given-with _ (estimateValue four 1 (neg 6)) A-estimated ∙ ap given A-not-lost
 
 pub wrong-programs : WrongPrograms

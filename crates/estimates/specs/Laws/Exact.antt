@@ -17,7 +17,7 @@ use lib.Ieee as ieee
 use lib.Ieee.{Float, nan, inf, fin, binary64, up, down, minus, fits}
 use lib.Ieee.Exact.{HasValue, odd-sign}
 use lib.Ieee.Fits.{odd-fits}
-use Rattle.estimates.specs.Quotient.{negative, IsQuotient, Exactly, double, quotient}
+use Rattle.estimates.specs.Quotient.{negative, IsQuotient, Exactly, double, quotient, positiveZero}
 use Rattle.estimates.specs.Laws.Doubles.{one-double}
 
 pub of-value : (t : ℤ) (j : ℕ) (x : Float) → HasValue x (negative t) (natAbs t) (2 ^ j) → IsQuotient t j x
@@ -87,6 +87,6 @@ exact t j h k =
     let f : T (fits binary64 (quotient t j)) = is-double (negative t) (natAbs t) j h k in
     record { value = v; double = f; only = λ y g w. unique g f w v }
 
-pub positive-zero : (j : ℕ) → quotient (pos 0) j ≡ fin false 0 (pos 0)
+pub positive-zero : (j : ℕ) → quotient (pos 0) j ≡ positiveZero
 unfolding quotient
 positive-zero j = refl

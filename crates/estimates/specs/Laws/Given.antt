@@ -15,7 +15,7 @@ use native.Mathlib.Nat.{mul-le-mul-right}
 use native.Mathlib.Omega.{arith}
 use borrow.Author.Tests.{eq-eqb, ne-eqb, eqb-false, le-ltb, ltb-false}
 use lib.Dec.{eqb, ltb}
-use lib.IntN.{ℤ, natAbs}
+use lib.IntN.{ℤ, pos, natAbs}
 use lib.Pow.{pow-mono}
 use lib.Ieee.{Float}
 use Rattle.contrasts.specs.Limits.{readingLimit}
@@ -28,9 +28,10 @@ use Rattle.plan.specs.Laws.Accepted.{accepted, sizes}
 use Rattle.plan.specs.Laws.Answers.{after-plan, passed, plan-passed, refused-with, given-with}
 use Rattle.plan.specs.Laws.Confounded.{not-empty}
 use Rattle.plan.specs.Laws.Sizes.{two-levels}
-use Rattle.estimates.specs.Quotient.{Exactly, InDouble}
-use Rattle.estimates.specs.Estimate.{Value, mean, difference, lost, meanOf, differenceOf, valueBy, estimateValue, totalLimit, estimateRefused, ExactlyGiven}
-use Rattle.estimates.specs.Laws.Exact.{exact}
+use Rattle.estimates.specs.Quotient.{Exactly, positiveZero, InDouble}
+use Rattle.estimates.specs.Estimate.{Value, mean, difference, lost, printedTotal, meanOf, differenceOf, valueBy, estimateValue, totalLimit, estimateRefused, ExactlyGiven}
+use Rattle.estimates.specs.Laws.Exact.{exact, positive-zero}
+use Rattle.estimates.specs.Laws.Printed.{printed-held, zero-difference}
 
 -- ---- the numbers
 
@@ -84,9 +85,12 @@ pub record Estimated (p : Plan) (e : ℕ) (t : ℤ) : Type 0 where
   -- "The mean is the total over 2 to the power k": of the empty effect, which is never lost
   pub of-mean : e ≡ 0 → estimateValue p e t ≡ mean (meanOf (p .k) t)
   pub mean-exact : Exactly t (p .k) (meanOf (p .k) t)
-  -- "a difference the total over 2 to the power k - 1": of every other effect that is not lost
-  pub of-difference : confoundedIn p e ≡ false → (e ≡ 0 → ⊥) → estimateValue p e t ≡ difference (differenceOf (p .k) t)
-  pub difference-exact : Exactly t (p .k - 1) (differenceOf (p .k) t)
+  -- "a difference the total over 2 to the power k - 1", "negated when the effect has an odd number of letters": of every other effect that is
+  -- not lost
+  pub of-difference : confoundedIn p e ≡ false → (e ≡ 0 → ⊥) → estimateValue p e t ≡ difference (differenceOf (p .k) e t)
+  pub difference-exact : Exactly (printedTotal e t) (p .k - 1) (differenceOf (p .k) e t)
+  -- "A zero total still gives positive zero."
+  pub zero-exact : t ≡ pos 0 → (meanOf (p .k) t ≡ positiveZero) × (differenceOf (p .k) e t ≡ positiveZero)
 
 -- an accepted plan does not lose the mean
 never-lost : {p : Plan} {e : ℕ} {t : ℤ} → Admitted p e t → e ≡ 0 → (b : Bool) → confoundedIn p e ≡ b → b ≡ false
@@ -110,23 +114,27 @@ estimated p e t n =
     let h = held a in
     record {
       lost-when = λ c. rw c refl;
-      lost-only = λ c. sym (lost-by (confoundedIn p e) (eqb e 0) (meanOf (p .k) t) (differenceOf (p .k) t)) ∙ ap isLost c;
+      lost-only = λ c. sym (lost-by (confoundedIn p e) (eqb e 0) (meanOf (p .k) t) (differenceOf (p .k) e t)) ∙ ap isLost c;
       of-mean = λ z. rw (never-lost a z (confoundedIn p e) refl, eq-eqb e 0 z) refl;
       mean-exact = exact t (p .k) (h .number) (omega (arith, h .power));
       of-difference = λ c z. rw (c, ne-eqb e 0 z) refl;
-      difference-exact = exact t (p .k - 1) (h .number) (omega (arith, h .power));
+      difference-exact =
+          let g = printed-held e h in
+          exact (printedTotal e t) (p .k - 1) (g .number) (omega (arith, g .power));
+      zero-exact = λ z. rw z (positive-zero (p .k), zero-difference (p .k) e);
     }
 
 module _ (p : Plan) (e : ℕ) (t : ℤ) where
-  exactly : Estimated p e t → (b zero : Bool) → ExactlyGiven p t (given (cond b lost (cond zero (mean (meanOf (p .k) t)) (difference (differenceOf (p .k) t)))))
+  exactly : Estimated p e t → (b zero : Bool)
+      → ExactlyGiven p e t (given (cond b lost (cond zero (mean (meanOf (p .k) t)) (difference (differenceOf (p .k) e t)))))
   exactly d true zero = tt
   exactly d false true = d .mean-exact
   exactly d false false = d .difference-exact
 
-  pub exactly-given : {o : Outcome Value} → o ≡ outcome (estimateRefused p e t) (estimateValue p e t) → ExactlyGiven p t o
+  pub exactly-given : {o : Outcome Value} → o ≡ outcome (estimateRefused p e t) (estimateValue p e t) → ExactlyGiven p e t o
   unfolding valueBy
-  exactly-given d = subst (ExactlyGiven p t) (sym d) (by (ℕ-discrete (estimateRefused p e t) 0))
+  exactly-given d = subst (ExactlyGiven p e t) (sym d) (by (ℕ-discrete (estimateRefused p e t) 0))
     where
-      by : Dec (estimateRefused p e t ≡ 0) → ExactlyGiven p t (outcome (estimateRefused p e t) (estimateValue p e t))
+      by : Dec (estimateRefused p e t ≡ 0) → ExactlyGiven p e t (outcome (estimateRefused p e t) (estimateValue p e t))
       by (yes z) = rw (given-with (estimateRefused p e t) (estimateValue p e t) z) (exactly (estimated p e t z) (confoundedIn p e) (eqb e 0))
       by (no h) = rw (refused-with (estimateRefused p e t) (estimateValue p e t) h) tt

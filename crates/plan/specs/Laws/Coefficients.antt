@@ -4,12 +4,14 @@
 --   coef-two       an effect of k letters: all that it has in common with the run
 --   plan-coef      the coefficients of an accepted plan of two levels
 --   plan-total     so a total is the sum over the runs with an even number of letters in common, less the sum over the others
+--   plan-balance   of an effect but the mean the signs add up to 0
 use mathlib.Core.Path.{_≡_, refl, sym, ap, ap₂, _∙_}
 use mathlib.Core.Bool.{Bool, true, false, cond, not}
 use Prim.Native.Nat.{ℕ, zero, suc, _+_, _*_, _/_, _%_, _^_, _<_, _≤_}
 use native.Mathlib.Nat.{mod-lt, zero-lt-suc}
 use native.Mathlib.Omega.{arith}
-use lib.IntN.{ℤ, _*ℤ_}
+use borrow.Author.Tests.{ne-eqb}
+use lib.IntN.{ℤ, pos, _*ℤ_}
 use lib.ListN.{replicate}
 use Rattle.algebra.specs.Laws.Bits.{bit-zero, bit-suc}
 use Rattle.algebra.specs.Naturals.{Σℕ}
@@ -18,10 +20,11 @@ use Rattle.algebra.specs.Laws.Sum.{Σ-ext}
 use Rattle.contrasts.specs.Factors.{two}
 use Rattle.contrasts.specs.Totals.{Column, coef*, total}
 use Rattle.contrasts.specs.Contrast.{signOf, contrast}
+use Rattle.contrasts.specs.Laws.Orthogonal.{orthogonal}
 use Rattle.contrasts.specs.Laws.Signed.{signed-sum}
 use Rattle.words.specs.Words.{letter, odd, oddIn}
 use Rattle.words.specs.Laws.Letters.{shared-first}
-use Rattle.words.specs.Laws.Parity.{odd-add}
+use Rattle.words.specs.Laws.Parity.{odd-add, odd-swap, none-odd}
 use Rattle.plan.specs.declared.types.Plan.{Plan}
 use Rattle.plan.specs.Check.{planRefused}
 use Rattle.plan.specs.Plan.{factorsOf, runsOf}
@@ -72,3 +75,19 @@ module _ (p : Plan) (ok : planRefused p ≡ 0) (t : p .levels ≡ 2) (e : ℕ) (
   pub plan-total : (x : Column) → total (factorsOf p) x e ≡ contrast (runsOf p) (λ r. not (oddIn r e)) x
   unfolding total
   plan-total x = Σ-ext (runsOf p) (λ r. ap (λ (c : ℤ). x r *ℤ c) (plan-coef r)) ∙ signed-sum (runsOf p) (λ r. oddIn r e) x
+
+-- ---- of an effect but the mean, as many runs have one sign as the other
+
+-- the mean counts every run plus
+mean-coef : (p : Plan) → planRefused p ≡ 0 → p .levels ≡ 2 → 0 < runsOf p → (r : ℕ) → coef* (factorsOf p) 0 r ≡ pos 1
+mean-coef p ok t h r = plan-coef p ok t 0 h r ∙ ap signOf (odd-swap r 0 ∙ none-odd r)
+
+pub plan-balance : (p : Plan) → planRefused p ≡ 0 → p .levels ≡ 2 → (e : ℕ) → e < runsOf p → (e ≡ 0 → ⊥)
+    → contrast (runsOf p) (λ r. not (oddIn r e)) (λ r. pos 1) ≡ pos 0
+unfolding total
+plan-balance p ok t e h not-mean =
+    let some : 0 < runsOf p = omega (arith, h) in
+    sym (plan-total p ok t e h (λ r. pos 1))
+    ∙ Σ-ext (runsOf p) (λ r. ap (λ (c : ℤ). c *ℤ coef* (factorsOf p) e r) (sym (mean-coef p ok t some r)))
+    ∙ orthogonal (factorsOf p) 0 e some h
+    ∙ rw (ne-eqb 0 e (λ z. not-mean (sym z))) refl

@@ -6,26 +6,28 @@
 --   combined-at        its letters
 --   combined-beyond    it has no letter beyond k where none of its words has one
 --   combined-within    so it is below 2 ^ k where its first word is
+--   combined-own       with none of the words a word combines to itself
+--   combined-one       one word combines to itself
 --   keeps-odd          a digit times a number is odd or even as it is times the number's lowest digit
 --   shared-combined    how many letters it shares with a run is odd or even as the sum over its words is
 use mathlib.Core.Path.{_≡_, refl, sym, ap, _∙_}
 use mathlib.Core.Bool.{Bool, true, false, cond, _&&_}
 use mathlib.Core.List.{List}
 use Prim.Native.Nat.{ℕ, zero, suc, _+_, _*_, _%_, _^_, _<_, _≤_}
-use native.Mathlib.Nat.{mul-zero, zero-mul, mul-add, mul-left-comm, mod-lt, zero-lt-suc}
+use native.Mathlib.Nat.{mul-zero, zero-mul, zero-div, mul-add, mul-left-comm, mod-lt, mod-eq-of-lt, zero-lt-suc}
 use native.Mathlib.Omega.{arith}
 use native.Mathlib.Numerals.{add-one}
 use lib.Bits.{bitXor, xor-lt}
-use lib.Dec.{leb}
+use lib.Dec.{eqb, leb}
 use lib.ListN.{length, getD}
 use borrow.Author.Tests.{leb-true, eqb-true, eqb-false}
 use Rattle.algebra.specs.Bits.{bit}
 use Rattle.algebra.specs.Laws.Bits.{bit-lt, bit-xor, digit, bits-lt, bits-at, bits-all, bits-cong}
 use Rattle.algebra.specs.Naturals.{Σℕ}
-use Rattle.algebra.specs.Laws.Naturals.{Σℕ-none, Σℕ-add, Σℕ-mul, Σℕ-cong, Σℕ-swap, Σℕ-parity}
+use Rattle.algebra.specs.Laws.Naturals.{Σℕ-none, Σℕ-add, Σℕ-mul, Σℕ-cong, Σℕ-one, Σℕ-swap, Σℕ-parity}
 use Rattle.algebra.specs.Laws.Search.{some-false}
 use Rattle.words.specs.Words.{letter, has, beyond, shared, odd, times, combined}
-use Rattle.words.specs.Laws.Letters.{no-letter, beyond-none, within}
+use Rattle.words.specs.Laws.Letters.{one-letter, no-letter, beyond-none, within}
 
 -- ---- the loop
 
@@ -97,6 +99,35 @@ pub combined-within : (k w choice : ℕ) (ws : List ℕ) → w < 2 ^ k → ((j :
     → combined w choice ws < 2 ^ k
 combined-within k w choice ws h hs =
     within k (combined w choice ws) (combined-small w choice ws) (combined-beyond k w choice ws (beyond-none k w h) hs)
+
+pub combined-own : (w : ℕ) (ws : List ℕ) → w < 2 ^ 16 → combined w 0 ws ≡ w
+unfolding combined times
+combined-own w ws h = bits-cong 16 (λ i l. rw (none i, mod-eq-of-lt (bit-lt w i)) refl) ∙ bits-all 16 w h
+  where
+    none : (i : ℕ) → times w 0 ws i ≡ letter w i
+    none i =
+        let s : Σℕ (length ws) (λ j. letter 0 j * letter (getD ws j 0) i) ≡ 0
+        = Σℕ-none (length ws) (λ j. letter 0 j * letter (getD ws j 0) i) (λ j l. rw (zero-div (2 ^ j)) (zero-mul (letter (getD ws j 0) i))) in
+        omega (arith, s)
+
+pub combined-one : (j : ℕ) (ws : List ℕ) → j < length ws → length ws ≤ 16 → getD ws j 0 < 2 ^ 16 → combined 0 (2 ^ j) ws ≡ getD ws j 0
+unfolding combined times
+combined-one j ws h few small = bits-cong 16 (λ i l. rw (once i, mod-eq-of-lt (bit-lt w i)) refl) ∙ bits-all 16 w small
+  where
+    w : ℕ
+    w = getD ws j 0
+
+    digit-of : (b : Bool) (m : ℕ) → cond b 1 0 * m ≡ cond b m 0
+    digit-of true m = omega arith
+    digit-of false m = omega arith
+
+    once : (i : ℕ) → times 0 (2 ^ j) ws i ≡ letter w i
+    once i =
+        let s : Σℕ (length ws) (λ m. letter (2 ^ j) m * letter (getD ws m 0) i) ≡ letter w i
+        = Σℕ-cong (length ws) (λ m l. rw (one-letter j m (omega (arith, h, few)) (omega (arith, l, few))) (digit-of (eqb j m) (letter (getD ws m 0) i)))
+        ∙ Σℕ-one (length ws) j (λ m. letter (getD ws m 0) i) h in
+        let z : letter 0 i ≡ 0 = rw (zero-div (2 ^ i)) refl in
+        omega (arith, s, z)
 
 -- ---- odd or even
 

@@ -27,7 +27,7 @@ use Rattle.algebra.specs.Search.{some}
 use Rattle.algebra.specs.Laws.Search.{some-at, none-at, some-false}
 use Rattle.words.specs.Words.{letter, has, shared, odd, oddIn, beyond, times, combined, any}
 use Rattle.words.specs.Laws.Letters.{odd-same, beyond-none}
-use Rattle.words.specs.Laws.Combined.{combined-small, combined-at, combined-within, shared-combined}
+use Rattle.words.specs.Laws.Combined.{combined-small, combined-at, combined-within, combined-own, shared-combined}
 use Rattle.words.specs.Laws.Parity.{odd-add, odd-swap, one-odd}
 
 abbrev pub EvenIn : ℕ → List ℕ → Type 0
@@ -84,14 +84,7 @@ no-letter-at : (i : ℕ) → letter 0 i ≡ 0
 no-letter-at i = rw (zero-div (2 ^ i)) refl
 
 pub combined-none : (ws : List ℕ) → combined 0 0 ws ≡ 0
-unfolding combined times bits Σℕ
-combined-none ws = bits-cong 16 {f = λ i. odd (times 0 0 ws i)} {g = λ i. false} (λ i l. rw (none i))
-  where
-    none : (i : ℕ) → times 0 0 ws i ≡ 0
-    none i =
-        let s : Σℕ (length ws) (λ j. letter 0 j * letter (getD ws j 0) i) ≡ 0
-        = Σℕ-none (length ws) (λ j. letter 0 j * letter (getD ws j 0) i) (λ j l. rw (no-letter-at j) (zero-mul (letter (getD ws j 0) i))) in
-        omega (arith, s, no-letter-at i)
+combined-none ws = combined-own 0 ws (omega arith)
 
 combined-rest : (c w : ℕ) (ws : List ℕ) → combined 0 (0 + 2 * c) (w ∷ ws) ≡ combined 0 c ws
 unfolding combined

@@ -9,6 +9,7 @@
 --   odd-same               numbers that are both odd, or both even, have one remainder
 --   shared-none            a run shares no letter with the empty word
 --   shared-first           with a word below 2 ^ n it shares letters among the first n only
+--   one-letter             the letters of the word of one letter
 --   no-letter              a word with no letter beyond k lacks each of them
 use mathlib.Core.Path.{_≡_, refl, sym, ap, _∙_, subst}
 use mathlib.Core.Bool.{Bool, true, false, cond, not, _&&_, true≢false}
@@ -20,10 +21,10 @@ use lib.Count.{ones}
 use lib.Dec.{eqb, leb}
 use lib.Pow.{pow-add}
 use borrow.Author.Tests.{ne-eqb, leb-true, leb-false, le-leb}
-use Rattle.algebra.specs.Laws.Bits.{digit, bit-none, bit-unset, bits-ext, ones-bits, ones-and}
-use Rattle.algebra.specs.Bits.{bit, isSet}
+use Rattle.algebra.specs.Laws.Bits.{digit, bit-lt, bit-none, bit-unset, bits-at, bits-ext, ones-bits, ones-and}
+use Rattle.algebra.specs.Bits.{bit, bits, isSet}
 use Rattle.algebra.specs.Naturals.{Σℕ}
-use Rattle.algebra.specs.Laws.Naturals.{Σℕ-none, Σℕ-upto}
+use Rattle.algebra.specs.Laws.Naturals.{Σℕ-none, Σℕ-one, Σℕ-upto}
 use Rattle.algebra.specs.Laws.Search.{some-false, none-at}
 use Rattle.words.specs.Words.{letter, has, letters, beyond, shared, oddIn, odd}
 
@@ -96,3 +97,9 @@ shared-none r = Σℕ-none 16 (λ i. letter r i * letter 0 i) (λ i l. rw (zero-
 pub shared-first : (n r w : ℕ) → n ≤ 16 → w < 2 ^ n → shared r w ≡ Σℕ n (λ i. letter r i * letter w i)
 unfolding shared
 shared-first n r w h l = Σℕ-upto n 16 (λ i. letter r i * letter w i) h (λ i g. rw (bit-none n w i l g) (mul-zero (letter r i)))
+
+pub one-letter : (i j : ℕ) → i < 16 → j < 16 → letter (2 ^ i) j ≡ cond (eqb i j) 1 0
+unfolding bits
+one-letter i j h l =
+    let e : bits 16 (λ m. eqb i m) ≡ 2 ^ i = Σℕ-one 16 i (λ m. 2 ^ m) h in
+    sym (digit (letter (2 ^ i) j) (bit-lt (2 ^ i) j)) ∙ ap (λ (b : Bool). cond b 1 0) (rw e at (bits-at 16 (λ m. eqb i m) j l))

@@ -3,19 +3,22 @@
 --   odd-add      whether a sum is odd
 --   odd-swap     a run and a word may be exchanged
 --   none-odd     no word is odd in the run without high letters
---   one-odd      the word of one letter is odd in a run exactly where that letter is high
+--   lows-shared  a word's letters are those that are low in the run, and those that are high
+--   plus-odd     whether a run counts plus, by the letters that are high: the sign turns once for each letter of the word
+--   letters-one  the word of one letter has one
+--   one-odd      it is odd in a run exactly where that letter is high
+--   one-plus     and there the run counts plus
 use mathlib.Core.Path.{_≡_, refl, sym, ap, _∙_}
 use mathlib.Core.Bool.{Bool, true, false, cond, not}
-use Prim.Native.Nat.{ℕ, _+_, _*_, _%_, _^_, _<_}
+use Prim.Native.Nat.{ℕ, zero, suc, _+_, _*_, _-_, _%_, _^_, _<_}
 use native.Mathlib.Nat.{mul-comm, mod-eq-of-lt}
 use native.Mathlib.Omega.{arith}
 use lib.Dec.{eqb}
 use borrow.Author.Tests.{eq-eqb, ne-eqb, eqb-true, eqb-false}
-use Rattle.algebra.specs.Laws.Naturals.{Σℕ-cong, Σℕ-one}
-use Rattle.algebra.specs.Bits.{bits}
-use Rattle.algebra.specs.Laws.Bits.{bits-at, bit-lt, digit}
-use Rattle.words.specs.Words.{letter, has, shared, odd, oddIn}
-use Rattle.words.specs.Laws.Letters.{shared-none}
+use Rattle.algebra.specs.Laws.Naturals.{Σℕ-add, Σℕ-cong, Σℕ-one}
+use Rattle.algebra.specs.Laws.Bits.{bit-lt}
+use Rattle.words.specs.Words.{letter, has, letters, odd, oddWord, shared, oddIn, lows, plusIn}
+use Rattle.words.specs.Laws.Letters.{one-letter, shared-none}
 
 pub odd-add : (a b : ℕ) → odd (a + b) ≡ cond (odd b) (not (odd a)) (odd a)
 odd-add a b = by (odd a) (odd b) refl refl
@@ -34,13 +37,35 @@ pub none-odd : (w : ℕ) → oddIn 0 w ≡ false
 unfolding oddIn
 none-odd w = odd-swap 0 w ∙ rw (shared-none w) refl
 
--- ---- one letter
+-- ---- letters that are low, and those that are high
 
-one-letter : (i j : ℕ) → i < 16 → j < 16 → letter (2 ^ i) j ≡ cond (eqb i j) 1 0
-unfolding bits
-one-letter i j h l =
-    let e : bits 16 (λ m. eqb i m) ≡ 2 ^ i = Σℕ-one 16 i (λ m. 2 ^ m) h in
-    sym (digit (letter (2 ^ i) j) (bit-lt (2 ^ i) j)) ∙ ap (λ (b : Bool). cond b 1 0) (rw e at (bits-at 16 (λ m. eqb i m) j l))
+-- x a letter of the word, y whether it is high
+low-or-high : (x y : ℕ) → y < 2 → x * (1 - y) + y * x ≡ x
+low-or-high x zero h = omega arith
+low-or-high x (suc zero) h = omega arith
+low-or-high x (suc (suc y)) h = absurd (omega (arith, h))
+
+pub lows-shared : (run w : ℕ) → lows run w + shared run w ≡ letters w
+unfolding lows shared letters
+lows-shared run w =
+    sym (Σℕ-add 16 (λ i. letter w i * (1 - letter run i)) (λ i. letter run i * letter w i))
+    ∙ Σℕ-cong 16 (λ i h. low-or-high (letter w i) (letter run i) (bit-lt run i))
+
+-- an odd number of letters, by whether those that are low and those that are high are odd
+turns-back : (low high : Bool) → not low ≡ cond (cond high (not low) low) high (not high)
+turns-back true true = refl
+turns-back true false = refl
+turns-back false true = refl
+turns-back false false = refl
+
+pub plus-odd : (run w : ℕ) → plusIn run w ≡ cond (oddWord w) (oddIn run w) (not (oddIn run w))
+unfolding plusIn oddIn
+plus-odd run w =
+    turns-back (odd (lows run w)) (odd (shared run w))
+    ∙ ap (λ (t : Bool). cond t (odd (shared run w)) (not (odd (shared run w))))
+    (sym (odd-add (lows run w) (shared run w)) ∙ ap odd (lows-shared run w))
+
+-- ---- one letter
 
 one-shared : (run i : ℕ) → i < 16 → shared run (2 ^ i) ≡ letter run i
 unfolding shared
@@ -53,3 +78,10 @@ one-shared run i h = Σℕ-cong 16 (λ j l. rw (one-letter i j h l) (times (eqb 
 pub one-odd : (run i : ℕ) → i < 16 → oddIn run (2 ^ i) ≡ has run i
 unfolding oddIn
 one-odd run i h = rw (one-shared run i h, mod-eq-of-lt (bit-lt run i))
+
+pub letters-one : (i : ℕ) → i < 16 → letters (2 ^ i) ≡ 1
+unfolding letters
+letters-one i h = Σℕ-cong 16 (λ j l. one-letter i j h l) ∙ Σℕ-one 16 i (λ j. 1) h
+
+pub one-plus : (run i : ℕ) → i < 16 → plusIn run (2 ^ i) ≡ has run i
+one-plus run i h = plus-odd run (2 ^ i) ∙ rw (letters-one i h) (one-odd run i h)

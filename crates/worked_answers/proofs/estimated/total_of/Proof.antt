@@ -5,7 +5,7 @@ use Rattle.worked_answers.proofs.estimated.total_of.Statement.{statemen
 use Rattle.worked_answers.proofs.estimated.total_of.Tie as tie
 
 abbrev Inv-loop : tie.InvT-loop
-Inv-loop body bits₀ i₀ bits i = 2 ≤ i
+Inv-loop body bits₀ i₀ bits i = 3 ≤ i
 
 abbrev μ-loop : tie.MeasureT-loop
 μ-loop body bits₀ i₀ bits i = length body - i

@@ -2,11 +2,11 @@ use mathlib.Core.Path.{refl}
 use native.Mathlib.Omega.{arith}
 use borrow.Author.Tests.{ne-eqb}
 use borrow.Author.Needs.{needs}
-use Rattle.aliases.proofs.effects.turn.Statement.{statement}
-use Rattle.aliases.proofs.effects.turn.Tie as tie
+use Rattle.aliases.proofs.effects.one_sign.Statement.{statement}
+use Rattle.aliases.proofs.effects.one_sign.Tie as tie
 
-pub turn-spec : {M : Type 1} → statement M
-turn-spec =
+pub one-sign-spec : {M : Type 1} → statement M
+one-sign-spec =
     tie.close
     (tie.spec
     (λ c. (rw (c .before .if1 .taken, c .if2 .taken) refl, omega arith))

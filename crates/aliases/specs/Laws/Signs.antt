@@ -1,4 +1,4 @@
--- The loop that counts the turns, and the numbers of the alias call.
+-- The loop that counts the replaced letters with sign 1, and the numbers of the alias call.
 --
 --   Counted, counted-none, counted-more, counted-all
 --                the loop that counts the replaced letters with sign 1
@@ -17,7 +17,7 @@ use Rattle.plan.specs.declared.types.Plan.{Plan}
 use Rattle.words.specs.Words.{has, beyond}
 use Rattle.plan.specs.Plan.{allLetters}
 use Rattle.plan.specs.Check.{planRefused}
-use Rattle.aliases.specs.Alias.{turnsOf, aliasRefused}
+use Rattle.aliases.specs.Alias.{signOnes, aliasRefused}
 use Rattle.plan.specs.Laws.Answers.{after-plan}
 
 -- of the first j added factors, n are replaced and have sign 1
@@ -44,8 +44,8 @@ module _ {replaced : ℕ} {signs : List ℕ} {j n : ℕ} (w : Counted replaced s
     so = rw (add-one j, ← (w .so), ← t, e) refl;
   }
 
-  pub counted-all : length signs ≤ j → n ≡ turnsOf replaced signs
-  unfolding turnsOf
+  pub counted-all : length signs ≤ j → n ≡ signOnes replaced signs
+  unfolding signOnes
   counted-all h = let e : j ≡ length signs = omega (arith, w .within) in w .so ∙ ap (λ (m : ℕ). Σℕ m (λ i. cond (has replaced i && eqb (getD signs i 0) 1) 1 0)) e
 
 pub alias-two : (p : Plan) (e : ℕ) → planRefused p ≡ 0 → (p .levels ≡ 3 → ⊥) → aliasRefused p e ≡ cond (beyond (allLetters p) e) 10 0

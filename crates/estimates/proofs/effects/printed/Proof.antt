@@ -1,0 +1,18 @@
+use Rattle.estimates.proofs.Negation.{negated-fits, turned-is, turned-small, kept-is, kept-small}
+use Rattle.estimates.proofs.effects.printed.Statement.{statement}
+use Rattle.estimates.proofs.effects.printed.Tie as tie
+
+pub printed-spec : {M : Type 1} → statement M
+printed-spec =
+    tie.close
+    (tie.spec
+    (λ c κs. tt)
+    (λ c. negated-fits (c .before .before .fits .total) (c .before .before .pre))
+    (λ c.
+    let entry = c .before .before in
+    let f = entry .fits .total in
+    (turned-is f (entry .pre) _ (c .before .is-odd-word .ensures) (c .if1 .taken), turned-small f (entry .pre)))
+    (λ c.
+    let entry = c .before .before in
+    let f = entry .fits .total in
+    (kept-is f (entry .pre) _ (c .before .is-odd-word .ensures) (c .if1 .left), kept-small f (entry .pre))))
