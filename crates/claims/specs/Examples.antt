@@ -5,7 +5,11 @@
 --   half-fits        it is one of the plans that the claims speak of
 --   D-as-ABC         in its eight runs D has the signs of ABC, and with sign 1 the opposite ones
 --   AD-as-BC         AD has those of BC, and with sign 1 the opposite ones
+--   four-means       A of the readings 3, 5, 4, 8: the sums where it is high and where it is low, and over how many runs
+--   AD-counts-BC     high minus low: in which runs of `half` AD counts plus, and BC
+--   C-counts-AB      with C = AB, where the two have one letter and two: those of C with either sign, and of AB
 use mathlib.Core.Path.{_≡_, refl}
+use mathlib.Core.Bool.{true, false, not}
 use mathlib.Core.List.{List, [], _∷_, _++_}
 use Prim.Native.Nat.{ℕ}
 use lib.IntN.{ℤ, pos, negℤ}
@@ -14,16 +18,17 @@ use Rattle.algebra.specs.Naturals.{Σℕ}
 use Rattle.algebra.specs.Search.{some}
 use Rattle.algebra.specs.Sum.{Σ}
 use Rattle.algebra.specs.Tab.{tab, tabFrom}
-use Rattle.contrasts.specs.Columns.{passOf}
+use Rattle.contrasts.specs.Columns.{read, passOf}
+use Rattle.contrasts.specs.Contrast.{sumWhere, countWhere}
 use Rattle.contrasts.specs.Limits.{valueLimit, mostTwo, mostThree}
 use Rattle.contrasts.specs.Factors.{two}
 use Rattle.contrasts.specs.Codings.{neg}
 use Rattle.contrasts.specs.Totals.{size, coef*}
 use Rattle.contrasts.specs.Passes.{passAt, passFrom}
 use Rattle.plan.specs.declared.types.Plan.{Plan}
-use Rattle.words.specs.Words.{letters, beyond, times, combined, any, among, repeated, shared, oddIn}
+use Rattle.words.specs.Words.{letters, beyond, times, combined, any, among, repeated, shared, oddIn, lows, plusIn}
 use Rattle.plan.specs.Check.{badLevels, badFactors, badCounts, badWord, badSign, badWords, dependent, factorWord, losesFactor, planRefused, withPlan}
-use Rattle.plan.specs.Examples.{plan, ABC, AD, BC}
+use Rattle.plan.specs.Examples.{plan, A, C, AB, ABC, AD, BC}
 use Rattle.plan.specs.Outcome.{given, refused}
 use Rattle.plan.specs.Plan.{factorsOf, someCombination, combinesTo}
 use Rattle.columns.specs.Refusals.{wrongLength, isBeyond, anyBeyond}
@@ -31,6 +36,7 @@ use Rattle.yates.specs.Calls.{passRefused, passColumn}
 use Rattle.claims.specs.AnyOrder.{afterCalls, found, answer}
 use Rattle.runs.specs.Run.{highBy, highIn, highLetters}
 use Rattle.claims.specs.Letters.{TwoLevels, factorSign, sign}
+use Rattle.claims.specs.HighMinusLow.{plus}
 
 -- ---- passes in any order
 
@@ -75,3 +81,28 @@ AD-as-BC : tab 8 (λ r. sign (half 0) r AD) ++ tab 8 (λ r. sign (half 1) r AD)
     ≡ tab 8 (coef* (factorsOf (half 0)) BC) ++ tab 8 (λ r. negℤ (coef* (factorsOf (half 1)) BC r))
 unfolding tabFrom factorsOf coef* two highLetters highIn highBy oddIn shared bits Σℕ
 AD-as-BC = refl
+
+-- ---- high minus low
+
+-- 5 + 8 and 3 + 4, each over two runs: 6.5 less 3.5 is 3
+four-means : (sumWhere 4 (λ r. plus four r A) (read fourReadings) ≡ pos 13)
+    × (sumWhere 4 (λ r. not (plus four r A)) (read fourReadings) ≡ pos 7)
+    × (countWhere 4 (λ r. plus four r A) ≡ 2)
+    × (countWhere 4 (λ r. not (plus four r A)) ≡ 2)
+unfolding highLetters highIn highBy plusIn lows oddIn shared bits Σ Σℕ
+four-means = (refl, refl, refl, refl)
+
+AD-counts-BC : (tab 8 (λ r. plus (half 0) r AD) ≡ true ∷ true ∷ false ∷ false ∷ false ∷ false ∷ true ∷ true ∷ [])
+    × (tab 8 (λ r. plus (half 0) r BC) ≡ true ∷ true ∷ false ∷ false ∷ false ∷ false ∷ true ∷ true ∷ [])
+    × (tab 8 (λ r. plus (half 1) r AD) ≡ false ∷ false ∷ true ∷ true ∷ true ∷ true ∷ false ∷ false ∷ [])
+unfolding tabFrom highLetters highIn highBy plusIn lows oddIn shared bits Σℕ
+AD-counts-BC = (refl, refl, refl)
+
+abbrev halfAB : ℕ → Plan
+halfAB s = plan 2 2 (AB ∷ []) (s ∷ []) []
+
+C-counts-AB : (tab 4 (λ r. plus (halfAB 0) r AB) ≡ true ∷ false ∷ false ∷ true ∷ [])
+    × (tab 4 (λ r. plus (halfAB 0) r C) ≡ false ∷ true ∷ true ∷ false ∷ [])
+    × (tab 4 (λ r. plus (halfAB 1) r C) ≡ true ∷ false ∷ false ∷ true ∷ [])
+unfolding tabFrom highLetters highIn highBy plusIn lows oddIn shared bits Σℕ
+C-counts-AB = (refl, refl, refl)

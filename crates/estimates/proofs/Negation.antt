@@ -4,7 +4,7 @@
 --   turned-is, kept-is         it is the printed total of an effect with an odd number of letters, and the total that of another
 --   turned-small, kept-small   a double holds both
 --   handed                     and as it is handed on it is the same
-use mathlib.Core.Path.{_≡_, refl, sym, ap, _∙_}
+use mathlib.Core.Path.{_≡_, sym, ap, _∙_}
 use mathlib.Core.Bool.{Bool, true, false, cond}
 use Prim.Native.Nat.{ℕ, _^_, _<_}
 use native.Mathlib.Omega.{arith}

@@ -4,10 +4,10 @@
 --   base-own, turned-own    an effect of base letters is its own base word, and its sign does not turn
 --   base-one                the base word of an added letter is its word
 --   turned-one              its sign turns where it has sign 1; the other way round where its word has an even number of letters
-use mathlib.Core.Path.{_≡_, refl, sym, ap, _∙_}
-use mathlib.Core.Bool.{Bool, true, false, cond, not, _&&_, and-false}
+use mathlib.Core.Path.{_≡_, refl, _∙_}
+use mathlib.Core.Bool.{Bool, true, false, cond, not, _&&_}
 use mathlib.Core.List.{List}
-use Prim.Native.Nat.{ℕ, _+_, _*_, _/_, _%_, _^_, _<_, _≤_}
+use Prim.Native.Nat.{ℕ, _+_, _/_, _%_, _^_, _<_, _≤_}
 use native.Mathlib.Nat.{mod-lt, mod-eq-of-lt, div-eq-of-lt, mul-mod-right, mul-div-right, one-le-pow, zero-lt-suc, lt-of-lt-of-le, zero-div}
 use native.Mathlib.Omega.{arith}
 use lib.Dec.{eqb, leb}
@@ -18,7 +18,7 @@ use Rattle.algebra.specs.Naturals.{Σℕ}
 use Rattle.algebra.specs.Tests.{differ}
 use Rattle.algebra.specs.Laws.Naturals.{Σℕ-none, Σℕ-cong, Σℕ-one}
 use Rattle.algebra.specs.Laws.Tab.{getD-past}
-use Rattle.words.specs.Words.{letter, has, odd, oddWord}
+use Rattle.words.specs.Words.{has, odd, oddWord}
 use Rattle.words.specs.Laws.Letters.{one-letter}
 use Rattle.words.specs.Laws.Parity.{letters-one}
 use Rattle.words.specs.Laws.Combined.{combined-within, combined-own, combined-one}

@@ -11,7 +11,7 @@ use native.Mathlib.Decide.{ℕ-discrete}
 use native.Mathlib.Nat.{pow-succ'}
 use native.Mathlib.Omega.{arith}
 use lib.Dec.{eqb}
-use lib.IntN.{ℤ, pos, negℤ}
+use lib.IntN.{ℤ, pos}
 use lib.Ieee.{Float}
 use lib.ListN.{length, getD, length-take}
 use lib.Pow.{pow-lt, pow-pos}
@@ -21,16 +21,14 @@ use Rattle.algebra.specs.Sum.{Σ}
 use Rattle.algebra.specs.Laws.Search.{none-at}
 use Rattle.algebra.specs.Laws.Tab.{getD-tab}
 use Rattle.contrasts.specs.Columns.{read, totalsOf}
-use Rattle.contrasts.specs.Contrast.{contrast}
 use Rattle.contrasts.specs.Limits.{readingLimit}
 use Rattle.contrasts.specs.Totals.{Column, total}
 use Rattle.contrasts.specs.Laws.Signed.{contrast-turned, contrast-all, count-half}
 use Rattle.words.specs.Words.{has, letters, oddWord, oddIn, plusIn, any, among}
 use Rattle.words.specs.Laws.Parity.{odd-swap, none-odd, plus-odd, letters-one, one-plus}
 use Rattle.plan.specs.declared.types.Plan.{Plan}
-use Rattle.plan.specs.Outcome.{Outcome, given, refused, outcome}
+use Rattle.plan.specs.Outcome.{Outcome, given, refused}
 use Rattle.plan.specs.Plan.{addedWords, addedSigns, factorsOf, runsOf, allLetters, confoundedIn}
-use Rattle.plan.specs.Laws.Accepted.{Accepted}
 use Rattle.plan.specs.Laws.Answers.{given-with, refused-with, written-new}
 use Rattle.plan.specs.Laws.Coefficients.{plan-total, plan-balance}
 use Rattle.plan.specs.Laws.Confounded.{not-one-letter}
@@ -42,12 +40,12 @@ use Rattle.yates.specs.Calls.{totalsRefused, totalsColumn}
 use Rattle.estimates.specs.Quotient.{positiveZero}
 use Rattle.estimates.specs.Estimate.{Value, mean, difference, lost, printedTotal, meanOf, differenceOf, valueBy, estimateRefused, estimateValue}
 use Rattle.estimates.specs.Laws.Exact.{positive-zero as zero-quotient}
-use Rattle.estimates.specs.Laws.Given.{Admitted, admits, Estimated, estimated}
+use Rattle.estimates.specs.Laws.Given.{admits, Estimated, estimated}
 use Rattle.estimates.specs.Laws.Printed.{zero-difference}
 use Rattle.estimates.specs.Laws.Totals.{totals-admitted}
 use Rattle.promises.specs.Promised.{promisedEstimate}
 use Rattle.claims.specs.Letters.{TwoLevels, high, base, word, turnIf}
-use Rattle.claims.specs.HighMinusLow.{plus, turn, turnedBy, highMinusLow, printed, estimateOf, MeanDifference, PrintedTotals, PrintedAliases, PrintedAliasTotals, OwnWord, Generators, Estimates, MainEstimates, AddedEstimates, AliasEstimates, MeanEstimate, LostEstimates, PositiveZero}
+use Rattle.claims.specs.HighMinusLow.{plus, turn, turnedBy, highMinusLow, estimateOf, MeanDifference, PrintedTotals, PrintedAliases, PrintedAliasTotals, OwnWord, Generators, Estimates, MainEstimates, AddedEstimates, AliasEstimates, MeanEstimate, LostEstimates, PositiveZero}
 use Rattle.claims.specs.Laws.Letters.{a, k-few, high-same, base-in, letter-in}
 
 -- ---- signs
@@ -111,9 +109,7 @@ same-test : {p : Plan} {x : Column} {o : Outcome Value} {f g : ℕ → Bool} →
 same-test {p} {x} {o} h m = subst (λ (f : ℕ → Bool). MeanDifference p f x o) (λ i r. h r i) m
 
 half-of : (k n : ℕ) → 0 < k → n ≡ 2 ^ k → 2 * 2 ^ (k - 1) ≡ n
-half-of k n h e =
-    let s : 1 + (k - 1) ≡ k = omega (arith, h) in
-    sym (pow-succ' 2 (k - 1)) ∙ ap (λ (m : ℕ). 2 ^ m) (omega (arith, h)) ∙ sym e
+half-of k n h e = sym (pow-succ' 2 (k - 1)) ∙ ap (λ (m : ℕ). 2 ^ m) (omega (arith, h)) ∙ sym e
 
 -- readings that are all 1 have the contrast 0
 no-contrast : (p : Plan) → TwoLevels p → (e : ℕ) → e < runsOf p → (e ≡ 0 → ⊥) → highMinusLow p (λ r. pos 1) e ≡ pos 0

@@ -14,14 +14,13 @@ use mathlib.Core.Path.{_≡_, refl, sym, ap, ap₂, _∙_}
 use mathlib.Core.Bool.{Bool, true, false, cond, not, _&&_, true≢false}
 use mathlib.Core.List.{List, [], _∷_}
 use Prim.Native.Nat.{ℕ, zero, suc, _+_, _*_, _/_, _%_, _^_, _<_, _≤_}
-use native.Mathlib.Nat.{zero-mul, zero-div, zero-lt-suc, lt-of-lt-of-le, pow-le-pow-right, pow-succ'}
+use native.Mathlib.Nat.{zero-div, zero-lt-suc, lt-of-lt-of-le, pow-le-pow-right, pow-succ'}
 use native.Mathlib.Omega.{arith}
 use lib.Dec.{eqb}
 use lib.ListN.{length, getD}
 use lib.Pow.{pow-lt, pow-pos}
 use Rattle.algebra.specs.Naturals.{Σℕ}
-use Rattle.algebra.specs.Laws.Naturals.{Σℕ-none, Σℕ-first, Σℕ-cong}
-use Rattle.algebra.specs.Bits.{bits}
+use Rattle.algebra.specs.Laws.Naturals.{Σℕ-first, Σℕ-cong}
 use Rattle.algebra.specs.Laws.Bits.{bit-lt, bit-zero, bit-suc, bits-cong, bits-ext}
 use Rattle.algebra.specs.Search.{some}
 use Rattle.algebra.specs.Laws.Search.{some-at, none-at, some-false}
