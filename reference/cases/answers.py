@@ -221,6 +221,13 @@ ESTIMATES = report_estimates() + amcp_estimates(examples.AMCP_WHOLE) + amcp_esti
     Estimate(TEN, 0, -102400000, "mean -100000"),
     Estimate(TEN, 1023, 102399999, "difference 102399999/512"),
     Estimate(TEN, 511, 102399999, "difference -102399999/512"),
+    Estimate(TEN, row_number("ABCDE"), 512, "difference -1"),
+    Estimate(TEN, row_number("BCDEFG"), 512, "difference 1"),
+    Estimate(TEN, row_number("ACEFGIJ"), 512, "difference -1"),
+    Estimate(TEN, row_number("ABDEFGHJ"), 512, "difference 1"),
+    Estimate(Plan(2, 3, ((ABC, 1),)), ABC, -8, "difference 2"),
+    Estimate(Plan(2, 2, ((AB, 1),)), AB, -8, "difference -4"),
+    Estimate(Plan(2, 3, ((ABC, 1),)), row_number("D"), -8, "refused 10"),
     Estimate(TEN, 512, -102400000, "difference 200000"),
     Estimate(TEN, 512, 102400000, "difference -200000"),
     Estimate(TEN, row_number("AJ"), -102400000, "difference -200000"),
@@ -257,22 +264,25 @@ def alias(plan, letters, outcome):
     return Alias(plan, row_number(letters), outcome)
 
 
-# D = ABC. C = AB, with sign 1. E = ABC, with sign 1, and F = BCD. E = AB and F = ABC, both with sign 1. E = AB, F = CD and
-# G = ABCD, all with sign 1.
-D_IS_ABC, D_TURNED, C_TURNED = Plan(2, 3, ((ABC, 0),)), Plan(2, 3, ((ABC, 1),)), Plan(2, 2, ((AB, 1),))
+# The words of D, of C, of E and F, of E, F and G, and which of these have sign 1; then ten base factors, of which K has
+# all ten as its word, and L eight; then five added factors that all have sign 1.
+D_IS_ABC, D_SIGN_1, C_SIGN_1 = Plan(2, 3, ((ABC, 0),)), Plan(2, 3, ((ABC, 1),)), Plan(2, 2, ((AB, 1),))
 MIXED = Plan(2, 4, ((ABC, 1), (row_number("BCD"), 0)))
-BOTH_TURNED = Plan(2, 4, ((AB, 1), (ABC, 1)))
-ALL_TURNED = Plan(2, 4, ((AB, 1), (row_number("CD"), 1), (row_number("ABCD"), 1)))
+BOTH_SIGN_1 = Plan(2, 4, ((AB, 1), (ABC, 1)))
+ALL_SIGN_1 = Plan(2, 4, ((AB, 1), (row_number("CD"), 1), (row_number("ABCD"), 1)))
+LONG_WORDS = Plan(2, 10, ((row_number("ABCDEFGHIJ"), 0), (row_number("ABCDEFGH"), 1)))
+FIVE_SIGN_1 = Plan(2, 5, tuple((row_number(label), 1) for label in "AB BC CD DE ABC".split()))
+LAST_SIGN_1 = Plan(2, 4, tuple((row_number(label), int(label == "ABCD")) for label in "AB BC CD ABCD".split()))
 ALL_LETTERS = "ABCDEFGHIJKLMNOP"
 
 ALIASES = published_aliases() + [
     alias(D_IS_ABC, "AD", "reduced BC, unturned"),
-    alias(D_TURNED, "AD", "reduced BC, turned"),
-    alias(D_TURNED, "D", "reduced ABC, turned"),
-    alias(D_TURNED, "ABCD", "reduced mean, turned"),
-    alias(D_TURNED, "ABC", "reduced ABC, unturned"),
-    alias(C_TURNED, "AC", "reduced B, unturned"),
-    alias(C_TURNED, "A", "reduced A, unturned"),
+    alias(D_SIGN_1, "AD", "reduced BC, turned"),
+    alias(D_SIGN_1, "D", "reduced ABC, turned"),
+    alias(D_SIGN_1, "ABCD", "reduced mean, turned"),
+    alias(D_SIGN_1, "ABC", "reduced ABC, unturned"),
+    alias(C_SIGN_1, "AC", "reduced B, unturned"),
+    alias(C_SIGN_1, "A", "reduced A, unturned"),
     alias(MIXED, "E", "reduced ABC, turned"),
     alias(MIXED, "F", "reduced BCD, unturned"),
     alias(MIXED, "EF", "reduced AD, turned"),
@@ -280,13 +290,13 @@ ALIASES = published_aliases() + [
     alias(MIXED, "AF", "reduced ABCD, unturned"),
     alias(MIXED, "BCDF", "reduced mean, unturned"),
     alias(MIXED, "ABCDEF", "reduced BC, turned"),
-    alias(BOTH_TURNED, "E", "reduced AB, unturned"),
-    alias(BOTH_TURNED, "F", "reduced ABC, turned"),
-    alias(BOTH_TURNED, "EF", "reduced C, turned"),
-    alias(BOTH_TURNED, "CEF", "reduced mean, turned"),
-    alias(BOTH_TURNED, "ABCDEF", "reduced ABD, turned"),
-    alias(ALL_TURNED, "EF", "reduced ABCD, unturned"),
-    alias(ALL_TURNED, "EFG", "reduced mean, unturned"),
+    alias(BOTH_SIGN_1, "E", "reduced AB, unturned"),
+    alias(BOTH_SIGN_1, "F", "reduced ABC, turned"),
+    alias(BOTH_SIGN_1, "EF", "reduced C, turned"),
+    alias(BOTH_SIGN_1, "CEF", "reduced mean, turned"),
+    alias(BOTH_SIGN_1, "ABCDEF", "reduced ABD, turned"),
+    alias(ALL_SIGN_1, "EF", "reduced ABCD, unturned"),
+    alias(ALL_SIGN_1, "EFG", "reduced mean, unturned"),
     alias(TEN_ADDED, "K", "reduced AB, turned"),
     alias(TEN_ADDED, "N", "reduced CEHJ, unturned"),
     alias(TEN_ADDED, "P", "reduced ABCDEFGHJ, turned"),
@@ -295,6 +305,13 @@ ALIASES = published_aliases() + [
     alias(TEN_ADDED, "mean", "reduced mean, unturned"),
     alias(TEN_ADDED, ALL_LETTERS, "reduced ABCDFJ, turned"),
     alias(TEN, "ABCDEFGHIJ", "reduced ABCDEFGHIJ, unturned"),
+    alias(LONG_WORDS, "K", "reduced ABCDEFGHIJ, turned"),
+    alias(LONG_WORDS, "L", "reduced ABCDEFGH, unturned"),
+    alias(LONG_WORDS, "KL", "reduced IJ, turned"),
+    alias(FIVE_SIGN_1, "FGHIJ", "reduced BCE, turned"),
+    alias(FIVE_SIGN_1, "FGHI", "reduced AE, unturned"),
+    alias(LAST_SIGN_1, "EFGH", "reduced BC, turned"),
+    alias(LAST_SIGN_1, "EFG", "reduced AD, turned"),
     alias(Plan(2, 1), "A", "reduced A, unturned"),
     alias(TWO, "mean", "reduced mean, unturned"),
     alias(Plan(2, 3, (), (ABC,)), "ABC", "reduced ABC, unturned"),

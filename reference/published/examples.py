@@ -17,9 +17,9 @@
 #   ?    the scan does not show it, or does not show at which place it stands
 # A figure with a question mark in it, such as ?4, is shown in part.
 #
-# Signs: the report's differences are first minus last, as in the rules. AMCP, Yates and Daniel take the last minus the
-# first. A figure of theirs has the other sign if an odd number of such differences are in it; the third combination
-# of three levels is the same in both.
+# Signs: the report's differences are first minus last, as the totals of the rules are. AMCP, Yates and Daniel take the
+# last minus the first. A figure of theirs has the other sign if an odd number of such differences are in it; the third
+# combination of three levels is the same in both.
 #
 # Damage: whether a wrong figure is in the print or only in the scan is not decided here. Each wrong figure has one
 # mend, with what is printed, what is meant and the reason. Every figure of a step column is a sum of readings with
@@ -246,7 +246,7 @@ DANIEL_MANGOLDS = worked(
                 ". 534 -34 8 16 126 46 8 214 72 44 -10 102 60 4 10 292 -10 -6 76 -16 78 126 -60 -66 8 -16 -78 14 -36 40 22"),
     ], turned=True, blocks=(0b01011, 0b10110))
 
-# Five factors in eight runs: the base factors are A, B, C; D is AC, and E is AB with the sign turned.
+# Five factors in eight runs: the base factors are A, B, C; D has the word AC and sign 0, E the word AB and sign 1.
 DANIEL_QUARTER = worked(
     "Daniel, 2^(5-2)", "Daniel", "Table 12.5", 2, 3, "59.1 57.0 58.6 63.9 67.2 71.6 79.2 76.9", [
         Printed("yield", 0, "59.1 57.0 58.6 63.9 67.2 71.6 79.2 76.9"),
@@ -397,7 +397,6 @@ RULES_BLOCKS = worked("rules, 1 to 8", "rules", "Reference runs", 2, 3, "1 2 3 4
 RULES_LIMITS = worked("rules, limits", "rules", "Reference runs", 2, 1, "-100000 100000", [
     Printed("readings", 0, "-100000 100000"),
     Printed("totals", 1, "0 -200000"),
-    Printed("differences", "differences", ". -200000"),
 ])
 
 

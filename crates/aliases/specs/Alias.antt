@@ -2,7 +2,7 @@
 --
 --   baseWord k words e    the base word
 --   signOnes, oddSigns    how many of the replaced letters have sign 1, and whether that is an odd number
---   turned                whether the sign turns
+--   turned                whether the sign turns, high minus low
 --   aliasValues p e       both, of a plan
 --   aliasRefusals p e     the refusals of the call besides those of the plan
 --   aliasRefused p e      the lowest number that applies, 0 where the alias is given
@@ -30,11 +30,11 @@ baseWord k words e = combined (e % 2 ^ k) (e / 2 ^ k) words
 unfoldable pub signOnes : ℕ → List ℕ → ℕ
 signOnes replaced signs = Σℕ (length signs) (λ j. cond (has replaced j && eqb (getD signs j 0) 1) 1 0)
 
--- E10: "is odd exactly when the sign turns": so it is low minus high
+-- E10: whether that number is odd: the sign that turns low minus high, as totals have it
 unfoldable pub oddSigns : ℕ → List ℕ → ℕ → Bool
 oddSigns k signs e = odd (signOnes (e / 2 ^ k) signs)
 
--- E10: "The alias call's turn is reversed when the effect and its base word differ in being odd or even.": so it is high minus low
+-- E10: "The alias call's turn is reversed when the effect and its base word differ in being odd or even.": the sign that turns high minus low
 unfoldable pub turned : ℕ → List ℕ → List ℕ → ℕ → Bool
 turned k words signs e =
     let reversed = differ (oddWord e) (oddWord (baseWord k words e)) in

@@ -1,10 +1,9 @@
--- The starred run on D = ABC, turns where the effect and its base word differ in being odd or even, and refusals 9 and 10, computed over the
--- definitions.
+-- The starred run on D = ABC, other turns, and refusals 9 and 10, computed over the definitions.
 --
---   AD-is-BC, AD-turned      the starred run, with either sign
---   one-and-two, one-and-three    an added factor beside its word, with either sign
---   to-the-mean              effects that reduce to the empty word
---   refusal-9, refusal-10    "levels 3, k = 1"; a letter that the plan does not have
+--   AD-is-BC, AD-turned           the starred run, with either sign
+--   one-and-two, one-and-three    an added factor and its word of two letters or three, with either sign
+--   to-the-mean                   effects that reduce to the empty word
+--   refusal-9, refusal-10         "levels 3, k = 1"; a letter that the plan does not have
 use mathlib.Core.Path.{_≡_, refl}
 use mathlib.Core.Bool.{Bool, true, false}
 use mathlib.Core.List.{[], _∷_}

@@ -1,18 +1,18 @@
--- E11: "The trade prints high minus low.": what an estimate says of the readings, at two levels. All is said by the calls' own answers: the total
--- of an effect is the one that the totals call leaves, a run's letters are those that the run call gives as high, an effect's base word and
--- its turn are the alias call's.
+-- E11: "The trade prints high minus low.": what aliases and estimates say of the readings, at two levels. A run's letters are those that the run
+-- call gives as high, an effect's base word and its turn are the alias call's. An estimate is the estimate call's, given the total that the
+-- totals call leaves.
 --
 --   plus p r e             run r counts plus in the effect e: an even number of the effect's letters are low in it
 --   turn p e               whether the sign of the effect e turns
 --   turnedBy t b           the test b, the other way round where t holds
 --   highMinusLow p x e     the readings x of the runs that count plus in e, less those of the runs that count minus
---   printed p x e          the total of the effect e with the sign that is printed
+--   printedIn p x e        the total of the effect e with the sign that is printed
 --   estimateOf             what the estimate call answers of the effect e, given the total that the totals call leaves of it
 --   MeanDifference         an answer is the mean of the readings where a test holds, less the mean where it does not
 --
 --   PrintedTotals          CLAIM: a printed total is that contrast
 --   PrintedAliases         CLAIM: in every run an effect of all factors counts as its base word does, the other way round exactly where it turns
---   PrintedAliasTotals     CLAIM: so its contrast is the printed total of its base word, turned exactly there
+--   PrintedAliasTotals     CLAIM: so its contrast is the printed total of its base word, negated exactly where it turns
 --   OwnWord                CLAIM: an effect of base letters is its own base word, and does not turn
 --   Generators             CLAIM: an added factor is high exactly where its word counts plus, the other way round exactly where it turns
 --   Estimates              CLAIM: the estimate of an effect of base letters that is not lost is mean where plus less mean where minus
@@ -30,7 +30,6 @@ use lib.IntN.{ℤ, pos, _-ℤ_}
 use lib.Ieee.{Float}
 use lib.ListN.{length}
 use Rattle.algebra.specs.Sum.{Σ}
-use Rattle.algebra.specs.Tests.{differ}
 use Rattle.contrasts.specs.Columns.{read}
 use Rattle.contrasts.specs.Contrast.{sumWhere, countWhere, contrast}
 use Rattle.contrasts.specs.Totals.{Column, total}
@@ -43,7 +42,7 @@ use Rattle.yates.specs.Calls.{totalsRefused}
 use Rattle.estimates.specs.Quotient.{Exactly, positiveZero}
 use Rattle.estimates.specs.Estimate.{Value, mean, difference, lost, printedTotal}
 use Rattle.promises.specs.Promised.{promisedTotals, promisedEstimate}
-use Rattle.claims.specs.Letters.{TwoLevels, high, base, word, signOne, turnIf}
+use Rattle.claims.specs.Letters.{TwoLevels, high, base, word, hasSignOne, turnIf}
 
 -- ---- the words of the claims
 
@@ -59,15 +58,15 @@ turnedBy t b = cond t (not b) b
 abbrev pub highMinusLow : Plan → Column → ℕ → ℤ
 highMinusLow p x e = contrast (runsOf p) (λ r. plus p r e) x
 
-abbrev pub printed : Plan → Column → ℕ → ℤ
-printed p x e = printedTotal e (total (factorsOf p) x e)
+abbrev pub printedIn : Plan → Column → ℕ → ℤ
+printedIn p x e = printedTotal e (total (factorsOf p) x e)
 
 abbrev pub estimateOf : Plan → (readings totals : List ℤ) → ℕ → Outcome Value
 estimateOf p readings totals e = promisedEstimate p e (read (promisedTotals p readings totals .column) e)
 
--- the answer is a difference. Its double is exactly the sum of the readings x of the runs in which the test holds less the sum of the others,
--- over 2 to the power k - 1; that is how many of the runs the test holds in, and in how many it does not, each half of all runs: so it is the
--- mean of the first less the mean of the others.
+-- the answer is a difference: the mean of the readings x of the runs in which the test holds, less the mean of the others. It is exactly the sum
+-- of the first less the sum of the others, over 2 to the power k - 1. That is half of the runs: in so many of them the test holds, and in so
+-- many it does not.
 pub record MeanDifference (p : Plan) (test : ℕ → Bool) (x : Column) (answer : Outcome Value) : Type 0 where
   pub value : Float
   pub answered : answer ≡ given (difference value)
@@ -81,7 +80,7 @@ pub record MeanDifference (p : Plan) (test : ℕ → Bool) (x : Column) (answer 
 -- E4, E11: the total of an effect, negated when it has an odd number of letters, is the sum of the readings of the runs that count plus, less
 -- the sum of the others.
 abbrev pub PrintedTotals : Type 0
-PrintedTotals = (p : Plan) → TwoLevels p → (x : Column) (e : ℕ) → e < runsOf p → printed p x e ≡ highMinusLow p x e
+PrintedTotals = (p : Plan) → TwoLevels p → (x : Column) (e : ℕ) → e < runsOf p → printedIn p x e ≡ highMinusLow p x e
 
 -- E8 to E10: in every run an effect of all factors counts as its base word does; the other way round exactly where the alias call says that its
 -- sign turns.
@@ -90,11 +89,11 @@ PrintedAliases =
     (p : Plan) → TwoLevels p → (e r : ℕ) → e < 2 ^ allLetters p
     → (base p e < runsOf p) × (plus p r e ≡ turnedBy (turn p e) (plus p r (base p e)))
 
--- E8 to E10: the contrast of an effect of all factors is the printed total of its base word, turned exactly there. The base word may be empty: then
--- the total is the sum of all readings, and no difference.
+-- E8 to E10: the contrast of an effect of all factors is the printed total of its base word, negated exactly where the alias call says that its
+-- sign turns. The base word may be empty: then the total is the sum of all readings, and no difference.
 abbrev pub PrintedAliasTotals : Type 0
 PrintedAliasTotals =
-    (p : Plan) → TwoLevels p → (x : Column) (e : ℕ) → e < 2 ^ allLetters p → highMinusLow p x e ≡ turnIf (turn p e) (printed p x (base p e))
+    (p : Plan) → TwoLevels p → (x : Column) (e : ℕ) → e < 2 ^ allLetters p → highMinusLow p x e ≡ turnIf (turn p e) (printedIn p x (base p e))
 
 -- E9, E10: an effect of base letters reduces to itself.
 abbrev pub OwnWord : Type 0
@@ -106,7 +105,7 @@ OwnWord = (p : Plan) → TwoLevels p → (e : ℕ) → e < runsOf p → (base p 
 pub record Generator (p : Plan) (j : ℕ) : Type 0 where
   pub reduces : base p (2 ^ (p .k + j)) ≡ word p j
   pub is-high : (r : ℕ) → has (high p r) (p .k + j) ≡ turnedBy (turn p (2 ^ (p .k + j))) (plus p r (word p j))
-  pub turns : turn p (2 ^ (p .k + j)) ≡ differ (not (oddWord (word p j))) (signOne p j)
+  pub turns : turn p (2 ^ (p .k + j)) ≡ turnedBy (not (oddWord (word p j))) (hasSignOne p j)
 
 abbrev pub Generators : Type 0
 Generators = (p : Plan) → TwoLevels p → (j : ℕ) → j < length (addedWords p) → word p j < 2 ^ 16 → Generator p j
@@ -143,7 +142,7 @@ AliasEstimates =
     → (e : ℕ) → e < 2 ^ allLetters p → (base p e ≡ 0 → ⊥) → confoundedIn p (base p e) ≡ false
     → MeanDifference p (λ r. turnedBy (turn p e) (plus p r e)) (read readings) (estimateOf p readings totals (base p e))
 
--- E3, E5: the mean, with the sign of the total: the sum of all readings over the number of runs.
+-- E3, E5: the mean: the sum of all readings, which is never negated, over the number of runs.
 pub record Mean (p : Plan) (x : Column) (answer : Outcome Value) : Type 0 where
   pub value : Float
   pub answered : answer ≡ given (mean value)

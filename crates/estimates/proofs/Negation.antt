@@ -1,8 +1,8 @@
 -- The total as it is printed, as code makes it, by 0 less the total, and hands it on.
 --
 --   negated-fits               0 less the total fits
---   turned-is, kept-is         it is the printed total of an effect with an odd number of letters, and the total that of another
---   turned-small, kept-small   a double holds both
+--   negated-is, kept-is         it is the printed total of an effect with an odd number of letters, and the total that of another
+--   negated-small, kept-small   a double holds both
 --   handed                     and as it is handed on it is the same
 use mathlib.Core.Path.{_≡_, sym, ap, _∙_}
 use mathlib.Core.Bool.{Bool, true, false, cond}
@@ -32,14 +32,14 @@ module _ {t : ℤ} (f : SFits w64 t) (h : natAbs t < 2 ^ 53) where
     unfolding printedTotal
     by-test c g = ap (λ (a : Bool). cond a (negℤ t) t) (sym g ∙ d)
 
-    pub turned-is : b ≡ true → wrap (pos 0 -ℤ wrap t) ≡ printedTotal e t
-    turned-is g = negated ∙ by-test true g
+    pub negated-is : b ≡ true → wrap (pos 0 -ℤ wrap t) ≡ printedTotal e t
+    negated-is g = negated ∙ by-test true g
 
     pub kept-is : b ≡ false → wrap t ≡ printedTotal e t
     kept-is g = toZ-ofZ f ∙ by-test false g
 
-  pub turned-small : natAbs (wrap (pos 0 -ℤ wrap t)) < 2 ^ 53
-  turned-small = rw (negated, natAbs-neg t) h
+  pub negated-small : natAbs (wrap (pos 0 -ℤ wrap t)) < 2 ^ 53
+  negated-small = rw (negated, natAbs-neg t) h
 
   pub kept-small : natAbs (wrap t) < 2 ^ 53
   kept-small = rw (toZ-ofZ f) h

@@ -2,13 +2,13 @@
 --
 --   Doubles    a number has one double
 --   Exact      the double of a quotient is the quotient, and no other double is
---   Printed    the total as journals print it
+--   Differences  the total of a difference, as journals print it
 --   Given      what a call that is not refused hands out, and what it asks
 --   Totals     the totals of readings are admitted
 --   Alike      places beyond the counts are ignored
 pub mod Doubles
 pub mod Exact
-pub mod Printed
+pub mod Differences
 pub mod Given
 pub mod Totals
 pub mod Alike

@@ -41,7 +41,7 @@ wordOf n f = bits n f
 abbrev pub odd : ℕ → Bool
 odd n = eqb (n % 2) 1
 
--- E4, E10: "an odd number of letters"
+-- E4: "has an odd number of letters"; E10: "being odd or even"
 abbrev pub oddWord : ℕ → Bool
 oddWord w = odd (letters w)
 

@@ -2,7 +2,7 @@
 --
 --   printed-totals, printed-aliases, printed-alias-totals, own-word, generators, estimates, main-estimates, added-estimates, alias-estimates,
 --   mean-estimate, lost-estimates, positive-zero
---                  the proofs, in the order of the claims but that those on aliases come first
+--                  the proofs, in this order but that `alias-estimates` comes before the two on single factors
 use mathlib.Core.Path.{_≡_, refl, sym, ap, _∙_, subst}
 use mathlib.Core.Bool.{Bool, true, false, cond, not, Bool·not-not}
 use mathlib.Core.List.{List}
@@ -41,7 +41,7 @@ use Rattle.estimates.specs.Quotient.{positiveZero}
 use Rattle.estimates.specs.Estimate.{Value, mean, difference, lost, printedTotal, meanOf, differenceOf, valueBy, estimateRefused, estimateValue}
 use Rattle.estimates.specs.Laws.Exact.{positive-zero as zero-quotient}
 use Rattle.estimates.specs.Laws.Given.{admits, Estimated, estimated}
-use Rattle.estimates.specs.Laws.Printed.{zero-difference}
+use Rattle.estimates.specs.Laws.Differences.{zero-difference}
 use Rattle.estimates.specs.Laws.Totals.{totals-admitted}
 use Rattle.promises.specs.Promised.{promisedEstimate}
 use Rattle.claims.specs.Letters.{TwoLevels, high, base, word, turnIf}

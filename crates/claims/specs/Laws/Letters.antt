@@ -33,7 +33,7 @@ use Rattle.runs.specs.Laws.BaseLetters.{high-odd}
 use Rattle.aliases.specs.Alias.{aliasRefusals, aliasRefused}
 use Rattle.aliases.specs.Laws.InRuns.{plan-reduces-odd}
 use Rattle.aliases.specs.Laws.BaseWord.{base-small}
-use Rattle.claims.specs.Letters.{TwoLevels, high, base, signsOdd, word, signOne, oddHigh, contrastOf, turnIf, Coefficients, BaseFactors, AddedFactors, SameInBlock, OnlyConfounded, Aliases, Totals, AliasTotals, MainEffects, AnyFactor, Answered}
+use Rattle.claims.specs.Letters.{TwoLevels, high, base, oddSignsIn, word, hasSignOne, oddHigh, contrastOf, turnIf, Coefficients, BaseFactors, AddedFactors, SameInBlock, OnlyConfounded, Aliases, Totals, AliasTotals, MainEffects, AnyFactor, Answered}
 
 module _ (p : Plan) (t : TwoLevels p) where
   pub a : Accepted p
@@ -85,20 +85,20 @@ added-factors p t j r l w =
     let h : word p j < runsOf p = rw (runs-two p (t .two)) (within (p .k) (word p j) w (a p t .words j l .0)) in (
       h,
       ap signOf (high-added (p .k) (addedWords p) (addedSigns p) r j l ∙ high-turned (getD (addedSigns p) j 0) (word p j) r (signs-small (a p t) j))
-          ∙ sign-turned (signOne p j) (oddIn r (word p j))
-          ∙ ap (turnIf (signOne p j)) (sym (coef-odd p t (word p j) r h)),
+          ∙ sign-turned (hasSignOne p j) (oddIn r (word p j))
+          ∙ ap (turnIf (hasSignOne p j)) (sym (coef-odd p t (word p j) r h)),
     )
 
 odd-turned : (p : Plan) → TwoLevels p → (e : ℕ) → e < 2 ^ allLetters p → (r : ℕ)
-    → oddHigh p r e ≡ cond (signsOdd p e) (not (oddIn r (base p e))) (oddIn r (base p e))
+    → oddHigh p r e ≡ cond (oddSignsIn p e) (not (oddIn r (base p e))) (oddIn r (base p e))
 odd-turned p t e f r = plan-reduces-odd p (a p t) r e f
 
 pub aliases : Aliases
 aliases p t e r f = (
   base-in p t e,
   ap signOf (odd-turned p t e f r)
-      ∙ sign-turned (signsOdd p e) (oddIn r (base p e))
-      ∙ ap (turnIf (signsOdd p e)) (sym (coef-odd p t (base p e) r (base-in p t e))),
+      ∙ sign-turned (oddSignsIn p e) (oddIn r (base p e))
+      ∙ ap (turnIf (oddSignsIn p e)) (sym (coef-odd p t (base p e) r (base-in p t e))),
 )
 
 pub totals : Totals
@@ -112,9 +112,9 @@ not-turned false b = refl
 
 pub alias-totals : AliasTotals
 alias-totals p t x e f =
-    contrast-turned (runsOf p) (λ r. not (oddHigh p r e)) (λ r. not (oddIn r (base p e))) x (signsOdd p e)
-    (λ r h. ap not (odd-turned p t e f r) ∙ not-turned (signsOdd p e) (oddIn r (base p e)))
-    ∙ ap (turnIf (signsOdd p e)) (sym (plan-total p (t .accepted) (t .two) (base p e) (base-in p t e) x))
+    contrast-turned (runsOf p) (λ r. not (oddHigh p r e)) (λ r. not (oddIn r (base p e))) x (oddSignsIn p e)
+    (λ r h. ap not (odd-turned p t e f r) ∙ not-turned (oddSignsIn p e) (oddIn r (base p e)))
+    ∙ ap (turnIf (oddSignsIn p e)) (sym (plan-total p (t .accepted) (t .two) (base p e) (base-in p t e) x))
 
 -- the contrast of one letter
 one-contrast : (p : Plan) → TwoLevels p → (x : Column) (i : ℕ) → i < allLetters p

@@ -15,7 +15,7 @@ use native.Mathlib.Nat.{mul-le-mul-right}
 use native.Mathlib.Omega.{arith}
 use borrow.Author.Tests.{eq-eqb, ne-eqb, eqb-false, le-ltb, ltb-false}
 use lib.Dec.{eqb, ltb}
-use lib.IntN.{ℤ, pos, natAbs}
+use lib.IntN.{ℤ, natAbs}
 use lib.Pow.{pow-mono}
 use lib.Ieee.{Float}
 use Rattle.contrasts.specs.Limits.{readingLimit}
@@ -28,10 +28,10 @@ use Rattle.plan.specs.Laws.Accepted.{accepted, sizes}
 use Rattle.plan.specs.Laws.Answers.{after-plan, passed, plan-passed, refused-with, given-with}
 use Rattle.plan.specs.Laws.Confounded.{not-empty}
 use Rattle.plan.specs.Laws.Sizes.{two-levels}
-use Rattle.estimates.specs.Quotient.{Exactly, positiveZero, InDouble}
+use Rattle.estimates.specs.Quotient.{Exactly, InDouble}
 use Rattle.estimates.specs.Estimate.{Value, mean, difference, lost, printedTotal, meanOf, differenceOf, valueBy, estimateValue, totalLimit, estimateRefused, ExactlyGiven}
-use Rattle.estimates.specs.Laws.Exact.{exact, positive-zero}
-use Rattle.estimates.specs.Laws.Printed.{printed-held, zero-difference}
+use Rattle.estimates.specs.Laws.Exact.{exact}
+use Rattle.estimates.specs.Laws.Differences.{printed-held}
 
 -- ---- the numbers
 
@@ -89,8 +89,6 @@ pub record Estimated (p : Plan) (e : ℕ) (t : ℤ) : Type 0 where
   -- not lost
   pub of-difference : confoundedIn p e ≡ false → (e ≡ 0 → ⊥) → estimateValue p e t ≡ difference (differenceOf (p .k) e t)
   pub difference-exact : Exactly (printedTotal e t) (p .k - 1) (differenceOf (p .k) e t)
-  -- "A zero total still gives positive zero."
-  pub zero-exact : t ≡ pos 0 → (meanOf (p .k) t ≡ positiveZero) × (differenceOf (p .k) e t ≡ positiveZero)
 
 -- an accepted plan does not lose the mean
 never-lost : {p : Plan} {e : ℕ} {t : ℤ} → Admitted p e t → e ≡ 0 → (b : Bool) → confoundedIn p e ≡ b → b ≡ false
@@ -121,7 +119,6 @@ estimated p e t n =
       difference-exact =
           let g = printed-held e h in
           exact (printedTotal e t) (p .k - 1) (g .number) (omega (arith, g .power));
-      zero-exact = λ z. rw z (positive-zero (p .k), zero-difference (p .k) e);
     }
 
 module _ (p : Plan) (e : ℕ) (t : ℤ) where

@@ -4,7 +4,7 @@ use Rattle.aliases.specs.Alias.{aliasRefused}
 use Rattle.plan.specs.Check.{planRefused}
 use Rattle.plan.specs.Laws.Accepted.{sizes}
 use Rattle.plan.specs.Laws.Answers.{refused-by-plan, after-plan}
-use Rattle.aliases.specs.Laws.Signs.{alias-two}
+use Rattle.aliases.specs.Laws.Counted.{alias-two}
 use Rattle.aliases.proofs.effects.alias.Statement.{statement}
 use Rattle.aliases.proofs.effects.alias.Tie as tie
 

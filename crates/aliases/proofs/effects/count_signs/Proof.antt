@@ -1,7 +1,7 @@
 use Prim.Native.Nat.{_-_}
 use native.Mathlib.Omega.{arith}
 use lib.ListN.{length}
-use Rattle.aliases.specs.Laws.Signs.{Counted, counted-none, counted-more, counted-all}
+use Rattle.aliases.specs.Laws.Counted.{Counted, counted-none, counted-more, counted-all}
 use Rattle.aliases.proofs.effects.count_signs.Statement.{statement}
 use Rattle.aliases.proofs.effects.count_signs.Tie as tie
 

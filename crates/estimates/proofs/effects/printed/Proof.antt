@@ -1,4 +1,4 @@
-use Rattle.estimates.proofs.Negation.{negated-fits, turned-is, turned-small, kept-is, kept-small}
+use Rattle.estimates.proofs.Negation.{negated-fits, negated-is, negated-small, kept-is, kept-small}
 use Rattle.estimates.proofs.effects.printed.Statement.{statement}
 use Rattle.estimates.proofs.effects.printed.Tie as tie
 
@@ -11,7 +11,7 @@ printed-spec =
     (λ c.
     let entry = c .before .before in
     let f = entry .fits .total in
-    (turned-is f (entry .pre) _ (c .before .is-odd-word .ensures) (c .if1 .taken), turned-small f (entry .pre)))
+    (negated-is f (entry .pre) _ (c .before .is-odd-word .ensures) (c .if1 .taken), negated-small f (entry .pre)))
     (λ c.
     let entry = c .before .before in
     let f = entry .fits .total in

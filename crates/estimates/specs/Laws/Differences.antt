@@ -3,14 +3,17 @@
 --   printed-size       it has the size of the total
 --   printed-held       so doubles hold it and 2 ^ (k - 1) where they hold the total and 2 ^ k
 --   zero-difference    a total of 0 gives positive zero, of an effect with an odd number of letters too
+--   negated-difference, same-difference
+--                      of any other total the double is negated for an odd number of letters; for an even number it is as it was
 use mathlib.Core.Path.{_≡_, refl}
 use mathlib.Core.Bool.{Bool, true, false, cond}
-use Prim.Native.Nat.{ℕ, _-_}
+use Prim.Native.Nat.{ℕ, zero, suc, _-_}
 use native.Mathlib.Omega.{arith}
-use lib.IntN.{ℤ, pos, natAbs, negℤ}
+use lib.IntN.{ℤ, pos, negsuc, natAbs, negℤ}
+use lib.Ieee.{neg as minus}
 use Rattle.algebra.specs.Laws.Size.{natAbs-neg}
 use Rattle.words.specs.Words.{oddWord}
-use Rattle.estimates.specs.Quotient.{quotient, positiveZero, InDouble}
+use Rattle.estimates.specs.Quotient.{double, quotient, positiveZero, InDouble}
 use Rattle.estimates.specs.Estimate.{printedTotal, differenceOf}
 
 pub printed-size : (e : ℕ) (t : ℤ) → natAbs (printedTotal e t) ≡ natAbs t
@@ -31,3 +34,17 @@ zero-difference k e = by (oddWord e)
     by : (b : Bool) → quotient (cond b (negℤ (pos 0)) (pos 0)) (k - 1) ≡ positiveZero
     by true = refl
     by false = refl
+
+-- ---- the double, negated
+
+-- "The estimate's difference is now negated when the effect has an odd number of letters.": the double is the one of the total, with its sign
+-- turned, but for a total of 0
+pub negated-difference : (k e : ℕ) (t : ℤ) → oddWord e ≡ true → (t ≡ pos 0 → ⊥) → differenceOf k e t ≡ minus (quotient t (k - 1))
+unfolding differenceOf printedTotal quotient double minus
+negated-difference k e (pos zero) o h = absurd (h refl)
+negated-difference k e (pos (suc n)) o h = rw o refl
+negated-difference k e (negsuc n) o h = rw o refl
+
+pub same-difference : (k e : ℕ) (t : ℤ) → oddWord e ≡ false → differenceOf k e t ≡ quotient t (k - 1)
+unfolding differenceOf printedTotal
+same-difference k e t o = rw o refl
