@@ -8,7 +8,8 @@
 --   highMinusLow p x e     the readings x of the runs that count plus in e, less those of the runs that count minus
 --   printedIn p x e        the total of the effect e with the sign that is printed
 --   estimateOf             what the estimate call answers of the effect e, given the total that the totals call leaves of it
---   MeanDifference         an answer is the mean of the readings where a test holds, less the mean where it does not
+--   MeanDifference, Mean   an answer is the mean of the readings where a test holds, less the mean where it does not; the mean of all
+--   Generator p j          what an added factor is beside its word
 --
 --   PrintedTotals          CLAIM: a printed total is that contrast
 --   PrintedAliases         CLAIM: in every run an effect of all factors counts as its base word does, the other way round exactly where it turns
