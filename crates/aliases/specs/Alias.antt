@@ -30,11 +30,12 @@ baseWord k words e = combined (e % 2 ^ k) (e / 2 ^ k) words
 unfoldable pub signOnes : ℕ → List ℕ → ℕ
 signOnes replaced signs = Σℕ (length signs) (λ j. cond (has replaced j && eqb (getD signs j 0) 1) 1 0)
 
--- E10: whether that number is odd: the sign that turns low minus high, as totals have it
+-- E10: "is odd": the turn with the report's signs, low minus high
 unfoldable pub oddSigns : ℕ → List ℕ → ℕ → Bool
 oddSigns k signs e = odd (signOnes (e / 2 ^ k) signs)
 
--- E10: "The alias call's turn is reversed when the effect and its base word differ in being odd or even.": the sign that turns high minus low
+-- E10: "The alias call's turn is reversed when the effect and its base word differ in being odd or even.": the turn with the signs that
+-- journals print, high minus low
 unfoldable pub turned : ℕ → List ℕ → List ℕ → ℕ → Bool
 turned k words signs e =
     let reversed = differ (oddWord e) (oddWord (baseWord k words e)) in

@@ -1,6 +1,7 @@
 -- The facts that computed tests show. A law turns the test of a whole table into the rule at each entry.
 --
 --   tests                  a comparison of the code, as a test of a contract
+--   fails                  a test that cannot pass fails
 --   is                     a test has the value that the code found for it
 --   same-test              numbers below i + 1 other than i are those below i
 --   and-left, and-right    both sides of a test a && b pass
@@ -21,6 +22,10 @@ use lib.IntN.{ℤ, pos, negsuc, _*ℤ_, *ℤ-zero, zero-*ℤ}
 use Rattle.algebra.specs.Tests.{every, eqZ}
 
 pub ruleset tests = (lt-ltb, le-ltb, le-leb, lt-leb, eq-eqb, ne-eqb, arith)
+
+pub fails : (b : Bool) → (b ≡ true → ⊥) → b ≡ false
+fails true h = absurd (h refl)
+fails false h = refl
 
 pub is : {b t v : Bool} → b ≡ t → b ≡ v → t ≡ v
 is e f = sym e ∙ f

@@ -35,9 +35,9 @@ base-small p a e =
 
 -- ---- base letters
 
-no-difference : (b s : Bool) → s ≡ false → cond (differ b b) (not s) s ≡ false
-no-difference true s e = e
-no-difference false s e = e
+never-differ : (b s : Bool) → s ≡ false → cond (differ b b) (not s) s ≡ false
+never-differ true s e = e
+never-differ false s e = e
 
 module _ (k : ℕ) (words signs : List ℕ) (e : ℕ) (few : k ≤ 16) (h : e < 2 ^ k) where
   pub base-own : baseWord k words e ≡ e
@@ -50,7 +50,7 @@ module _ (k : ℕ) (words signs : List ℕ) (e : ℕ) (few : k ≤ 16) (h : e < 
 
   pub turned-own : turned k words signs e ≡ false
   unfolding turned
-  turned-own = rw base-own (no-difference (oddWord e) (oddSigns k signs e) none-replaced)
+  turned-own = rw base-own (never-differ (oddWord e) (oddSigns k signs e) none-replaced)
 
 -- ---- one added letter
 

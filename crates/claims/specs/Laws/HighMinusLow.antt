@@ -13,25 +13,22 @@ use native.Mathlib.Omega.{arith}
 use lib.Dec.{eqb}
 use lib.IntN.{ℤ, pos}
 use lib.Ieee.{Float}
-use lib.ListN.{length, getD, length-take}
+use lib.ListN.{length, length-take}
 use lib.Pow.{pow-lt, pow-pos}
-use borrow.Author.Tests.{eqb-false}
-use Rattle.algebra.specs.Naturals.{Σℕ}
 use Rattle.algebra.specs.Sum.{Σ}
-use Rattle.algebra.specs.Laws.Search.{none-at}
 use Rattle.algebra.specs.Laws.Tab.{getD-tab}
 use Rattle.contrasts.specs.Columns.{read, totalsOf}
 use Rattle.contrasts.specs.Limits.{readingLimit}
 use Rattle.contrasts.specs.Totals.{Column, total}
 use Rattle.contrasts.specs.Laws.Signed.{contrast-turned, contrast-all, count-half}
-use Rattle.words.specs.Words.{has, letters, oddWord, oddIn, plusIn, any, among}
-use Rattle.words.specs.Laws.Parity.{odd-swap, none-odd, plus-odd, letters-one, one-plus}
+use Rattle.words.specs.Words.{has, oddWord, oddIn, plusIn}
+use Rattle.words.specs.Laws.Parity.{odd-swap, none-odd, plus-odd, one-plus}
 use Rattle.plan.specs.declared.types.Plan.{Plan}
 use Rattle.plan.specs.Outcome.{Outcome, given, refused}
 use Rattle.plan.specs.Plan.{addedWords, addedSigns, factorsOf, runsOf, allLetters, confoundedIn}
 use Rattle.plan.specs.Laws.Answers.{given-with, refused-with, written-new}
 use Rattle.plan.specs.Laws.Coefficients.{plan-total, plan-balance}
-use Rattle.plan.specs.Laws.Confounded.{not-one-letter}
+use Rattle.plan.specs.Laws.Confounded.{letter-kept, word-kept, word-some}
 use Rattle.plan.specs.Laws.Sizes.{runs-two, letters-few}
 use Rattle.columns.specs.Laws.Admitted.{admitted}
 use Rattle.aliases.specs.Laws.BaseWord.{base-own, turned-own, base-one, turned-one}
@@ -105,8 +102,8 @@ generators p t j h small =
 -- ---- estimates
 
 -- a test may be replaced by one that is the same in every run
-same-test : {p : Plan} {x : Column} {o : Outcome Value} {f g : ℕ → Bool} → ((r : ℕ) → f r ≡ g r) → MeanDifference p f x o → MeanDifference p g x o
-same-test {p} {x} {o} h m = subst (λ (f : ℕ → Bool). MeanDifference p f x o) (λ i r. h r i) m
+other-test : {p : Plan} {x : Column} {o : Outcome Value} {f g : ℕ → Bool} → ((r : ℕ) → f r ≡ g r) → MeanDifference p f x o → MeanDifference p g x o
+other-test {p} {x} {o} h m = subst (λ (f : ℕ → Bool). MeanDifference p f x o) (λ i r. h r i) m
 
 half-of : (k n : ℕ) → 0 < k → n ≡ 2 ^ k → 2 * 2 ^ (k - 1) ≡ n
 half-of k n h e = sym (pow-succ' 2 (k - 1)) ∙ ap (λ (m : ℕ). 2 ^ m) (omega (arith, h)) ∙ sym e
@@ -168,40 +165,24 @@ turned-back false b c e = sym e
 
 pub alias-estimates : AliasEstimates
 alias-estimates p t readings totals n e f not-mean kept =
-    same-test (λ r. turned-back (turn p e) (plus p r e) (plus p r (base p e)) (printed-aliases p t e r f .1))
+    other-test (λ r. turned-back (turn p e) (plus p r e) (plus p r (base p e)) (printed-aliases p t e r f .1))
     (estimates p t readings totals n (base p e) (base-in p t e) not-mean kept)
-
-kept-unless : (b : Bool) → (b ≡ true → ⊥) → b ≡ false
-kept-unless true h = absurd (h refl)
-kept-unless false h = refl
 
 pub main-estimates : MainEstimates
 main-estimates p t readings totals n i h =
     let few : i < 16 = omega (arith, h, k-few p t) in
     let all : i < allLetters p = omega (arith, h) in
-    let kept = kept-unless (confoundedIn p (2 ^ i)) (λ c. not-one-letter (a p t) (2 ^ i) c (letters-one i few)) in
-    same-test (λ r. one-high p t i r all)
-    (estimates p t readings totals n (2 ^ i) (letter-in p t i h) (λ z. omega (arith, z, pow-pos i)) kept)
-
--- an added factor's word is not empty, and not lost
-letters-none : letters 0 ≡ 0
-unfolding letters Σℕ
-letters-none = refl
-
-not-among : (w : ℕ) (ws : List ℕ) (j : ℕ) → j < length ws → getD ws j 0 ≡ w → among w ws ≡ false → ⊥
-unfolding among any
-not-among w ws j h e none = eqb-false (getD ws j 0) w (none-at (length ws) (λ i. eqb (getD ws i 0) w) none j h) e
+    other-test (λ r. one-high p t i r all)
+    (estimates p t readings totals n (2 ^ i) (letter-in p t i h) (λ z. omega (arith, z, pow-pos i)) (letter-kept (a p t) i few))
 
 pub added-estimates : AddedEstimates
 added-estimates p t readings totals n j h small =
     let g = generators p t j h small in
     let i : p .k + j < allLetters p = omega (arith, h) in
     let e = 2 ^ (p .k + j) in
-    let not-mean : word p j ≡ 0 → ⊥ = λ z. omega (arith, a p t .words j h .1, ap letters z, letters-none) in
-    let kept = kept-unless (confoundedIn p (word p j)) (λ c. not-among (word p j) (addedWords p) j h refl (a p t .lost (word p j) c .2)) in
-    same-test (λ r. ap (turnedBy (turn p e)) (one-high p t (p .k + j) r i))
+    other-test (λ r. ap (turnedBy (turn p e)) (one-high p t (p .k + j) r i))
     (subst (λ (w : ℕ). MeanDifference p (λ r. turnedBy (turn p e) (plus p r e)) (read readings) (estimateOf p readings totals w)) (g .reduces)
-    (alias-estimates p t readings totals n e (pow-lt i) (λ z. not-mean (sym (g .reduces) ∙ z)) (ap (confoundedIn p) (g .reduces) ∙ kept)))
+    (alias-estimates p t readings totals n e (pow-lt i) (λ z. word-some (a p t) j h (sym (g .reduces) ∙ z)) (ap (confoundedIn p) (g .reduces) ∙ word-kept (a p t) j h)))
 
 pub mean-estimate : MeanEstimate
 mean-estimate p t readings totals n =

@@ -1,6 +1,7 @@
 -- Laws on the letters of a word, and what the machine's operations on 16-bit words say of them.
 --
 --   letters-ones           a word's letters are its ones
+--   letters-none           the empty word has none
 --   odd-ones               an odd number of letters in common is an odd number of ones of `run & word`
 --   beyond-none, within    a word below 2 ^ n has no letter from n on, and one that has none is below it
 --   beyond-most            no word has one from 16 on
@@ -31,6 +32,10 @@ use Rattle.words.specs.Words.{letter, has, letters, beyond, shared, oddI
 pub letters-ones : (w : ℕ) → w < 2 ^ 16 → ones w ≡ letters w
 unfolding letters
 letters-ones w h = ones-bits 16 w h
+
+pub letters-none : letters 0 ≡ 0
+unfolding letters Σℕ
+letters-none = refl
 
 pub odd-ones : (run w : ℕ) → run < 2 ^ 16 → odd (ones (bitAnd run w)) ≡ oddIn run w
 unfolding oddIn shared
