@@ -7,16 +7,16 @@
 # nothing, or the line that tells that a read or a write failed; and the run must end within a time limit and not by a
 # signal. Every difference is printed; the last line says how many there are, and the exit is 1 if there is one.
 #
-# The runs: sheets of no byte to a megabyte, most of about 5,187; the sheets of examples/; inputs that come in parts or
-# late; inputs and outputs that are closed or fail; and 500 sheets of cases/compare.py from a seed that is always the
-# same.
+# The runs: sheets of no byte to a megabyte, most of about 5,187; the sheets of examples/; sheets with readings at the
+# limits and beyond them; inputs that come in parts or late; inputs and outputs that are closed or fail; and 500 sheets of
+# cases/compare.py from a seed that is always the same.
 #
 # Defined here:
-#   Run                              a run: its name, what the program is given, and what must be seen
-#   sized, stored, parted, failing   the runs, by what is tried
-#   seen, complaints_of              what is seen of a run, and how it differs from what is meant
-#   part_taken                       the same of a run whose output takes a part of the text
-#   tried                            makes all runs and prints the differences
+#   Run                  a run: its name, what the program is given, and what must be seen
+#   sized, stored, limited, parted, failing   the runs, by what is tried
+#   seen, complaints_of  what is seen of a run, and how it differs from what is meant
+#   part_taken           the same of a run whose output takes a part of the text
+#   tried                makes all runs and prints the differences
 
 import fcntl
 import os
@@ -32,13 +32,15 @@ from threading import Timer
 sys.path.insert(0, str(Path(__file__).resolve().parent.parent))
 
 from reference.cases import compare
+from reference.cases.answers import LEVELS_NAMED, SIDES, about_limit
 from reference.cases.compare import difference
 from reference.cases.csv_cases import EXAMPLES, FOLDER
 from reference.cases.sheet_cases import Numbers
 from reference.cases.text_cases import RULES_SHEET, RULES_TEXT
 from reference.rules import sheet_bytes
 from reference.rules import text as text_rules
-from reference.rules.totals import Plan
+from reference.rules.table import row_count
+from reference.rules.totals import MOST_FACTORS, MOST_READING, Plan, run_count
 
 COUNT, SEED = 500, 5187
 TIME_LIMIT = 20
@@ -99,6 +101,17 @@ def stored():
     """Runs on the sheets of examples/, each a file that is the input."""
     paths = [FOLDER / (name + ".sheet") for name in EXAMPLES]
     return [Run(path.name, [], "<" + quote(str(path)), text_rules.text(path.read_bytes()), b"") for path in paths]
+
+
+def limited(plan):
+    """Runs on sheets of a plan: all readings at a limit; and one, in the first, a middle and the last run, at a limit of
+    either level count or one beyond its own, where the others are 0."""
+    top, runs = MOST_READING[plan.levels], run_count(plan.levels, plan.k)
+    columns = [("all readings %d" % (sign * top), [sign * top] * runs) for _, sign in SIDES]
+    for size in (*MOST_READING.values(), top + 1):
+        columns += [("%s %d" % (name, sum(readings)), readings) for name, _, readings in about_limit([0] * runs, size)]
+    return [of_sheet("%s, k = %d, %s" % (LEVELS_NAMED[plan.levels], plan.k, name),
+                     sheet_bytes.write(plan, readings, [0] * row_count(plan.k))) for name, readings in columns]
 
 
 def chunks(numbers, own_sheet, most):
@@ -222,7 +235,9 @@ def all_runs(program):
     longest = sheet_bytes.write(*contents)
     if text_rules.answer(longest) or len(longest) != MOST:
         sys.exit("the longest sheet is not lawful or not of %d bytes" % MOST)
-    for run in sized(contents) + stored() + parted(numbers, longest) + failing():
+    plans = [Plan(levels, k) for levels, most in MOST_FACTORS.items() for k in (2, most)]
+    about_limits = [run for plan in plans for run in limited(plan)]
+    for run in sized(contents) + stored() + about_limits + parted(numbers, longest) + failing():
         yield run.name, complaints_of(program, run)
     yield "an output that takes a part", part_taken(program, longest)
 

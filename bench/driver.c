@@ -30,7 +30,7 @@ static totals_call *const totals[SIDES] = {yates_totals, plain_yates_totals, nat
 static table_call *const tables[SIDES] = {anova_table, plain_anova_table, native_anova_table};
 
 enum { MOST = 1024, ROOM = MOST + 1, FIGURES = 11, CHECKS = 2, BATCHES = 30, BATCH_NS = 500000 };
-static const int64_t READING_LIMIT = 100000, VALUE_LIMIT = 409600000;
+static const int64_t TWO_READING_LIMIT = 1000000, THREE_READING_LIMIT = 100000, VALUE_LIMIT = 1024000000;
 
 /* One place of each for all sides, so that none has a better one. */
 static _Alignas(64) int32_t readings[ROOM];
@@ -53,13 +53,18 @@ static size_t runs_of(unsigned levels, unsigned k)
     return n;
 }
 
-/* Readings within the limit, from a fixed seed. */
+static int64_t reading_limit(unsigned levels)
+{
+    return levels == 2 ? TWO_READING_LIMIT : THREE_READING_LIMIT;
+}
+
+/* Readings within the limit of either level count, from a fixed seed. */
 static void take_readings(void)
 {
     uint64_t state = 3950;
     for (size_t i = 0; i < ROOM; i++) {
         state = state * 6364136223846793005u + 1442695040888963407u;
-        readings[i] = (int32_t)((int64_t)((state >> 33) % (2 * READING_LIMIT + 1)) - READING_LIMIT);
+        readings[i] = (int32_t)((int64_t)((state >> 33) % (2 * THREE_READING_LIMIT + 1)) - THREE_READING_LIMIT);
         values[i] = readings[i];
     }
 }
@@ -131,6 +136,34 @@ static void compare_table(unsigned levels, unsigned k, const size_t lengths[6])
     compared++;
 }
 
+/* Values and readings at a limit and beside it, of either level count, in a plan of k factors. */
+static void compare_about_limits(unsigned levels, unsigned k)
+{
+    size_t n = runs_of(levels, k), rows = runs_of(2, k);
+    const size_t places[] = {0, 1, 17, n - 2, n - 1};
+    const size_t lengths[] = {n, rows, n, rows, FIGURES, CHECKS};
+    for (size_t p = 0; p < sizeof places / sizeof *places; p++)
+        for (int64_t over = -1; over <= 1; over++)
+            for (int sign = -1; sign <= 1; sign += 2) {
+                size_t at = places[p];
+                values[at] = sign * (VALUE_LIMIT + over);
+                compare_pass(levels, k, 1, n);
+                values[at] = sign < 0 ? INT64_MIN - (over < 0 ? over : 0) : INT64_MAX - (over > 0 ? over : 0);
+                compare_pass(levels, k, 1, n);
+                values[at] = readings[at];
+                int32_t reading = readings[at];
+                for (unsigned of = 2; of <= 3; of++) {
+                    readings[at] = (int32_t)(sign * (reading_limit(of) + over));
+                    compare_totals(levels, k, n, n);
+                    compare_table(levels, k, lengths);
+                }
+                readings[at] = sign < 0 ? INT32_MIN : INT32_MAX;
+                compare_totals(levels, k, n, n);
+                compare_table(levels, k, lengths);
+                readings[at] = reading;
+            }
+}
+
 /* Tables of a plan: with several marks, and with each length one too small and one too great. */
 static void compare_tables(unsigned levels, unsigned k, size_t n)
 {
@@ -172,35 +205,16 @@ static void compare_sides(void)
             }
             compare_tables(levels, k, n);
         }
-    /* Values and readings at a limit and beyond it. */
-    const size_t places[] = {0, 1, 17, 79, 80, 81};
-    const size_t lengths[] = {81, 16, 81, 16, FIGURES, CHECKS};
-    for (size_t p = 0; p < sizeof places / sizeof *places; p++)
-        for (int64_t over = -1; over <= 1; over++)
-            for (int sign = -1; sign <= 1; sign += 2) {
-                size_t at = places[p];
-                values[at] = sign * (VALUE_LIMIT + over);
-                compare_pass(3, 4, 1, 81);
-                values[at] = sign < 0 ? INT64_MIN - (over < 0 ? over : 0) : INT64_MAX - (over > 0 ? over : 0);
-                compare_pass(3, 4, 1, 81);
-                values[at] = readings[at];
-                int32_t reading = readings[at];
-                readings[at] = (int32_t)(sign * (READING_LIMIT + over));
-                compare_totals(3, 4, 81, 81);
-                compare_table(3, 4, lengths);
-                readings[at] = sign < 0 ? INT32_MIN : INT32_MAX;
-                compare_totals(3, 4, 81, 81);
-                compare_table(3, 4, lengths);
-                readings[at] = reading;
-            }
+    compare_about_limits(2, 7);
+    compare_about_limits(3, 4);
     /* All readings at a limit, where numbers grow largest. */
-    for (int sign = -1; sign <= 1; sign += 2) {
-        for (size_t i = 0; i < ROOM; i++)
-            readings[i] = (int32_t)(sign * READING_LIMIT);
-        for (unsigned levels = 2; levels <= 3; levels++)
+    for (unsigned levels = 2; levels <= 3; levels++)
+        for (int sign = -1; sign <= 1; sign += 2) {
+            for (size_t i = 0; i < ROOM; i++)
+                readings[i] = (int32_t)(sign * reading_limit(levels));
             for (unsigned k = 1; k <= (levels == 2 ? 10 : 6); k++)
                 compare_tables(levels, k, runs_of(levels, k));
-    }
+        }
     take_readings();
 }
 

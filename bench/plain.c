@@ -8,7 +8,7 @@
 #define WITH(side, name) JOIN(side, name)
 #define NAME(name) WITH(SIDE, name)
 
-enum { READING_LIMIT = 100000, VALUE_LIMIT = 409600000 };
+enum { TWO_READING_LIMIT = 1000000, THREE_READING_LIMIT = 100000, VALUE_LIMIT = 1024000000 };
 
 static size_t power(size_t base, size_t n)
 {
@@ -71,10 +71,11 @@ static void form_totals(uint8_t levels, uint8_t k, const int32_t *readings, int6
     }
 }
 
-static int any_reading_beyond(const int32_t *readings, size_t runs)
+static int any_reading_beyond(uint8_t levels, const int32_t *readings, size_t runs)
 {
+    int32_t limit = levels == 2 ? TWO_READING_LIMIT : THREE_READING_LIMIT;
     for (size_t i = 0; i < runs; i++)
-        if (readings[i] > READING_LIMIT || readings[i] < -READING_LIMIT)
+        if (readings[i] > limit || readings[i] < -limit)
             return 1;
     return 0;
 }
@@ -103,7 +104,7 @@ uint8_t NAME(yates_totals)(uint8_t levels, uint8_t k, const int32_t *readings, s
     size_t runs = power(levels, k);
     if (readings_length != runs || totals_length != runs)
         return 11;
-    if (any_reading_beyond(readings, runs))
+    if (any_reading_beyond(levels, readings, runs))
         return 12;
     form_totals(levels, k, readings, totals, runs);
     return 0;
@@ -235,7 +236,7 @@ uint8_t NAME(anova_table)(uint8_t levels, uint8_t k, const int32_t *readings, si
     size_t runs = power(levels, k), row_count = (size_t)1 << k;
     if (readings_length != runs || totals_length != runs || rows_length != row_count || marks_length != row_count)
         return 11;
-    if (any_reading_beyond(readings, runs))
+    if (any_reading_beyond(levels, readings, runs))
         return 12;
     for (size_t row = 0; row < row_count; row++)
         if (marks[row] > 1)

@@ -43,7 +43,7 @@ from reference.rules import text as text_rules
 from reference.rules import totals as totals_rules
 from reference.rules.sheet_bytes import ADDED, BLOCK, BODY_LENGTHS, MARKS, ONCE, PLAN, READING_LENGTH, READINGS, TAGS
 from reference.rules.table import row_label
-from reference.rules.totals import Plan
+from reference.rules.totals import MOST_READING, Plan
 
 # number counts from 1; the first of the cells says what the line is.
 Line = namedtuple("Line", "number cells")
@@ -176,6 +176,7 @@ def make(text):
 
 # ---- why a sheet is refused ----
 
+# By number. The table in docs/USING.md may print the same words, and so the limits of 12 as they come out here.
 CAUSES = {
     2: "levels other than 2 or 3",
     3: "k out of range, which is 1 to 10 at two levels and 1 to 6 at three",
@@ -185,7 +186,7 @@ CAUSES = {
     7: "some one or more block words combine to the empty word",
     8: "a confounded effect is one letter or an added factor's word",
     11: "readings or marks not as many as there are runs or rows",
-    12: "a reading beyond 100,000 either way",
+    12: "a reading beyond {:,} either way at two levels, or beyond {:,} at three".format(MOST_READING[2], MOST_READING[3]),
     13: "a mark over 1, or mark 1 on the mean or a blocks row",
 }
 
@@ -225,7 +226,7 @@ def places(refused, contents):
         runs, rows = totals_rules.run_count(plan.levels, plan.k), table_rules.row_count(plan.k)
         return ["%d readings for %d runs, %d marks for %d rows" % (len(readings), runs, len(marks), rows)]
     if refused == 12:
-        return ["run %d has %d" % own for own in enumerate(readings) if abs(own[1]) > totals_rules.MOST_READING]
+        return ["run %d has %d" % own for own in enumerate(readings) if abs(own[1]) > MOST_READING[plan.levels]]
     kinds = table_rules.row_kinds(plan, [0] * len(marks))
     return ["row %s has mark %d" % (row_label(row), mark) for row, mark in enumerate(marks)
             if mark > 1 or mark == 1 and kinds[row] != table_rules.KEPT]

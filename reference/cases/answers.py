@@ -1,12 +1,13 @@
-# Inputs of the table call that are refused, and inputs of the estimate and of the alias call with their outcomes. Each is
-# listed with the answer that the rules give; check() compares it with what rules/table.py and rules/totals.py answer. And
-# the input and the expected text of the program worked_answers, which tries them.
+# Inputs of the table call that are refused, or accepted with readings about the limits; and inputs of the estimate and of
+# the alias call with their outcomes. Each is listed with the answer that the rules give; check() compares it with what
+# rules/table.py and rules/totals.py answer. And the input and the expected text of the program worked_answers, which tries
+# them.
 #
-# The program reads records, one for each refusal, then one for each estimate, then one for each alias: length, a byte, and
-# so many bytes. These are a sheet, which has readings and marks for a table alone, and a field 6: the call, a byte, 1 for
-# the table, 2 for the estimate, 3 for the alias, and what else the call takes. For a table it is how many totals and rows
-# are lent, a byte each; for an estimate the effect, two bytes, and its total, eight bytes in two's complement; for an alias
-# the effect, two bytes; all big-endian.
+# The program reads records, one for each table, refused or accepted, then one for each estimate, then one for each alias:
+# length, a byte, and so many bytes. These are a sheet, which has readings and marks for a table alone, and a field 6: the
+# call, a byte, 1 for the table, 2 for the estimate, 3 for the alias, and what else the call takes. For a table it is how
+# many totals and rows are lent, a byte each; for an estimate the effect, two bytes, and its total, eight bytes in two's
+# complement; for an alias the effect, two bytes; all big-endian.
 #
 # The program writes a line for each record. Of a table it is `refused` with the number, or `made`; then `unchanged` where
 # all totals and rows hold what they held before the call, else `changed`. Of an estimate it is the outcome, a double as the
@@ -17,6 +18,8 @@
 # differences have the other sign where the effect has an odd number of letters; totals are the report's.
 #
 # Defined here:
+#   about_limit      readings with one of a size, either way, in the first, a middle and the last run
+#   ACCEPTED         accepted inputs of the table call: readings at the limits or, at two levels, beyond those of three
 #   REFUSALS         refused inputs of the table call: every refusal of the rules, and inputs to which several apply
 #   ESTIMATES        inputs of the estimate call: a plan, an effect and a total
 #   ALIASES          inputs of the alias call: a plan and an effect of all factors
@@ -38,9 +41,10 @@ from reference.rules import sheet_bytes
 from reference.rules import table as table_rules
 from reference.rules import totals as totals_rules
 from reference.rules.table import row_label, row_number
-from reference.rules.totals import Plan
+from reference.rules.totals import DONE, Plan
 
-Refusal = namedtuple("Refusal", "number why plan readings marks totals_length rows_length")
+# number: that of the refusal, or 0.
+TableInput = namedtuple("TableInput", "number why plan readings marks totals_length rows_length")
 
 # outcome: "mean", "difference" and the quotient, "lost", or "refused" and the number.
 Estimate = namedtuple("Estimate", "plan effect total outcome")
@@ -53,23 +57,71 @@ MOST_LENT = 8
 REST = 6
 TABLE, ESTIMATE, ALIAS = 1, 2, 3
 
+# The limit of a reading, by levels.
+TOP = totals_rules.MOST_READING
 
-# ---- refusals of the table call ----
+
+# ---- inputs of the table call ----
 
 FOUR, EIGHT = [3, 5, 4, 8], [1, 2, 3, 4, 5, 6, 7, 8]
 AB, AC, BC, ABC = (row_number(label) for label in "AB AC BC ABC".split())
 
 
+def usual_readings(plan):
+    """Readings 1 to 8 for three factors, 2, 5, 3 for one at three levels, else 3, 5, 4, 8."""
+    return EIGHT if plan.k == 3 else [2, 5, 3] if (plan.levels, plan.k) == (3, 1) else FOUR
+
+
 def refusal(number, why, plan, readings=None, marks=None, totals_length=None, rows_length=None):
-    """A refused input. What is not said: readings 1 to 8 for three factors, 2, 5, 3 for one at three levels, else 3, 5, 4,
-    8; marks 0; totals as many as these readings, rows as many as marks."""
-    usual = EIGHT if plan.k == 3 else [2, 5, 3] if (plan.levels, plan.k) == (3, 1) else FOUR
+    """An input of the table call that is refused with a number, or accepted where that is 0. What is not said: usual
+    readings; marks 0; totals as many as these readings, rows as many as marks."""
+    usual = usual_readings(plan)
     rows = 2 if len(usual) == 3 else len(usual)
-    return Refusal(number, why, plan, usual if readings is None else readings, [0] * rows if marks is None else marks,
-                   len(usual) if totals_length is None else totals_length, rows if rows_length is None else rows_length)
+    return TableInput(number, why, plan, usual if readings is None else readings, [0] * rows if marks is None else marks,
+                      len(usual) if totals_length is None else totals_length, rows if rows_length is None else rows_length)
 
 
-TWO, BLOCKED = Plan(2, 2), Plan(2, 3, (), (AB, BC))
+# ---- tables with a reading about the limits ----
+
+LEVELS_NAMED = {2: "two levels", 3: "three levels"}
+SIDES = ("upper limit", 1), ("lower limit", -1)
+
+
+def about_limit(readings, size):
+    """The readings with one of a size, either way, in the first, a middle and the last run in turn; before them in words
+    which run it is, and which limit the size is about."""
+    places = ("first", 0), ("middle", len(readings) // 2), ("last", len(readings) - 1)
+    return [("%s reading" % name, limit, [*readings[:place], sign * size, *readings[place + 1:]])
+            for limit, sign in SIDES for name, place in places]
+
+
+def tables_about_limit(number, where, plan, size):
+    """Inputs with such a reading; where says how it lies to the limit."""
+    return [refusal(number, "%s, %s %s" % (LEVELS_NAMED[plan.levels], name, where % limit), plan, readings)
+            for name, limit, readings in about_limit(usual_readings(plan), size)]
+
+
+def tables_at_limit(plan):
+    """Inputs with all readings at a limit."""
+    return [refusal(DONE, "%s, all readings at the %s" % (LEVELS_NAMED[plan.levels], limit), plan,
+                    [sign * TOP[plan.levels]] * len(usual_readings(plan))) for limit, sign in SIDES]
+
+
+TWO, ONE_OF_THREE, BLOCKED = Plan(2, 2), Plan(3, 1), Plan(2, 3, (), (AB, BC))
+
+# The first has the small input of 12.
+BEYOND_LIMITS = (tables_about_limit(12, "one beyond the %s", ONE_OF_THREE, TOP[3] + 1)
+                 + tables_about_limit(12, "one beyond the %s", TWO, TOP[2] + 1)
+                 + tables_about_limit(12, "at the %s of two levels", ONE_OF_THREE, TOP[2]))
+
+ACCEPTED = (tables_about_limit(DONE, "at the %s", ONE_OF_THREE, TOP[3])
+            + tables_about_limit(DONE, "at the %s", TWO, TOP[2])
+            + tables_about_limit(DONE, "one beyond the %s of three levels", TWO, TOP[3] + 1)
+            + tables_at_limit(ONE_OF_THREE) + tables_at_limit(TWO))
+
+
+# ---- refusals of the table call ----
+
 REFUSALS = [
     refusal(2, "levels 4", Plan(4, 2)),
     refusal(2, "levels 1", Plan(1, 2)),
@@ -105,20 +157,19 @@ REFUSALS = [
     refusal(11, "5 rows", TWO, rows_length=5),
     refusal(11, "3 marks", TWO, marks=[0, 0, 0]),
     refusal(11, "5 marks", TWO, marks=[0, 0, 0, 0, 0]),
-    refusal(11, "three levels, 3 rows, where N is 3 and R is 2", Plan(3, 1), rows_length=3),
-    refusal(11, "three levels, 3 marks", Plan(3, 1), marks=[0, 0, 0]),
-    refusal(12, "reading 100001", TWO, readings=[3, 100001, 4, 8]),
-    refusal(12, "reading -100001", TWO, readings=[3, 5, 4, -100001]),
+    refusal(11, "three levels, 3 rows, where N is 3 and R is 2", ONE_OF_THREE, rows_length=3),
+    refusal(11, "three levels, 3 marks", ONE_OF_THREE, marks=[0, 0, 0]),
     refusal(12, "the least i32", TWO, readings=[-2147483648, 5, 4, 8]),
+    refusal(12, "the largest i32, three levels", ONE_OF_THREE, readings=[2, 2147483647, 3]),
     refusal(13, "mark 1 on row 0", TWO, marks=[1, 0, 0, 0]),
     refusal(13, "mark 2", TWO, marks=[0, 0, 2, 0]),
     refusal(13, "mark 255", TWO, marks=[0, 0, 0, 255]),
     refusal(13, "mark 1 on a blocks row", BLOCKED, marks=[0, 0, 0, 1, 0, 0, 0, 0]),
     refusal(13, "mark 1 on the combination of block words", BLOCKED, marks=[0, 0, 0, 0, 0, 1, 0, 0]),
     refusal(13, "mark 2 on a blocks row", BLOCKED, marks=[0, 0, 0, 0, 0, 0, 2, 0]),
-    refusal(13, "three levels, mark 1 on row 0", Plan(3, 1), marks=[1, 0]),
+    refusal(13, "three levels, mark 1 on row 0", ONE_OF_THREE, marks=[1, 0]),
     refusal(2, "2 and 3: levels 4, k = 11", Plan(4, 11)),
-    refusal(2, "2, 11, 12 and 13", Plan(4, 2), readings=[100001], marks=[1, 2], totals_length=1, rows_length=1),
+    refusal(2, "2, 11, 12 and 13", Plan(4, 2), readings=[TOP[2] + 1], marks=[1, 2], totals_length=1, rows_length=1),
     refusal(3, "3 and 4: three levels, k = 7, one block word", Plan(3, 7, (), (AB,))),
     refusal(4, "4 and 5: three levels, an empty block word", Plan(3, 1, (), (0,))),
     refusal(5, "5 and 6: k = 2, added AC and AC", Plan(2, 2, ((AC, 0), (AC, 0)), ())),
@@ -126,10 +177,21 @@ REFUSALS = [
     refusal(6, "6 and 7: added AB, AB, block words ABC, ABC", Plan(2, 3, ((AB, 0), (AB, 0)), (ABC, ABC))),
     refusal(7, "7 and 8: block words A, A", Plan(2, 2, (), (1, 1))),
     refusal(8, "8 and 11: block words AB, ABC, 3 readings", Plan(2, 3, (), (AB, ABC)), readings=[1, 2, 3]),
-    refusal(11, "11 and 12: 3 readings, one of them 100001", TWO, readings=[3, 5, 100001]),
+    refusal(11, "11 and 12: 3 readings, one of them beyond the limit", TWO, readings=[3, 5, TOP[2] + 1]),
+    refusal(11, "11 and 12: three levels, 2 readings, one of them beyond the limit", ONE_OF_THREE, readings=[2, TOP[3] + 1]),
+    refusal(11, "11 and 12: three levels, 4 totals, a reading beyond the limit", ONE_OF_THREE,
+            readings=[2, TOP[3] + 1, 3], totals_length=4),
     refusal(11, "11 and 13: 5 rows, mark 1 on row 0", TWO, marks=[1, 0, 0, 0], rows_length=5),
-    refusal(12, "12 and 13: reading 100001, mark 2", TWO, readings=[100001, 5, 4, 8], marks=[0, 2, 0, 0]),
-]
+    refusal(12, "12 and 13: a reading beyond the limit, mark 2", TWO, readings=[TOP[2] + 1, 5, 4, 8], marks=[0, 2, 0, 0]),
+    refusal(12, "12 and 13: three levels, a reading beyond the limit, mark 2", ONE_OF_THREE,
+            readings=[2, 5, -TOP[3] - 1], marks=[0, 2]),
+    refusal(12, "12 and 13: three levels, a reading at the limit of two levels, mark 1 on row 0", ONE_OF_THREE,
+            readings=[TOP[2], 5, 3], marks=[1, 0]),
+    refusal(13, "two levels, a reading beyond the limit of three levels, mark 2", TWO,
+            readings=[3, 5, 4, TOP[3] + 1], marks=[0, 2, 0, 0]),
+    refusal(13, "two levels, readings at the limit, mark 1 on row 0", TWO, readings=[TOP[2]] * 4, marks=[1, 0, 0, 0]),
+    refusal(13, "three levels, readings at the limit, mark 1 on row 0", ONE_OF_THREE, readings=[-TOP[3]] * 3, marks=[1, 0]),
+] + BEYOND_LIMITS
 
 
 # ---- estimates ----
@@ -183,7 +245,21 @@ REFUSED_PLANS = [
     (8, Plan(2, 3, (), (AB, ABC))),
 ]
 
-AD_ABC = Plan(2, 4, (), (row_number("AD"), ABC))
+
+def estimates_about_limit(k):
+    """For the mean and for the effect of all k letters totals at the limits, and one beyond them."""
+    plan, found = Plan(2, k), []
+    for sign in (1, -1):
+        total = sign * 2 ** k * TOP[2]
+        found += [Estimate(plan, 0, total, "mean %d" % (sign * TOP[2]))]
+        found += [Estimate(plan, 2 ** k - 1, total, "difference %d" % (sign * (-1) ** k * 2 * TOP[2]))]
+        found += [Estimate(plan, effect, total + sign, "refused 12") for effect in (0, 2 ** k - 1)]
+    return found
+
+
+# The limits of totals of ten factors, and of three, by their numbers of runs.
+TEN_TOP, EIGHT_TOP = 1024 * TOP[2], 8 * TOP[2]
+AD_ABC, IN_TWO_BLOCKS = Plan(2, 4, (), (row_number("AD"), ABC)), Plan(2, 3, (), (ABC,))
 ESTIMATES = report_estimates() + amcp_estimates(examples.AMCP_WHOLE) + amcp_estimates(examples.AMCP_HALF) + [
     Estimate(TWO, 0, 20, "mean 5"),
     Estimate(TWO, 1, -6, "difference 3"),
@@ -192,7 +268,6 @@ ESTIMATES = report_estimates() + amcp_estimates(examples.AMCP_WHOLE) + amcp_esti
     Estimate(Plan(2, 1), 0, 0, "mean 0"),
     Estimate(Plan(2, 1), 1, -200000, "difference 200000"),
     Estimate(Plan(2, 1), 1, 200000, "difference -200000"),
-    Estimate(Plan(2, 1), 0, -200000, "mean -100000"),
     Estimate(Plan(2, 1), 1, 0, "difference 0"),
     Estimate(TWO, 0, 0, "mean 0"),
     Estimate(TWO, 1, 0, "difference 0"),
@@ -201,11 +276,12 @@ ESTIMATES = report_estimates() + amcp_estimates(examples.AMCP_WHOLE) + amcp_esti
     Estimate(Plan(2, 3), 7, 0, "difference 0"),
     Estimate(TEN, 511, 0, "difference 0"),
     Estimate(TEN, 1023, 0, "difference 0"),
-    Estimate(Plan(2, 3, (), (ABC,)), 7, 0, "lost"),
-    Estimate(Plan(2, 3, (), (ABC,)), 7, -800000, "lost"),
-    Estimate(Plan(2, 3, (), (ABC,)), 0, 36, "mean 4.5"),
-    Estimate(Plan(2, 3, (), (ABC,)), 4, -16, "difference 4"),
-    Estimate(Plan(2, 3, (), (ABC,)), 3, 0, "difference 0"),
+    Estimate(IN_TWO_BLOCKS, 7, 0, "lost"),
+    Estimate(IN_TWO_BLOCKS, 7, EIGHT_TOP, "lost"),
+    Estimate(IN_TWO_BLOCKS, 7, -EIGHT_TOP, "lost"),
+    Estimate(IN_TWO_BLOCKS, 0, 36, "mean 4.5"),
+    Estimate(IN_TWO_BLOCKS, 4, -16, "difference 4"),
+    Estimate(IN_TWO_BLOCKS, 3, 0, "difference 0"),
     Estimate(AD_ABC, row_number("AD"), 71, "lost"),
     Estimate(AD_ABC, row_number("ABC"), 117, "lost"),
     Estimate(AD_ABC, row_number("BCD"), -115, "lost"),
@@ -217,10 +293,14 @@ ESTIMATES = report_estimates() + amcp_estimates(examples.AMCP_WHOLE) + amcp_esti
     Estimate(TEN_ADDED, row_number("ABD"), 3, "difference -3/512"),
     Estimate(TEN, 0, 1, "mean 1/1024"),
     Estimate(TEN, 0, -1, "mean -1/1024"),
-    Estimate(TEN, 0, 102400000, "mean 100000"),
-    Estimate(TEN, 0, -102400000, "mean -100000"),
-    Estimate(TEN, 1023, 102399999, "difference 102399999/512"),
-    Estimate(TEN, 511, 102399999, "difference -102399999/512"),
+    Estimate(TEN, 1023, TEN_TOP - 1, "difference %d/512" % (TEN_TOP - 1)),
+    Estimate(TEN, 1023, 1 - TEN_TOP, "difference %d/512" % (1 - TEN_TOP)),
+    Estimate(TEN, 511, TEN_TOP - 1, "difference %d/512" % (1 - TEN_TOP)),
+    Estimate(TEN, 0, TEN_TOP - 1, "mean %d/1024" % (TEN_TOP - 1)),
+    Estimate(TEN, 0, 1 - TEN_TOP, "mean %d/1024" % (1 - TEN_TOP)),
+    Estimate(TEN, 1023, 1024 * TOP[3] + 1, "difference %d/512" % (1024 * TOP[3] + 1)),
+    Estimate(TWO, 3, 4 * TOP[3] + 1, "difference %d/2" % (4 * TOP[3] + 1)),
+    Estimate(TWO, 0, -4 * TOP[3] - 1, "mean %d/4" % (-4 * TOP[3] - 1)),
     Estimate(TEN, row_number("ABCDE"), 512, "difference -1"),
     Estimate(TEN, row_number("BCDEFG"), 512, "difference 1"),
     Estimate(TEN, row_number("ACEFGIJ"), 512, "difference -1"),
@@ -228,20 +308,20 @@ ESTIMATES = report_estimates() + amcp_estimates(examples.AMCP_WHOLE) + amcp_esti
     Estimate(Plan(2, 3, ((ABC, 1),)), ABC, -8, "difference 2"),
     Estimate(Plan(2, 2, ((AB, 1),)), AB, -8, "difference -4"),
     Estimate(Plan(2, 3, ((ABC, 1),)), row_number("D"), -8, "refused 10"),
-    Estimate(TEN, 512, -102400000, "difference 200000"),
-    Estimate(TEN, 512, 102400000, "difference -200000"),
-    Estimate(TEN, row_number("AJ"), -102400000, "difference -200000"),
-] + [Estimate(plan, 0, 0, "refused %d" % number) for number, plan in REFUSED_PLANS] + [
-    Estimate(Plan(2, 3, (), (AB, ABC)), 8, 800001, "refused 8"),
+    Estimate(TEN, 512, -TEN_TOP, "difference %d" % (2 * TOP[2])),
+    Estimate(TEN, 512, TEN_TOP, "difference %d" % (-2 * TOP[2])),
+    Estimate(TEN, row_number("AJ"), -TEN_TOP, "difference %d" % (-2 * TOP[2])),
+] + [own for k in range(1, 11) for own in estimates_about_limit(k)] + [
+    Estimate(plan, 0, 0, "refused %d" % number) for number, plan in REFUSED_PLANS
+] + [
+    Estimate(Plan(2, 3, (), (AB, ABC)), 8, EIGHT_TOP + 1, "refused 8"),
     Estimate(Plan(3, 1), 0, 10, "refused 9"),
     Estimate(Plan(3, 1), 2, 10 ** 9, "refused 9"),
     Estimate(TWO, 4, 0, "refused 10"),
     Estimate(TWO, 32768, 0, "refused 10"),
-    Estimate(TWO, 5, 400001, "refused 10"),
-    Estimate(TWO, 3, 400001, "refused 12"),
-    Estimate(TWO, 0, -400001, "refused 12"),
-    Estimate(Plan(2, 3, (), (ABC,)), 7, 800001, "refused 12"),
-    Estimate(TEN, 0, 102400001, "refused 12"),
+    Estimate(TWO, 5, 4 * TOP[2] + 1, "refused 10"),
+    Estimate(IN_TWO_BLOCKS, 7, EIGHT_TOP + 1, "refused 12"),
+    Estimate(IN_TWO_BLOCKS, 7, -EIGHT_TOP - 1, "refused 12"),
     Estimate(TEN, 1, -2 ** 63, "refused 12"),
     Estimate(TEN, 1, 2 ** 63 - 1, "refused 12"),
 ]
@@ -332,11 +412,11 @@ ALIASES = published_aliases() + [
 
 # ---- checks ----
 
-def check_refusals():
-    """The number of every refusal is the one that the rules give."""
+def check_tables():
+    """The number of every table is the one that the rules give."""
     found = [(own, table_rules.table_answer(own.plan, own.readings, own.marks, own.totals_length, own.rows_length))
-             for own in REFUSALS]
-    return ["refusal, %s: %d, listed %d" % (own.why, number, own.number) for own, number in found if number != own.number]
+             for own in REFUSALS + ACCEPTED]
+    return ["table, %s: %d, listed %d" % (own.why, number, own.number) for own, number in found if number != own.number]
 
 
 def outcome_of(own):
@@ -442,18 +522,23 @@ def check_aliases():
 
 
 def check_lent():
-    """The program can lend as much as every refusal wants."""
-    return ["refusal, %s: over %d places" % (own.why, MOST_LENT) for own in REFUSALS
+    """The program can lend as much as every table wants."""
+    return ["table, %s: over %d places" % (own.why, MOST_LENT) for own in REFUSALS + ACCEPTED
             if max(len(own.readings), own.totals_length, own.rows_length) > MOST_LENT]
 
 
 def check():
-    """List of all complaints about refusals, estimates and aliases."""
-    return (check_refusals() + check_estimates() + check_report() + check_amcp() + check_zeros() + check_aliases()
+    """List of all complaints about tables, estimates and aliases."""
+    return (check_tables() + check_estimates() + check_report() + check_amcp() + check_zeros() + check_aliases()
             + check_lent())
 
 
 # ---- expected text ----
+
+def table_text(own):
+    """What the program writes of a table. One that is accepted writes its totals and rows."""
+    return "refused %d, unchanged" % own.number if own.number else "made, changed"
+
 
 def estimate_text(own):
     """What the program writes of an estimate."""
@@ -475,8 +560,8 @@ def numbered(texts):
 
 
 def expected_text():
-    """What the program that tries refusals, estimates and aliases must write."""
-    return numbered(["refused %d, unchanged" % own.number for own in REFUSALS] + [estimate_text(own) for own in ESTIMATES]
+    """What the program that tries tables, estimates and aliases must write."""
+    return numbered([table_text(own) for own in REFUSALS + ACCEPTED] + [estimate_text(own) for own in ESTIMATES]
                     + [reduced_text(own) for own in ALIASES])
 
 
@@ -488,8 +573,8 @@ def record(plan, readings, marks, call, rest):
     return bytes([len(fields)]) + fields
 
 
-def refusal_record(own):
-    """The record of a refusal."""
+def table_record(own):
+    """The record of a table."""
     return record(own.plan, own.readings, own.marks, TABLE, bytes([own.totals_length, own.rows_length]))
 
 
@@ -504,8 +589,8 @@ def alias_record(own):
 
 
 def inputs():
-    """The input of the program: the records of all refusals, estimates and aliases."""
-    return b"".join([refusal_record(own) for own in REFUSALS] + [estimate_record(own) for own in ESTIMATES]
+    """The input of the program: the records of all tables, estimates and aliases."""
+    return b"".join([table_record(own) for own in REFUSALS + ACCEPTED] + [estimate_record(own) for own in ESTIMATES]
                     + [alias_record(own) for own in ALIASES])
 
 
@@ -516,8 +601,9 @@ def plan_text(plan):
 
 
 def list_text():
-    """A line for each record: why a table is refused; of an estimate plan, effect and total; of an alias plan and effect."""
-    return numbered(["refusal, " + own.why for own in REFUSALS]
+    """A line for each record: of a table why it is refused, or what it has about the limits; of an estimate plan, effect and
+    total; of an alias plan and effect."""
+    return numbered(["refusal, " + own.why for own in REFUSALS] + ["table, " + own.why for own in ACCEPTED]
                     + ["estimate, %s, effect %d, total %d" % (plan_text(own.plan), *own[1:3]) for own in ESTIMATES]
                     + ["alias, %s, effect %d" % (plan_text(own.plan), own.effect) for own in ALIASES])
 

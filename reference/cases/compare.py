@@ -79,7 +79,8 @@ def longest(numbers):
                                     totals_rules.MOST_BLOCK_WORDS)
         if totals_rules.plan_answer(plan) == totals_rules.DONE:
             runs = totals_rules.run_count(plan.levels, plan.k)
-            return Contents(plan, text_cases.made_readings(numbers, runs), text_cases.made_marks(numbers, plan))
+            readings = text_cases.made_readings(numbers, plan.levels, runs)
+            return Contents(plan, readings, text_cases.made_marks(numbers, plan))
 
 
 def many_words(numbers):

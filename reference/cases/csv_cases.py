@@ -3,19 +3,24 @@
 #
 # Defined here:
 #   UNCLEAR, SAME, REFUSED   lines that are not understood, that make the sheet of the rules, that make a refused sheet
+#   ABOUT_LIMITS             readings about the limits, on which the command itself is tried
 #   EXAMPLES                 the stored examples, and the worked table of each
 #   check                    list of complaints, empty if all is well
 
+import subprocess
 import sys
+import tempfile
 from pathlib import Path
 
 ROOT = Path(__file__).resolve().parents[2]
 sys.path[:0] = [str(ROOT), str(ROOT / "tools")]
 
-from csv_sheet import NotUnderstood, field_causes, listing, make, text_of
+from csv_sheet import CAUSES, NotUnderstood, field_causes, listing, make, text_of
 from reference.cases import text_cases
 from reference.published import analyses
+from reference.rules import sheet_bytes
 from reference.rules import text as text_rules
+from reference.rules.totals import MOST_READING, Plan
 
 FOLDER = ROOT / "examples"
 
@@ -92,11 +97,31 @@ REFUSED = [
     (replaced(3, "added,AB,0\nadded,BA,1\nrun,0,0,3"), 6),
     (replaced(3, "block,AB\nblock,AB\nrun,0,0,3"), 7),
     (replaced(3, "block,A\nrun,0,0,3"), 8),
-    (replaced(3, "run,0,0,-100001"), 12),
+    (replaced(3, "run,0,0,%d" % (-MOST_READING[2] - 1)), 12),
     (replaced(3, "run,0,0,2147483647"), 12),
     (replaced(3, "block,AB\nrun,0,0,3"), 13),
     (replaced(7, "error,mean"), 13),
 ]
+
+# Levels, the reading of run 0, and whether the command tells of 12. The others are those of the rules' two examples.
+ABOUT_LIMITS = [
+    (2, MOST_READING[3] + 1, False),
+    (2, MOST_READING[2], False),
+    (2, -MOST_READING[2], False),
+    (2, MOST_READING[2] + 1, True),
+    (2, -MOST_READING[2] - 1, True),
+    (3, MOST_READING[3], False),
+    (3, MOST_READING[3] + 1, True),
+    (3, -MOST_READING[2], True),
+]
+
+
+def lines_and_sheet(levels, reading):
+    """The lines of the rules' example of so many levels with a reading of run 0, and the sheet that they must make."""
+    if levels == 2:
+        return replaced(3, "run,0,0,%d" % reading), sheet_bytes.write(Plan(2, 2), [reading, 5, 4, 8], [0, 0, 0, 1])
+    lines = "levels,3\nfactors,1\nrun,0,%d\nrun,1,5\nrun,2,3\n" % reading
+    return lines, sheet_bytes.write(Plan(3, 1), [reading, 5, 3], [0, 0])
 
 
 # ---- checks ----
@@ -125,6 +150,30 @@ def check_make():
     return complaints
 
 
+def command_says(lines):
+    """What the command writes of lines: the sheet, and the message."""
+    with tempfile.TemporaryDirectory() as folder:
+        path = Path(folder) / "lines.csv"
+        path.write_text(lines, encoding="utf-8")
+        found = subprocess.run([sys.executable, "-B", str(ROOT / "tools" / "csv_sheet.py"), "make", str(path)],
+                               stdout=subprocess.PIPE, stderr=subprocess.PIPE)
+    return found.stdout, found.stderr.decode()
+
+
+def check_limits():
+    """Complaints about the command on readings about the limits: the sheet is written, and a message where it is refused;
+    and about the words of 12, which have both limits."""
+    complaints = []
+    for levels, reading, refused in ABOUT_LIMITS:
+        lines, own_sheet = lines_and_sheet(levels, reading)
+        message = "factab will answer: refused 12 (%s; run 0 has %d)\n" % (CAUSES[12], reading) if refused else ""
+        if command_says(lines) != (own_sheet, message):
+            complaints.append("%d levels, reading %d: sheet or message" % (levels, reading))
+    if any(format(limit, ",") not in CAUSES[12] for limit in MOST_READING.values()):
+        complaints.append("the words of 12")
+    return complaints
+
+
 def check_listing(own):
     """Complaints about the lines of a sheet: they make it again, or give the number of its refusal and a cause."""
     refused = text_rules.answer(own.sheet)
@@ -147,8 +196,8 @@ def check_example(name, own):
 
 
 def check():
-    """List of all complaints about lines, listings and stored examples."""
-    complaints = check_make()
+    """List of all complaints about lines, the command, listings and stored examples."""
+    complaints = check_make() + check_limits()
     for own in text_cases.SHEETS:
         complaints += check_listing(own)
     for name, own in EXAMPLES.items():

@@ -1,6 +1,6 @@
 # Sheets for the two calls that take one, and the expected text of the program worked_sheets, which tries them: sheets with
-# a name, whose numbers are listed here, and 600 sheets that are made and damaged by numbers from a fixed seed.
-# rules/sheet_bytes.py answers them.
+# a name, whose numbers are listed here; 600 sheets that are made and damaged by numbers from a fixed seed; and 300 that are
+# made so with readings near the limits, whose numbers are known from how they are made. rules/sheet_bytes.py answers them.
 #
 # The program reads records, one for each sheet in this order: room, the number of places of the column that it lends, and
 # length, two bytes each and big-endian; then so many bytes of a sheet. Before each call every place of the column holds a
@@ -16,6 +16,8 @@
 #   Numbers              numbers that are spread out, from a seed
 #   DAMAGES              ways to damage the fields of a sheet
 #   made, MADE           a sheet that is made and, four times of five, damaged; the 600 of them
+#   near_contents        what a sheet holds whose readings are near the limits, and its number
+#   near, NEAR           such a sheet; the 300 of them
 #   check                list of complaints, empty if all is well
 #   counted              a number by which every value of a list counts
 #   expected_text        the expected text
@@ -29,8 +31,8 @@ from os.path import abspath, dirname
 sys.path.insert(0, dirname(dirname(dirname(abspath(__file__)))))
 
 from reference.cases import answers
-from reference.cases.answers import AB, ABC, BC, EIGHT, FOUR
-from reference.published.analyses import FOUR_BLOCKS, SIX_ADDED, TEN
+from reference.cases.answers import AB, ABC, BC, EIGHT, FOUR, LEVELS_NAMED, TOP, about_limit
+from reference.published.analyses import FOUR_BLOCKS, SIX, SIX_ADDED, TEN
 from reference.rules import sheet_bytes
 from reference.rules import table as table_rules
 from reference.rules import totals as totals_rules
@@ -38,7 +40,7 @@ from reference.rules.sheet_bytes import ADDED, BLOCK, MARKS, PLAN, READINGS, fie
 from reference.rules.table import row_number
 from reference.rules.totals import DONE, Plan
 
-# contents: what the sheet was made from, where nothing is damaged.
+# contents: what the sheet was made from, where nothing of it is refused.
 Case = namedtuple("Case", "number why sheet room contents", defaults=(None,))
 
 MOST_SHEET = 5_187
@@ -53,7 +55,7 @@ ANSWERS = (DONE, 1, 2, 3, 4, 5, 6, 7, 8, 11, 12, 13)
 
 TWO, THREE, ONE = Plan(2, 2), Plan(2, 3), Plan(2, 1)
 LAST = [0, 0, 0, 1]
-SPREAD = (0, 1, -1, 127, -128, 128, 255, -256, 256, 32767, -32768, 65535, 65536, -65537, 99999, -99999)
+SPREAD = (0, 1, -1, 127, -128, 128, 255, -256, 256, 32767, -32768, 65535, 65536, -65537)
 RULES = sheet_bytes.write(TWO, FOUR, LAST)
 
 
@@ -63,9 +65,15 @@ def lent(number, why, plan, readings, marks=None, room=None):
     return Case(number, why, sheet_bytes.write(plan, readings, rows), len(readings) if room is None else room)
 
 
-def spread(count):
-    """So many readings within the limits, all different."""
-    return [(position * 9973 + 12345) % 200001 - 100000 for position in range(count)]
+def spread(levels, count):
+    """So many readings within the limit, all different."""
+    top = TOP[levels]
+    return [(position * 9973 + 12345) % (2 * top + 1) - top for position in range(count)]
+
+
+def many_sizes(levels):
+    """Readings of many signs and sizes; the last two are just within the limit."""
+    return SPREAD + (TOP[levels] - 1, 1 - TOP[levels])
 
 
 def every_third(plan):
@@ -80,8 +88,8 @@ ACCEPTED = [
     lent(DONE, "column one place longer", TWO, FOUR, LAST, 5),
     lent(DONE, "column of 1,100 places", TWO, FOUR, LAST, 1100),
     lent(DONE, "marks 0, 1, 1, 1", TWO, FOUR, [0, 1, 1, 1]),
-    lent(DONE, "readings at both limits", ONE, [-100000, 100000]),
-    lent(DONE, "readings of many signs and sizes", Plan(2, 4), SPREAD),
+    lent(DONE, "readings at both limits", ONE, [-TOP[2], TOP[2]]),
+    lent(DONE, "readings of many signs and sizes", Plan(2, 4), many_sizes(2)),
     lent(DONE, "block word ABC", Plan(2, 3, (), (ABC,)), EIGHT),
     lent(DONE, "D = ABC", Plan(2, 3, ((ABC, 0),)), EIGHT),
     lent(DONE, "D = ABC with sign 1", Plan(2, 3, ((ABC, 1),)), EIGHT, [0, 0, 1, 0, 0, 1, 0, 1], 9),
@@ -90,10 +98,10 @@ ACCEPTED = [
     lent(DONE, "three levels, k = 1", Plan(3, 1), [2, 5, 3], [0, 1], 3),
     lent(DONE, "three levels, k = 1, column one place longer", Plan(3, 1), [-2, 5, -3], [0, 0], 4),
     lent(DONE, "three levels, k = 2", Plan(3, 2), range(-4, 5), LAST),
-    lent(DONE, "three levels, k = 6", Plan(3, 6), spread(729), every_third(Plan(3, 6)), 730),
-    lent(DONE, "two levels, k = 10", TEN, spread(1024), every_third(TEN)),
-    lent(DONE, "the longest sheet", MOST, spread(1024), every_third(MOST)),
-    lent(DONE, "the longest sheet, column longer", MOST, [-100000] * 1023 + [100000], room=1100),
+    lent(DONE, "three levels, k = 6", SIX, spread(3, 729), every_third(SIX), 730),
+    lent(DONE, "two levels, k = 10", TEN, spread(2, 1024), every_third(TEN)),
+    lent(DONE, "the longest sheet", MOST, spread(2, 1024), every_third(MOST)),
+    lent(DONE, "the longest sheet, column longer", MOST, [-TOP[2]] * 1023 + [TOP[2]], room=1100),
 ]
 
 
@@ -192,7 +200,7 @@ REFUSED = [
     lent(11, "column one place short", TWO, FOUR, LAST, 3),
     lent(11, "column of no place", TWO, FOUR, LAST, 0),
     lent(11, "three levels, column one place short", Plan(3, 1), [2, 5, 3], [0, 1], 2),
-    lent(11, "two levels, k = 10, column one place short", TEN, spread(1024), every_third(TEN), 1023),
+    lent(11, "two levels, k = 10, column one place short", TEN, spread(2, 1024), every_third(TEN), 1023),
     lent(11, "no readings, column of 4 places", TWO, [], LAST, 4),
     lent(11, "no marks", TWO, FOUR, []),
     lent(11, "no readings and no marks", TWO, [], [], 4),
@@ -203,12 +211,12 @@ REFUSED = [
     lent(11, "three levels, k = 2, 9 marks", Plan(3, 2), range(9), [0] * 9),
     lent(12, "the largest i32", TWO, [3, 5, HIGH, 8], LAST),
     lent(12, "both extremes of i32", ONE, [LOW, HIGH]),
-    lent(12, "the last reading -100,001, column longer", TWO, [3, 5, 4, -100001], LAST, 6),
-    lent(12, "reading 100,001 in the last of 1,024", TEN, spread(1023) + [100001], every_third(TEN)),
-    lent(12, "three levels, reading 100,001", Plan(3, 1), [2, 100001, 3]),
+    lent(12, "the last reading beyond the lower limit, column longer", TWO, [3, 5, 4, -TOP[2] - 1], LAST, 6),
+    lent(12, "the last of 1,024 readings beyond the limit", TEN, spread(2, 1023) + [TOP[2] + 1], every_third(TEN)),
+    lent(12, "three levels, the last of 729 readings beyond the limit", SIX, spread(3, 728) + [TOP[3] + 1]),
     lent(13, "mark 3 on the last row", TWO, FOUR, [0, 0, 0, 3]),
     lent(13, "mark 255 on row 0", TWO, FOUR, [255, 0, 0, 0]),
-    lent(13, "mark 1 on the combination of four block words", MOST, spread(1024), [0] * 1023 + [1]),
+    lent(13, "mark 1 on the combination of four block words", MOST, spread(2, 1024), [0] * 1023 + [1]),
     lent(13, "three levels, mark 2", Plan(3, 2), range(9), [0, 0, 2, 0]),
 ]
 
@@ -249,25 +257,50 @@ TWO_REFUSALS = [
     lent(6, "6 and 12: added AB, AB, the least i32", Plan(2, 2, ((AB, 0), (AB, 0))), [3, 5, 4, LOW], LAST),
     lent(7, "7 and 11: block words AB, AB, no column", Plan(2, 2, (), (AB, AB)), FOUR, LAST, 0),
     lent(8, "8 and 11: block word A, column one place short", Plan(2, 2, (), (1,)), FOUR, LAST, 3),
-    lent(8, "8 and 12: block word A, reading 100,001", Plan(2, 2, (), (1,)), [3, 5, 100001, 8], LAST),
+    lent(8, "8 and 12: block word A, a reading beyond the limit", Plan(2, 2, (), (1,)), [3, 5, TOP[2] + 1, 8], LAST),
     lent(11, "11 and 12: 3 readings, one of them the least i32", TWO, [3, LOW, 4], LAST, 4),
-    lent(11, "11 and 12: 3 marks, reading 100,001", TWO, [3, 100001, 4, 8], [0, 0, 0]),
-    lent(11, "11 and 12: column one place short, reading 100,001", TWO, [3, 100001, 4, 8], LAST, 3),
+    lent(11, "11 and 12: 3 marks, a reading beyond the limit", TWO, [3, TOP[2] + 1, 4, 8], [0, 0, 0]),
+    lent(11, "11 and 12: column one place short, a reading beyond the limit", TWO, [3, TOP[2] + 1, 4, 8], LAST, 3),
+    lent(11, "11 and 12: three levels, column one place short, a reading beyond the limit",
+         Plan(3, 1), [2, TOP[3] + 1, 3], [0, 1], 2),
     lent(11, "11 and 13: column one place short, mark 1 on row 0", TWO, FOUR, [1, 0, 0, 0], 3),
     lent(11, "11 and 13: 3 marks, one of them 2", TWO, FOUR, [0, 2, 0]),
     lent(11, "11 and 13: 3 readings, mark 2", TWO, [3, 5, 4], [0, 2, 0, 0], 4),
-    lent(12, "12 and 13: the last reading 100,001, mark 1 on row 0", TWO, [3, 5, 4, 100001], [1, 0, 0, 0]),
+    lent(12, "12 and 13: the last reading beyond the limit, mark 1 on row 0", TWO, [3, 5, 4, TOP[2] + 1], [1, 0, 0, 0]),
     lent(12, "12 and 13: three levels, the least i32, mark 2", Plan(3, 1), [LOW, 5, 3], [0, 2]),
 ]
 
-CASES = ACCEPTED + REFUSAL_1 + TABLE_REFUSALS + REFUSED + TWO_REFUSALS
+
+# ---- one reading about the limits, others small ----
+
+def about_limits(number, where, plan, size):
+    """Sheets with a reading of a size, either way, in the first, a middle and the last run; where says how it lies to the
+    limit."""
+    readings = list(range(totals_rules.run_count(plan.levels, plan.k)))
+    return [lent(number, "%s, k = %d, %s %s" % (LEVELS_NAMED[plan.levels], plan.k, name, where % limit), plan, own)
+            for name, limit, own in about_limit(readings, size)]
+
+
+def about_own_limit(plan):
+    """Readings at the limit, and one beyond it."""
+    top = TOP[plan.levels]
+    return about_limits(DONE, "at the %s", plan, top) + about_limits(12, "one beyond the %s", plan, top + 1)
+
+
+ABOUT_LIMITS = (about_own_limit(THREE) + about_own_limit(Plan(3, 2))
+                + about_limits(DONE, "at the %s of three levels", THREE, TOP[3])
+                + about_limits(DONE, "one beyond the %s of three levels", THREE, TOP[3] + 1)
+                + about_limits(12, "one within the %s of two levels", Plan(3, 2), TOP[2] - 1)
+                + about_limits(12, "at the %s of two levels", Plan(3, 2), TOP[2]))
+
+CASES = ACCEPTED + REFUSAL_1 + TABLE_REFUSALS + REFUSED + TWO_REFUSALS + ABOUT_LIMITS
 
 
 # ---- sheets that are made ----
 
 SEED = 3950
 MADE_COUNT = 600
-LIMITS = (-100000, 100000) + SPREAD
+LIMITS = {levels: (-top, top) + many_sizes(levels) for levels, top in TOP.items()}
 
 
 class Numbers:
@@ -302,7 +335,8 @@ def made_plan(numbers):
 def made_contents(numbers):
     """A plan, readings and marks that are accepted."""
     plan = made_plan(numbers)
-    readings = [numbers.choose(LIMITS) if numbers.below(3) == 0 else numbers.below(200001) - 100000
+    top, limits = TOP[plan.levels], LIMITS[plan.levels]
+    readings = [numbers.choose(limits) if numbers.below(3) == 0 else numbers.below(2 * top + 1) - top
                 for _ in range(totals_rules.run_count(plan.levels, plan.k))]
     kinds = table_rules.row_kinds(plan, [0] * table_rules.row_count(plan.k))
     return sheet_bytes.Contents(plan, readings, bytes(numbers.below(2) if kind == table_rules.KEPT else 0 for kind in kinds))
@@ -435,13 +469,50 @@ def made(numbers):
 
 NUMBERS = Numbers(SEED)
 MADE = [made(NUMBERS) for _ in range(MADE_COUNT)]
-SHEETS = CASES + MADE
+
+
+# ---- sheets that are made, with readings near the limits ----
+
+NEAR_SEED = 1955
+NEAR_COUNT = 300
+
+# Levels and factors, each as often as it is here; and the limits of both level counts and their neighbours, either way.
+NEAR_SIZES = [(2, 1), (2, 2), (2, 3), (3, 1), (3, 2)] * 3 + [(2, 4), (3, 3)]
+NEAR_READINGS = [sign * (top + more) for top in TOP.values() for more in (-1, 0, 1) for sign in (1, -1)]
+
+
+def near_contents(numbers):
+    """Plan, readings and marks, with readings near the limits; and their number, which is 12 half of the time: then one or
+    two readings are beyond the limit, and no other is."""
+    levels, k = numbers.choose(NEAR_SIZES)
+    runs, number = totals_rules.run_count(levels, k), numbers.choose((DONE, 12))
+    beyond = [reading for reading in NEAR_READINGS if abs(reading) > TOP[levels]]
+    within = [reading for reading in NEAR_READINGS if abs(reading) <= TOP[levels]]
+    readings = [numbers.choose(within) for _ in range(runs)]
+    for _ in range(1 + numbers.below(2) if number else 0):
+        readings[numbers.below(runs)] = numbers.choose(beyond)
+    marks = bytes(row and numbers.below(2) for row in range(table_rules.row_count(k)))
+    return sheet_bytes.Contents(Plan(levels, k), readings, marks), number
+
+
+def near(numbers):
+    """A sheet whose readings are near the limits; a column without room for them comes before these."""
+    contents, number = near_contents(numbers)
+    runs = len(contents.readings)
+    room = made_room(numbers, runs)
+    return Case(number if room >= runs else 11, "%s, near the limits" % LEVELS_NAMED[contents.plan.levels],
+                sheet_bytes.write(*contents), room, None if number else contents)
+
+
+NEAR_NUMBERS = Numbers(NEAR_SEED)
+NEAR = [near(NEAR_NUMBERS) for _ in range(NEAR_COUNT)]
+SHEETS = CASES + MADE + NEAR
 
 
 # ---- checks ----
 
 def check_case(own):
-    """Complaints about a sheet with a name: the number that is listed, and marks as the number without the column says."""
+    """Complaints about a sheet whose number is listed: that number, and marks as the number without the column says."""
     complaints = []
     number = sheet_bytes.read(own.sheet, own.room).refused
     if number != own.number:
@@ -469,7 +540,8 @@ def check_longest():
 
 
 def check_undamaged(own):
-    """Complaints about a sheet that is made and not damaged: it is read as what it was made from, if the column has room."""
+    """Complaints about a sheet that is made and nothing of it refused: it is read as what it was made from, if the column
+    has room."""
     plan, readings, marks = own.contents
     fits = own.room >= len(readings)
     meant = sheet_bytes.Sheet(DONE, plan, readings) if fits else sheet_bytes.Sheet(11, sheet_bytes.NO_PLAN, [])
@@ -490,10 +562,24 @@ def check_spread():
                          if not sizes[size]]
 
 
+def check_near(cases):
+    """Complaints about how often numbers and readings occur among sheets near the limits: at either level count many are
+    accepted and many refused with 12, and every reading that is near a limit occurs."""
+    complaints = []
+    held = [(own.number, sheet_bytes.contents_of(sheet_bytes.fields_of(own.sheet))) for own in cases]
+    for levels, name in LEVELS_NAMED.items():
+        numbers = Counter(number for number, contents in held if contents.plan.levels == levels)
+        complaints += ["%s, near the limits: answer %d %d times" % (name, number, numbers[number])
+                       for number in (DONE, 12) if numbers[number] < NEAR_COUNT / 8]
+        readings = {own for _, contents in held if contents.plan.levels == levels for own in contents.readings}
+        complaints += ["%s, near the limits: no reading %d" % (name, own) for own in NEAR_READINGS if own not in readings]
+    return complaints
+
+
 def check():
     """List of all complaints about the sheets."""
-    complaints = check_longest() + check_spread()
-    for own in CASES:
+    complaints = check_longest() + check_spread() + check_near(NEAR)
+    for own in CASES + NEAR:
         complaints += check_case(own)
     for own in SHEETS:
         complaints += check_table(own) + (check_undamaged(own) if own.contents else [])

@@ -1,5 +1,6 @@
 # Sheets for the program factab, and the text that it must print for each: sheets with a name, whose numbers are listed
-# here, and 400 that are made by numbers from a fixed seed. rules/text.py makes the texts.
+# here; 400 that are made by numbers from a fixed seed; and 300 that are made so with readings near the limits, as in
+# sheet_cases.py. rules/text.py makes the texts.
 #
 # The program worked_texts reads records, one for each sheet in this order: length, two bytes and big-endian, then so
 # many bytes of a sheet. It writes for each record the text of its sheet, and nothing between these texts.
@@ -17,6 +18,7 @@
 #   plan_with, made_plan, made_readings, made_marks, made_contents   lawful plans, readings and marks
 #   SPOILS, spoiled         ways to spoil these, by refusal, and what is spoiled in one to three of them
 #   made, MADE              a sheet that is made, of one of some sizes of plans; the 400 of them
+#   near, NEAR              a sheet that is made with readings near the limits; the 300 of them
 #   Printed, printed        the figures of a text, as they are printed
 #   check                   list of complaints, empty if all is well
 #   expected_text           the expected text
@@ -32,6 +34,7 @@ from os.path import abspath, dirname
 sys.path.insert(0, dirname(dirname(dirname(abspath(__file__)))))
 
 from reference.cases import sheet_cases
+from reference.cases.answers import LEVELS_NAMED
 from reference.published import analyses
 from reference.rules import sheet_bytes
 from reference.rules import table as table_rules
@@ -45,7 +48,7 @@ from reference.rules.totals import DONE, Plan
 # is another number, because the sheet is too long.
 Case = namedtuple("Case", "number name sheet table alone", defaults=(None, None))
 
-MOST_INPUT, MOST_TEXT = 150_000, 450_000
+MOST_INPUT, MOST_TEXT = 180_000, 450_000
 TOP = totals_rules.MOST_READING
 
 SIZES = [(levels, k) for levels, most in totals_rules.MOST_FACTORS.items() for k in range(1, most + 1)]
@@ -100,7 +103,7 @@ def alternating(plan, first):
 def of_size(levels, k):
     """A sheet of so many levels and factors, with readings spread out and every third row marked."""
     plan = Plan(levels, k)
-    readings = sheet_cases.spread(totals_rules.run_count(levels, k))
+    readings = sheet_cases.spread(levels, totals_rules.run_count(levels, k))
     return lawful("%d levels, %d factors, spread" % (levels, k), plan, readings, sheet_cases.every_third(plan))
 
 
@@ -124,18 +127,18 @@ LAWFUL = [
     lawful("three levels, row A 0", Plan(3, 2), [1, 1, 1, 2, 2, 2, 5, 5, 5], no_marks(Plan(3, 2))),
     lawful("mean 0, check numbers below 0", TWO, [-3, 1, 1, 1], no_marks(TWO)),
     lawful("first reading 0, check numbers 0", TWO, [0, 5, -4, 8], no_marks(TWO)),
-    lawful("marks on all rows, one factor", ONE, [-100000, 100000], all_marks(ONE)),
+    lawful("marks on all rows, one factor", ONE, [-TOP[2], TOP[2]], all_marks(ONE)),
     lawful("marks on all rows, blocks AD, ABC, BCD", IN_BLOCKS, range(16), all_marks(IN_BLOCKS)),
-    lawful("marks on all rows, three levels", Plan(3, 3), sheet_cases.spread(27), all_marks(Plan(3, 3))),
+    lawful("marks on all rows, three levels", Plan(3, 3), sheet_cases.spread(3, 27), all_marks(Plan(3, 3))),
     lawful("no kept row: k = 2, block word AB, marks on A and B", Plan(2, 2, (), (3,)), FOUR, [0, 1, 1, 0]),
-    lawful("eight factors, the first reading -100000, others 0", EIGHT_FACTORS, one_reading(EIGHT_FACTORS, 0, -TOP),
-           no_marks(EIGHT_FACTORS)),
-    lawful("the longest sheet, alternating from -100000, marks on all rows",
-           LONGEST, alternating(LONGEST, -TOP), all_marks(LONGEST)),
-    lawful("six factors at three levels, alternating from -100000, marks on all rows",
-           SIX, alternating(SIX, -TOP), all_marks(SIX)),
-    lawful("six factors at three levels, the last reading -100000, others 0",
-           SIX, one_reading(SIX, 728, -TOP), no_marks(SIX)),
+    lawful("eight factors, the first reading at the lower limit, others 0",
+           EIGHT_FACTORS, one_reading(EIGHT_FACTORS, 0, -TOP[2]), no_marks(EIGHT_FACTORS)),
+    lawful("the longest sheet, alternating from the lower limit, marks on all rows",
+           LONGEST, alternating(LONGEST, -TOP[2]), all_marks(LONGEST)),
+    lawful("six factors at three levels, alternating from the lower limit, marks on all rows",
+           SIX, alternating(SIX, -TOP[3]), all_marks(SIX)),
+    lawful("six factors at three levels, the last reading at the lower limit, others 0",
+           SIX, one_reading(SIX, 728, -TOP[3]), no_marks(SIX)),
 ]
 
 
@@ -165,7 +168,7 @@ SMALL = [
     small(7, "AB, AB, with k = 3", Plan(2, 3, (), (AB, AB)), EIGHT),
     small(8, "AB, ABC, with k = 3", Plan(2, 3, (), (AB, ABC)), EIGHT),
     small(11, "k = 2, 3 readings", TWO, [3, 5, 4]),
-    small(12, "reading 100,001", TWO, [3, 5, 4, 100001]),
+    small(12, "three levels, a reading one beyond the limit", Plan(3, 1), [2, 5, TOP[3] + 1]),
     small(13, "mark 1 on row 0", TWO, FOUR, [1, 0, 0, 0]),
 ]
 
@@ -183,10 +186,10 @@ TAKEN = [Case(own.number, own.why, own.sheet) for own in sheet_cases.CASES if ta
 
 # ---- sheets with a name: 5,187 bytes and more ----
 
-SPREAD = sheet_cases.spread(1024)
+SPREAD = sheet_cases.spread(2, 1024)
 NO_MARKS, TOO_MANY_MARKS = [0] * 1024, [0] * 1025
 FITTING = [
-    refused(12, "5,187 bytes, the last reading 100,001", LONGEST, SPREAD[:1023] + [100001]),
+    refused(12, "5,187 bytes, the last reading one beyond the limit", LONGEST, SPREAD[:1023] + [TOP[2] + 1]),
     refused(13, "5,187 bytes, mark 1 on the last row, which is blocks", LONGEST, SPREAD, [0] * 1023 + [1]),
 ]
 
@@ -239,15 +242,15 @@ def made_plan(numbers, levels, k):
             return plan
 
 
-def made_readings(numbers, count):
+def made_readings(numbers, levels, count):
     """So many readings: any, of one size, at the limits, all equal, or one that is not 0."""
-    way = numbers.below(8)
+    way, top, limits = numbers.below(8), TOP[levels], sheet_cases.LIMITS[levels]
     if way < 4:
-        most = numbers.choose((9, 999, TOP))
+        most = numbers.choose((9, 999, top))
         return [numbers.below(2 * most + 1) - most for _ in range(count)]
     if way < 6:
-        return [numbers.choose((-TOP, TOP) if way == 4 else sheet_cases.LIMITS) for _ in range(count)]
-    reading, place = numbers.choose(sheet_cases.LIMITS), numbers.below(count)
+        return [numbers.choose((-top, top) if way == 4 else limits) for _ in range(count)]
+    reading, place = numbers.choose(limits), numbers.below(count)
     return [reading if way == 6 or run == place else 0 for run in range(count)]
 
 
@@ -261,7 +264,7 @@ def made_contents(numbers, sizes):
     """Plan, readings and marks that are lawful, of one of some sizes."""
     levels, k = numbers.choose(sizes)
     plan = made_plan(numbers, levels, k)
-    return Contents(plan, made_readings(numbers, totals_rules.run_count(levels, k)), made_marks(numbers, plan))
+    return Contents(plan, made_readings(numbers, levels, totals_rules.run_count(levels, k)), made_marks(numbers, plan))
 
 
 # ---- sheets that are made: spoiled ----
@@ -356,9 +359,9 @@ def spoil_lengths(numbers, contents):
 
 
 def spoil_reading(numbers, contents):
-    """A reading beyond 100,000 either way."""
-    readings = list(contents.readings)
-    size = numbers.choose((TOP + 1, TOP + 1, TOP + 1 + numbers.below(TOP), sheet_cases.HIGH))
+    """A reading beyond the limit either way."""
+    readings, top = list(contents.readings), TOP[contents.plan.levels]
+    size = numbers.choose((top + 1, top + 1, top + 1 + numbers.below(top), sheet_cases.HIGH))
     readings[numbers.below(len(readings))] = numbers.choose((size, -size, sheet_cases.LOW))
     return contents._replace(readings=readings)
 
@@ -428,7 +431,19 @@ def made(numbers, sizes):
 
 NUMBERS = sheet_cases.Numbers(SEED)
 MADE = [made(NUMBERS, FEW_RUNS) for _ in range(MADE_COUNT)]
-SHEETS = CASES + MADE
+
+NEAR_SEED = 1937
+
+
+def near(numbers):
+    """A sheet that is made with readings near the limits."""
+    contents, number = sheet_cases.near_contents(numbers)
+    return Case(number, "%s, near the limits" % LEVELS_NAMED[contents.plan.levels], sheet_bytes.write(*contents))
+
+
+NEAR_NUMBERS = sheet_cases.Numbers(NEAR_SEED)
+NEAR = [near(NEAR_NUMBERS) for _ in range(sheet_cases.NEAR_COUNT)]
+SHEETS = CASES + MADE + NEAR
 
 
 # ---- the figures of a text ----
@@ -489,7 +504,7 @@ def check_coefficients(levels, k):
 def check_totals(levels, k):
     """The totals of readings that are spread out are those of rules/totals.py; of large plans a few are compared."""
     count = totals_rules.run_count(levels, k)
-    readings = sheet_cases.spread(count)
+    readings = sheet_cases.spread(levels, count)
     found = text_rules.totals(levels, k, readings)
     compared = range(count) if count <= 32 else (0, 1, count // 3, count - 2, count - 1)
     wrong = [effect for effect in compared if found[effect] != totals_rules.total(levels, k, readings, effect)]
@@ -604,7 +619,7 @@ def check_small():
 
 def check():
     """List of all complaints about coefficients, totals, sheets and their texts."""
-    complaints = check_texts() + check_small() + check_spread()
+    complaints = check_texts() + check_small() + check_spread() + sheet_cases.check_near(NEAR)
     for levels, k in SIZES:
         complaints += check_coefficients(levels, k) + check_totals(levels, k)
     for own in SHEETS:

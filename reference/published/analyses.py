@@ -48,8 +48,6 @@ Off = namedtuple("Off", "title where measure place units cause")
 EXACT = 0
 LACKING, NOT_PRINTED = examples.LACKING, examples.NOT_PRINTED
 
-MOST_NUMERATOR = 340_122_240_000_000_000
-
 
 def mended(figure):
     """A figure as printed and as meant; the same where it has no mend."""
@@ -314,14 +312,14 @@ RULES_BLOCKS = worked(examples.RULES_BLOCKS, "", [
     Printed("Reference runs, number of blocks rows", "degrees", "blocks", "1", EXACT),
 ])
 
-RULES_LIMITS = worked(examples.RULES_LIMITS, "A", [
+RULES_ONE_FACTOR = worked(examples.RULES_ONE_FACTOR, "A", [
     Printed("Reference runs", "effect total", "rows", "0 -200000", EXACT),
 ])
 
 
 # ---- extreme readings ----
 
-TOP = totals_rules.MOST_READING
+TOP, MOST_NUMERATOR = totals_rules.MOST_READING, totals_rules.MOST_NUMERATOR
 
 
 def by_signs(plan, effect, top, at_zero):
@@ -332,12 +330,13 @@ def by_signs(plan, effect, top, at_zero):
 
 
 def by_spreading(plan):
-    """Numbers less 100000: the first is 0, and each next is the one before times 9973 plus 12345, modulo 200001. No total
-    is 0."""
+    """Numbers less the limit: the first is 0, and each next is the one before times 9973 plus 12345, modulo twice the limit
+    plus 1. No total is 0."""
+    top = TOP[plan.levels]
     readings, number = [], 0
     for _ in range(totals_rules.run_count(plan.levels, plan.k)):
-        readings.append(number - TOP)
-        number = (number * 9973 + 12345) % 200001
+        readings.append(number - top)
+        number = (number * 9973 + 12345) % (2 * top + 1)
     return readings
 
 
@@ -355,37 +354,40 @@ SIX, TEN, TEN_BLOCKED = Plan(3, 6), Plan(2, 10), Plan(2, 10, (), FOUR_BLOCKS)
 ALL_TEN = "ABCDEFGHIJ"
 TEN_ADDED = Plan(2, 10, SIX_ADDED, FOUR_BLOCKS)
 EXTREMES = [
-    extreme("ten factors, all 100000", TEN, by_signs(TEN, 0, TOP, 0), "A AB " + ALL_TEN),
-    extreme("ten factors in 16 blocks, all -100000", TEN_BLOCKED, by_signs(TEN_BLOCKED, 0, -TOP, 0), "A B ABD"),
-    extreme("ten factors, signs of effect 1023", TEN, by_signs(TEN, 1023, TOP, 0), "J " + ALL_TEN),
-    extreme("ten factors in 16 blocks, signs of effect 1023", TEN_BLOCKED, by_signs(TEN_BLOCKED, 1023, TOP, 0), "A J"),
-    extreme("ten factors, signs of effect 1", TEN, by_signs(TEN, 1, TOP, 0), "B BCDEFGHIJ"),
+    extreme("ten factors, all at the upper limit", TEN, by_signs(TEN, 0, TOP[2], 0), "A AB " + ALL_TEN),
+    extreme("ten factors in 16 blocks, all at the lower limit", TEN_BLOCKED, by_signs(TEN_BLOCKED, 0, -TOP[2], 0),
+            "A B ABD"),
+    extreme("ten factors, signs of effect 1023", TEN, by_signs(TEN, 1023, TOP[2], 0), "J " + ALL_TEN),
+    extreme("ten factors in 16 blocks, signs of effect 1023", TEN_BLOCKED, by_signs(TEN_BLOCKED, 1023, TOP[2], 0), "A J"),
+    extreme("ten factors, signs of effect 1", TEN, by_signs(TEN, 1, TOP[2], 0), "B BCDEFGHIJ"),
     extreme("ten factors in 16 blocks, six added, spread out", TEN_ADDED, by_spreading(TEN_ADDED),
             "A BD ABCDEFGHI BCDEFGHIJ"),
-    extreme("six factors at three levels, all 100000", SIX, by_signs(SIX, 0, TOP, 0), "A ABCDEF"),
-    extreme("six factors at three levels, all -100000", SIX, by_signs(SIX, 0, -TOP, 0), "F"),
-    extreme("six factors at three levels, signs of effect 728", SIX, by_signs(SIX, 728, TOP, 0), "ABCDE ABCDEF"),
-    extreme("six factors at three levels, signs of effect 364, 0 at 0", SIX, by_signs(SIX, 364, TOP, 0), "A ABCDEF"),
-    extreme("six factors at three levels, signs of effect 1, 100000 at 0", SIX, by_signs(SIX, 1, TOP, TOP), "A F"),
+    extreme("six factors at three levels, all at the upper limit", SIX, by_signs(SIX, 0, TOP[3], 0), "A ABCDEF"),
+    extreme("six factors at three levels, all at the lower limit", SIX, by_signs(SIX, 0, -TOP[3], 0), "F"),
+    extreme("six factors at three levels, signs of effect 728", SIX, by_signs(SIX, 728, TOP[3], 0), "ABCDE ABCDEF"),
+    extreme("six factors at three levels, signs of effect 364, 0 at 0", SIX, by_signs(SIX, 364, TOP[3], 0), "A ABCDEF"),
+    extreme("six factors at three levels, signs of effect 1, the limit at 0", SIX, by_signs(SIX, 1, TOP[3], TOP[3]), "A F"),
     extreme("six factors at three levels, spread out", SIX, by_spreading(SIX), "AF BCDE ABCDEF"),
 ]
 
-# Numerators of the extreme tables that are known without adding up: every row but these is 0. With the signs of effect 728
-# each factor gives 1 and 4 as its sum and third combination, so 1 * 1 * 2 without its letter and 4 * 4 with it.
+# Numerators of the extreme tables that are known without adding up: every row but these is 0. Where every reading is at the
+# limit, the total is the most that the rules have. With the signs of effect 728 each factor gives 1 and 4 as its sum and
+# third combination, so 1 * 1 * 2 without its letter and 4 * 4 with it; with those of effect 364 all but 64 of 729 readings
+# are 0; and with those of effect 1 the readings' mean is a third of the limit, so that the mean has a ninth of the total.
 KNOWN = {
-    "ten factors, all 100000": {"mean": 10_485_760_000_000_000},
-    "ten factors in 16 blocks, all -100000": {"mean": 10_485_760_000_000_000},
-    "ten factors, signs of effect 1023": {ALL_TEN: 10_485_760_000_000_000},
-    "ten factors in 16 blocks, signs of effect 1023": {ALL_TEN: 10_485_760_000_000_000},
-    "ten factors, signs of effect 1": {"A": 10_485_760_000_000_000},
-    "six factors at three levels, all 100000": {"mean": MOST_NUMERATOR},
-    "six factors at three levels, all -100000": {"mean": MOST_NUMERATOR},
+    "ten factors, all at the upper limit": {"mean": MOST_NUMERATOR[2]},
+    "ten factors in 16 blocks, all at the lower limit": {"mean": MOST_NUMERATOR[2]},
+    "ten factors, signs of effect 1023": {ALL_TEN: MOST_NUMERATOR[2]},
+    "ten factors in 16 blocks, signs of effect 1023": {ALL_TEN: MOST_NUMERATOR[2]},
+    "ten factors, signs of effect 1": {"A": MOST_NUMERATOR[2]},
+    "six factors at three levels, all at the upper limit": {"mean": MOST_NUMERATOR[3]},
+    "six factors at three levels, all at the lower limit": {"mean": MOST_NUMERATOR[3]},
     "six factors at three levels, signs of effect 728":
-        {table_rules.row_label(row): 16 ** letters * 2 ** (6 - letters) * 10 ** 10
+        {table_rules.row_label(row): 16 ** letters * 2 ** (6 - letters) * TOP[3] ** 2
          for row in range(64) for letters in [totals_rules.letter_count(row)]},
-    "six factors at three levels, signs of effect 364, 0 at 0": {"ABCDEF": 29_859_840_000_000_000},
-    "six factors at three levels, signs of effect 1, 100000 at 0":
-        {"mean": 37_791_360_000_000_000, "A": 302_330_880_000_000_000},
+    "six factors at three levels, signs of effect 364, 0 at 0": {"ABCDEF": MOST_NUMERATOR[3] * 64 // 729},
+    "six factors at three levels, signs of effect 1, the limit at 0":
+        {"mean": MOST_NUMERATOR[3] // 9, "A": MOST_NUMERATOR[3] * 8 // 9},
 }
 
 
@@ -395,7 +397,7 @@ TABLES = (
     + [DANIEL_CEMENT_FOUR, DANIEL_CEMENT_TWO, DANIEL_DRILL, DANIEL_MANGOLDS, DANIEL_HALF]
     + [REPORT_THREE_LEVELS, YATES_TWO_OF_THREE, YATES_FIRST_REPLICATION, YATES_BOTH_REPLICATIONS, YATES_HAY]
     + [DANIEL_LETTUCE, DANIEL_AIR]
-    + [RULES_TWO_FACTORS, RULES_THREE_LEVELS, RULES_BLOCKS, RULES_LIMITS]
+    + [RULES_TWO_FACTORS, RULES_THREE_LEVELS, RULES_BLOCKS, RULES_ONE_FACTOR]
     + EXTREMES
 )
 
@@ -705,6 +707,13 @@ def spot_effects(own):
     return range(count) if count <= 81 else (0, 1, 2, 364, 511, count - 1)
 
 
+def beyond_limits(own, table):
+    """Whether a numerator or a sum of numerators is beyond its limit, or a total beyond that of a value of a pass."""
+    parts = table.rows + [table.mean, table.kept, table.blocks, table.error, table.total]
+    return (any(part.numerator > MOST_NUMERATOR[own.plan.levels] for part in parts)
+            or totals_rules.beyond(table.totals, totals_rules.MOST_VALUE))
+
+
 def check_table(own, table):
     """Complaints of the rules about one table."""
     levels, k = own.plan.levels, own.plan.k
@@ -719,7 +728,7 @@ def check_table(own, table):
         complaints.append("mean, kept, blocks and error do not add up to the total")
     if table.sum_of_totals != table.check_number:
         complaints.append("check numbers")
-    if table.total.numerator > MOST_NUMERATOR or any(abs(total) > totals_rules.MOST_VALUE for total in table.totals):
+    if beyond_limits(own, table):
         complaints.append("beyond the limits")
     if table.error.degrees != sum(table_rules.row_degrees(levels, row) for row in own.marked):
         complaints.append("degrees of error")

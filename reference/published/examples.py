@@ -394,7 +394,7 @@ RULES_BLOCKS = worked("rules, 1 to 8", "rules", "Reference runs", 2, 3, "1 2 3 4
     Printed("totals", 3, "36 -4 -8 0 -16 0 0 0"),
 ], blocks=(0b111,))
 
-RULES_LIMITS = worked("rules, limits", "rules", "Reference runs", 2, 1, "-100000 100000", [
+RULES_ONE_FACTOR = worked("rules, one factor", "rules", "Reference runs", 2, 1, "-100000 100000", [
     Printed("readings", 0, "-100000 100000"),
     Printed("totals", 1, "0 -200000"),
 ])
@@ -405,7 +405,7 @@ EXAMPLES = (
     + YATES_TABLE_38
     + [DANIEL_SAMPLE, DANIEL_CEMENT, DANIEL_DRILL, DANIEL_MANGOLDS, DANIEL_QUARTER]
     + [REPORT_THREE_LEVELS, YATES_TWO_OF_THREE, YATES_FIRST_REPLICATION, YATES_BOTH_REPLICATIONS]
-    + [RULES_TWO_FACTORS, RULES_THREE_LEVELS, RULES_BLOCKS, RULES_LIMITS]
+    + [RULES_TWO_FACTORS, RULES_THREE_LEVELS, RULES_BLOCKS, RULES_ONE_FACTOR]
 )
 
 
@@ -704,11 +704,32 @@ def example_lines(number, example):
     return lines
 
 
+def after(answer, made, kept):
+    """What an answer and the column at exit look like: the one made, or the one kept where the call is refused."""
+    return " answer %d:%s" % (answer, values_text(kept if answer else made))
+
+
+def limit_lines(levels, place, value):
+    """Step and pass of one factor, over a column with the value at one place and 0 elsewhere."""
+    column = [value if own == place else 0 for own in range(levels)]
+    zeros = [0] * levels
+    made = totals_rules.step(levels, column)
+    one_factor = totals_rules.Plan(levels, 1)
+    return ["levels %d, place %d, value %d" % (levels, place, value),
+            "step" + after(totals_rules.step_answer(one_factor, column, zeros), made, zeros),
+            "pass" + after(totals_rules.pass_answer(one_factor, 0, column), made, column)]
+
+
 def expected_text():
     """What the program that works the examples must write."""
     lines = []
     for number, example in enumerate(EXAMPLES, 1):
         lines += example_lines(number, example)
+    most = totals_rules.MOST_VALUE
+    for levels in (2, 3):
+        for place in range(levels):
+            for value in (most, most + 1, -most, -most - 1):
+                lines += limit_lines(levels, place, value)
     return "".join(line + "\n" for line in lines)
 
 

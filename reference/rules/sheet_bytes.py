@@ -106,7 +106,7 @@ def sheet_answer(sheet, room=None):
         return refused
     if wrong_counts(contents, room):
         return 11
-    if totals_rules.beyond(contents.readings, totals_rules.MOST_READING):
+    if totals_rules.beyond(contents.readings, totals_rules.MOST_READING[contents.plan.levels]):
         return 12
     return 13 if table_rules.bad_mark(contents.plan, contents.marks) else totals_rules.DONE
 

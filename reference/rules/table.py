@@ -130,7 +130,7 @@ def table_answer(plan, readings, marks, totals_length, rows_length):
         return refused
     if wrong_lengths(plan, readings, marks, totals_length, rows_length):
         return 11
-    if totals_rules.beyond(readings, totals_rules.MOST_READING):
+    if totals_rules.beyond(readings, totals_rules.MOST_READING[plan.levels]):
         return 12
     return 13 if bad_mark(plan, marks) else totals_rules.DONE
 
@@ -161,7 +161,7 @@ def estimate_answer(plan, effect, total):
         return 9
     if effect >> plan.k:
         return 10
-    return 12 if abs(total) > 2 ** plan.k * totals_rules.MOST_READING else totals_rules.DONE
+    return 12 if abs(total) > totals_rules.most_total(plan) else totals_rules.DONE
 
 
 def exact_double(quotient):

@@ -13,6 +13,8 @@
 # Defined here:
 #   Plan                                  a plan as a caller hands it in
 #   COEFFICIENTS, DIVISORS                coefficient rows and divisors of one factor, by levels
+#   MOST_READING, MOST_VALUE, MOST_NUMERATOR   the limits of readings, of values of a pass or step, and of numerators
+#   most_total                            the limit of the total that the estimate is given
 #   run_count, digits                     N, and the digits of a run or effect number
 #   coefficient, total, totals            totals by the definition
 #   step, steps                           the report's own step, and the columns after 1 to k of them
@@ -23,7 +25,8 @@
 #   high_letters                          the letters of all factors, base and added, that are high in a run
 #   alias                                 the base word of an effect of all factors, and whether its sign turns
 #   plan_answer                           the plan check: 0, or the lowest of 2 to 8 that applies
-#   pass_answer, totals_answer            the answers of these calls: 0, or the lowest number that applies
+#   pass_answer, step_answer, totals_answer
+#                                         the answers of these calls: 0, or the lowest number that applies
 #   alias_answer                          the same: 0, or the lowest of 2 to 8, 9, 10 that applies
 
 from collections import namedtuple
@@ -41,10 +44,21 @@ DIVISORS = {2: (2, 2), 3: (3, 2, 6)}
 MOST_FACTORS = {2: 10, 3: 6}
 MOST_ADDED = 6
 MOST_BLOCK_WORDS = 4
-MOST_READING = 100_000
-MOST_VALUE = 409_600_000
+
+# The limits, the first and the last by levels; most_total makes one more from the first.
+#   MOST_READING     a reading, either way
+#   MOST_VALUE       a value of the column that a pass or step is given, either way, at either level count
+#   MOST_NUMERATOR   a numerator, and any sum of numerators of one table
+MOST_READING = {2: 1_000_000, 3: 100_000}
+MOST_VALUE = 1_024_000_000
+MOST_NUMERATOR = {2: 1_048_576_000_000_000_000, 3: 340_122_240_000_000_000}
 
 DONE = 0
+
+
+def most_total(plan):
+    """The limit, either way, of the total that the estimate is given: 2 to the power k times that of a reading."""
+    return 2 ** plan.k * MOST_READING[plan.levels]
 
 
 # ---- runs and effects ----
@@ -244,19 +258,24 @@ def pass_answer(plan, factor, column):
     return 12 if beyond(column, MOST_VALUE) else DONE
 
 
-def columns_answer(plan, read, written, limit):
-    """A call that reads one column and writes another: 2 to 8, 11, 12, or 0."""
+def step_answer(plan, column, next_column):
+    """The step from one column to another: 2 to 8, 11, 12, or 0."""
     refused = plan_answer(plan)
     if refused:
         return refused
-    if wrong_length(plan, [read, written]):
+    if wrong_length(plan, [column, next_column]):
         return 11
-    return 12 if beyond(read, limit) else DONE
+    return 12 if beyond(column, MOST_VALUE) else DONE
 
 
 def totals_answer(plan, readings, column):
-    """The totals of the readings, written to a column."""
-    return columns_answer(plan, readings, column, MOST_READING)
+    """The totals of the readings, written to a column: 2 to 8, 11, 12, or 0."""
+    refused = plan_answer(plan)
+    if refused:
+        return refused
+    if wrong_length(plan, [readings, column]):
+        return 11
+    return 12 if beyond(readings, MOST_READING[plan.levels]) else DONE
 
 
 def alias_answer(plan, effect):

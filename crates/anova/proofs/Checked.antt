@@ -6,7 +6,7 @@
 use mathlib.Core.Path.{_≡_, refl, sym, _∙_}
 use mathlib.Core.List.{List}
 use Prim.Native.Nat.{ℕ, _*_, _^_, _<_}
-use native.Mathlib.Nat.{mul-le-mul, one-le-pow}
+use native.Mathlib.Nat.{le-trans, mul-le-mul, one-le-pow}
 use native.Mathlib.Omega.{arith}
 use borrow.Author.Tests.{eq-eqb}
 use lib.Dec.{lit<}
@@ -18,7 +18,7 @@ use mir.Val.{SFits, toZ, ofZ}
 use Rattle.algebra.specs.Laws.Size.{natAbs-*ℤ}
 use Rattle.algebra.specs.Laws.Machine.{fits, wrap, back, widened}
 use Rattle.contrasts.specs.Columns.{read}
-use Rattle.contrasts.specs.Limits.{readingLimit}
+use Rattle.contrasts.specs.Limits.{valueLimit}
 use Rattle.contrasts.specs.Factors.{three, ofLevels}
 use Rattle.contrasts.specs.Checks.{rounds}
 use Rattle.contrasts.specs.Laws.Levels.{some-levels, the-three, as-two, as-three}
@@ -27,8 +27,8 @@ use Rattle.columns.specs.Copies.{copied}
 use Rattle.anova.specs.Inner.Ready.{Rounds, Checkable}
 
 -- the one fact on the limit
-largest : 1024 * readingLimit < 2 ^ 63
-unfolding readingLimit
+largest : 1024 * valueLimit < 2 ^ 63
+unfolding valueLimit
 largest = lit< tt
 
 module _ {levels k : ℕ} {readings column : List ℤ} (pre : Checkable levels k readings column) where
@@ -46,7 +46,7 @@ module _ {levels k : ℕ} {readings column : List ℤ} (pre : Checkable levels k
     small : natAbs (pos (length readings) *ℤ read readings 0) < 2 ^ 63
     small =
         rw (natAbs-*ℤ (pos (length readings)) (read readings 0))
-        (omega (arith, largest, mul-le-mul (pre .few) (pre .within 0)))
+        (omega (arith, largest, mul-le-mul (pre .few) (le-trans (pre .within 0) (pre .first-roomy))))
 
     pub first-fits : SFits w64 (toZ w64 (length readings) *ℤ wrap (toZ w32 (ofZ w32 (read readings 0))))
     first-fits = rw product (fits (pos (length readings) *ℤ read readings 0) small)
@@ -68,7 +68,7 @@ module _ {levels k : ℕ} {readings column : List ℤ} (pre : Checkable levels k
 
     pub rounds-ready : Rounds k zs
     rounds-ready =
-        rw copy-is (record { most = pre .most l; whole = pre .whole ∙ rw (the-three levels (pre .kind) l) refl; within = pre .within })
+        rw copy-is (record { limit = pre .limit; roomy = pre .rounds-roomy l; whole = pre .whole ∙ rw (the-three levels (pre .kind) l) refl; within = pre .within })
 
     pub rounds-made : {r : ℤ} → r ≡ rounds (replicate k three) (read zs) → r ≡ rounds (replicate k (ofLevels levels)) (read readings)
     rounds-made d = d ∙ rw (copy-is, as-three levels l) refl

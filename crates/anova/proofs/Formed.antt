@@ -31,6 +31,7 @@ use Rattle.plan.specs.declared.types.Plan.{Plan}
 use Rattle.plan.specs.Check.{runCount}
 use Rattle.plan.specs.Plan.{factorsOf, runsOf}
 use Rattle.plan.specs.Laws.Answers.{written-new}
+use Rattle.plan.specs.Laws.Limits.{numerator-fits}
 use Rattle.plan.specs.Laws.Sizes.{run-count, runs-few}
 use Rattle.columns.specs.Laws.Admitted.{admits}
 use Rattle.yates.specs.Calls.{totalsRefused, totalsColumn}
@@ -39,7 +40,7 @@ use Rattle.rows.specs.Kinds.{rowsIn, kindOf, codeOf, kindIn, kindsOf}
 use Rattle.rows.specs.Laws.Kinds.{four-kinds, code-in}
 use Rattle.rows.specs.Laws.Rows.{rows-few}
 use Rattle.anova.specs.declared.walks.Sums.{Sums}
-use Rattle.anova.specs.Laws.Admitted.{rows-power, limit-fits, within-limit, TableReady}
+use Rattle.anova.specs.Laws.Admitted.{rows-power, within-limit, TableReady}
 use Rattle.anova.specs.Inner.Ready.{Walkable}
 use Rattle.anova.specs.Table.{sourceOf, rowsOf}
 use Rattle.anova.specs.Inner.Walk.{walkNumerator, walkRow, walkKind, rowsAfter, numeratorsAfter, degreesAfter, Walked, zeros, sumsOf}
@@ -142,7 +143,7 @@ module _ {p : Plan} {readings : List ℤ} {marks : List ℕ} {totals : List ℤ}
           kinds-long = rw (rows-count, l .kinds-are, length-tab 1024 code) (rows-few p (a .plan));
           four-kinds = λ e h. rw (kind-is (rw long at h)) (four-kinds (kindOf p marks (rowOf (factorsOf p) e)));
           cleared = l .rows-are ∙ ap zeros (a .rows-long ∙ sym rows-count);
-          sum-fits = rw all-numerators (omega (arith, (within-limit a), limit-fits));
+          sum-fits = rw all-numerators (omega (arith, (within-limit a), numerator-fits p));
         }
 
     -- ---- what it leaves

@@ -10,12 +10,12 @@
 use mathlib.Core.Path.{_≡_, refl, sym, _∙_}
 use mathlib.Core.Bool.{cond}
 use mathlib.Core.List.{List}
-use Prim.Native.Nat.{ℕ, _*_, _^_, _<_, _≤_}
-use native.Mathlib.Nat.{mul-le-mul-right, one-mul}
+use Prim.Native.Nat.{ℕ, _-_, _*_, _^_, _<_, _≤_}
+use native.Mathlib.Nat.{mul-le-mul-right, one-mul, pow-le-pow-right}
 use native.Mathlib.Decide.{ℕ-discrete}
 use native.Mathlib.Omega.{arith}
 use borrow.Author.Tests.{eq-eqb, ne-eqb}
-use lib.Dec.{eqb}
+use lib.Dec.{eqb, lit<}
 use lib.IntN.{ℤ}
 use lib.ListN.{length, getD, replicate}
 use Rattle.algebra.specs.Laws.Products.{mul-pow}
@@ -30,10 +30,12 @@ use Rattle.contrasts.specs.Laws.Squares.{check-within}
 use Rattle.contrasts.specs.Laws.ThreeLevels.{denominator-three}
 use Rattle.contrasts.specs.Laws.TwoLevels.{denominator-two}
 use Rattle.plan.specs.declared.types.Plan.{Plan}
+use Rattle.plan.specs.Limits.{readingLimit}
 use Rattle.plan.specs.Plan.{factorsOf, runsOf}
 use Rattle.plan.specs.Laws.Accepted.{accepted}
+use Rattle.plan.specs.Laws.Limits.{limit-three, reading-admitted, numerator-fits}
 use Rattle.plan.specs.Laws.Sizes.{as-power, plan-kind, factors-two, factors-three, runs-few}
-use Rattle.contrasts.specs.Limits.{mostThree}
+use Rattle.contrasts.specs.Limits.{threeReadingLimit, valueLimit, mostThree}
 use Rattle.contrasts.specs.Laws.Levels.{the-three}
 use Rattle.rows.specs.Kinds.{rowsIn, Kind, meanRow, blocksRow, errorRow, keptRow, codeOf, kindIn}
 use Rattle.rows.specs.Laws.Kinds.{four-kinds, kind-in}
@@ -41,21 +43,25 @@ use Rattle.rows.specs.Laws.Rows.{rows-few}
 use Rattle.anova.specs.declared.types.Source.{Source}
 use Rattle.anova.specs.declared.types.Figures.{Figures}
 use Rattle.anova.specs.declared.walks.Sums.{Sums}
-use Rattle.anova.specs.Laws.Admitted.{within-limit, limit-fits, TableReady}
+use Rattle.anova.specs.Laws.Admitted.{within-limit, TableReady}
 use Rattle.anova.specs.Inner.Ready.{SquaresFit, Checkable}
 use Rattle.anova.specs.Table.{sourceOf, totalSource, checksOf, tableFigures}
 use Rattle.anova.specs.Inner.Walk.{squaresOf, sumsOf}
 
-at-most-six : (k : ℕ) → k ≤ mostThree → k ≤ 6
-unfolding mostThree
-at-most-six k h = h
+-- of at most six rounds there are five before the last
+rounds-roomy : (k : ℕ) → k ≤ mostThree → 5 ^ (k - 1) * threeReadingLimit ≤ valueLimit
+unfolding mostThree threeReadingLimit valueLimit
+rounds-roomy k h = let s : 5 ^ (k - 1) ≤ 3_125 = pow-le-pow-right {n = 5} (lit< tt) {i = k - 1} {j = 5} (omega arith) in omega (arith, s)
 
 module _ {p : Plan} {readings : List ℤ} {marks : List ℕ} {totals : List ℤ} {rows : List ℕ} (a : TableReady p readings marks totals rows) where
   pub check-ready : Checkable (p .levels) (p .k) readings totals
   check-ready =
       record {
         kind = plan-kind p (a .plan);
-        most = λ h. at-most-six (p .k) (accepted p (a .plan) .factors .2 (the-three (p .levels) (plan-kind p (a .plan)) h));
+        limit = readingLimit p;
+        first-roomy = reading-admitted p;
+        rounds-roomy = λ h.
+            rw (limit-three p h) (rounds-roomy (p .k) (accepted p (a .plan) .factors .2 (the-three (p .levels) (plan-kind p (a .plan)) h)));
         few = rw (a .whole) (runs-few p (a .plan));
         whole = as-power p (a .plan) (a .whole);
         same = a .same ∙ sym (a .whole);
@@ -95,14 +101,14 @@ module _ {p : Plan} {readings : List ℤ} {marks : List ℕ} {totals : List ℤ}
       omega (arith, one-mul s, mul-le-mul-right s (denominator-pos (factorsOf p)))
 
   pub squares-ready : SquaresFit readings
-  squares-ready = record { sum-fits = rw squares-are (omega (arith, least, within-limit a, limit-fits)) }
+  squares-ready = record { sum-fits = rw squares-are (omega (arith, least, within-limit a, numerator-fits p)) }
 
   module _ {d s : ℕ} (den : d ≡ denominator (factorsOf p)) (sq : s ≡ squaresOf readings) where
     total-is : d * s ≡ denominator (factorsOf p) * squared (factorsOf p) (read readings)
     total-is = rw (den, sq, squares-are) refl
 
     pub total-small : d * s < 2 ^ 63
-    total-small = rw total-is (omega (arith, within-limit a, limit-fits))
+    total-small = rw total-is (omega (arith, within-limit a, numerator-fits p))
 
     -- ---- the figures
 
@@ -124,7 +130,7 @@ module _ {p : Plan} {readings : List ℤ} {marks : List ℕ} {totals : List ℤ}
 
       pub sum-kept : wrap (sums .totals) ≡ sums .totals
       unfolding checksOf
-      sum-kept = back (sums .totals) (rw totals-are (omega (arith, check-within (factorsOf p) (read readings), within-limit a, limit-fits)))
+      sum-kept = back (sums .totals) (rw totals-are (omega (arith, check-within (factorsOf p) (read readings), within-limit a, numerator-fits p)))
 
       pub figures-made : (mean kept blocks error : Source) (n : ℕ) (sum from : ℤ)
           → (mean .degrees ≡ getD (sums .degrees) (codeOf meanRow) 0) × (mean .numerator ≡ getD (sums .numerators) (codeOf meanRow) 0)

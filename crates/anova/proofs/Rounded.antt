@@ -3,7 +3,7 @@
 --   Rounding n xs i ys                            the first i sets of a round are turned
 --   rounding-none, rounding-more, rounding-all    before the first set, after one more, after the last
 --   small-set                                     the values of the next set are small
---   Left k xs i sets ys                           what i rounds leave, and how many sets the last one had
+--   Left k xs i sets ys                           what i rounds leave of readings within a limit, and how many sets the last one had
 --   left-none, left-more, left-all                before the first round, after one more, after the last
 --   left-sets                                     the next round's sets
 use mathlib.Core.Path.{_≡_, refl, sym, _∙_, ap}
@@ -15,13 +15,13 @@ use native.Mathlib.Numerals.{add-one}
 use native.Mathlib.Decide.{decLt}
 use native.Mathlib.Omega.{arith}
 use borrow.Author.Tests.{lt-ltb, le-ltb}
-use lib.Dec.{ltb, lit<, lit≤}
+use lib.Dec.{ltb, lit<}
 use lib.IntN.{ℤ, pos, natAbs, _+ℤ_, _-ℤ_, _*ℤ_}
 use lib.ListN.{length, set, replicate}
 use Rattle.algebra.specs.Laws.Fill.{Filled, filled-none, filled-long, filled-old, filled-more}
 use Rattle.algebra.specs.Laws.Tab.{length-tab, getD-tab}
 use Rattle.contrasts.specs.Columns.{read, AllWithin}
-use Rattle.contrasts.specs.Limits.{readingLimit, valueLimit}
+use Rattle.contrasts.specs.Limits.{valueLimit}
 use Rattle.contrasts.specs.Factors.{three}
 use Rattle.contrasts.specs.Checks.{round, rounds}
 use Rattle.contrasts.specs.Laws.CheckSum.{rounds-cong}
@@ -100,22 +100,28 @@ after-rounds k n xs e h =
     rounds-cong (replicate k three) (read (afterRound n xs)) (round three (read xs))
     (λ r l. after-read n xs h r (rw (e, ← (size-three k)) l))
 
-five-rounds : 5 ^ 5 * readingLimit ≤ valueLimit
-unfolding readingLimit valueLimit
-five-rounds = lit≤ tt
-
 pub record Left (k : ℕ) (xs : List ℤ) (i sets : ℕ) (ys : List ℤ) : Type 0 where
+  pub limit : ℕ
+  pub roomy : 5 ^ (k - 1) * limit ≤ valueLimit
   pub some : i ≤ k
   pub last : sets ≡ 3 ^ (k - i)
   pub long : length ys ≡ length xs
-  pub within : AllWithin (5 ^ i * readingLimit) ys
+  pub within : AllWithin (5 ^ i * limit) ys
   pub same : rounds (replicate (k - i) three) (read ys) ≡ rounds (replicate k three) (read xs)
 
 module _ {k : ℕ} {xs : List ℤ} (pre : Rounds k xs) where
   pub left-none : Left k xs 0 (length xs) xs
   left-none =
       let z : k - 0 ≡ k = omega arith in
-      record { some = omega arith; last = rw z (pre .whole); long = refl; within = rw (one-mul readingLimit) (pre .within); same = rw z refl }
+      record {
+        limit = pre .limit;
+        roomy = pre .roomy;
+        some = omega arith;
+        last = rw z (pre .whole);
+        long = refl;
+        within = rw (one-mul (pre .limit)) (pre .within);
+        same = rw z refl;
+      }
 
   module _ {i sets : ℕ} {ys : List ℤ} (w : Left k xs i sets ys) where
     pub left-all : k ≤ i → read ys 0 ≡ rounds (replicate k three) (read xs)
@@ -140,24 +146,26 @@ module _ {k : ℕ} {xs : List ℤ} (pre : Rounds k xs) where
           rw (third, w .long, pre .whole, ← (pow-succ' 3 (k - (i + 1))), ← next)
           (pow-le-pow-right {n = 3} (lit< tt) {i = k - i} {j = k} (omega arith))
 
-      -- a round makes a number no more than 5 times as large, and there are at most five before the last
-      at-most-five : 5 ^ i ≤ 5 ^ 5
-      at-most-five = pow-le-pow-right {n = 5} (lit< tt) {i = i} {j = 5} (omega (arith, pre .most))
+      -- a round makes a number no more than 5 times as large
+      before-last : 5 ^ i ≤ 5 ^ (k - 1)
+      before-last = pow-le-pow-right {n = 5} (lit< tt) {i = i} {j = k - 1} (omega arith)
 
       pub left-sets : Sets (sets / 3) ys
       left-sets =
           record {
             whole = room;
-            within = λ j. le-trans (w .within j) (le-trans (mul-le-mul-right readingLimit at-most-five) five-rounds);
+            within = λ j. le-trans (w .within j) (le-trans (mul-le-mul-right (w .limit) before-last) (w .roomy));
           }
 
       pub left-more : {zs : List ℤ} → zs ≡ afterRound (sets / 3) ys → Left k xs (i + 1) (sets / 3) zs
       left-more e =
           record {
+            limit = w .limit;
+            roomy = w .roomy;
             some = omega arith;
             last = third;
             long = rw e (after-long (sets / 3) ys) ∙ w .long;
-            within = rw (e, add-one i, pow-succ' 5 i, mul-assoc 5 (5 ^ i) readingLimit) (after-within (sets / 3) ys (5 ^ i * readingLimit) (w .within));
+            within = rw (e, add-one i, pow-succ' 5 i, mul-assoc 5 (5 ^ i) (w .limit)) (after-within (sets / 3) ys (5 ^ i * w .limit) (w .within));
             same =
                 rw e (
                 after-rounds (k - (i + 1)) (sets / 3) ys third (omega (arith, room))

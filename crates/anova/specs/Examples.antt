@@ -15,7 +15,7 @@ use Rattle.algebra.specs.Bits.{bits}
 use Rattle.algebra.specs.Search.{some}
 use Rattle.algebra.specs.Sorted.{sumAt}
 use Rattle.algebra.specs.Sum.{Σ}
-use Rattle.contrasts.specs.Limits.{readingLimit, mostTwo, mostThree}
+use Rattle.contrasts.specs.Limits.{twoReadingLimit, threeReadingLimit, mostTwo, mostThree}
 use Rattle.contrasts.specs.Rows.{rowOf, degreesOf}
 use Rattle.contrasts.specs.Factors.{two, three}
 use Rattle.contrasts.specs.Codings.{neg}
@@ -24,6 +24,7 @@ use Rattle.contrasts.specs.Checks.{checkWeight, round, rounds}
 use Rattle.words.specs.Words.{letters, beyond, times, combined, any, among, repeated}
 use Rattle.plan.specs.declared.types.Plan.{Plan}
 use Rattle.plan.specs.Examples.{plan, ABC, AD}
+use Rattle.plan.specs.Limits.{readingLimit}
 use Rattle.plan.specs.Plan.{factorsOf, someCombination, combinesTo}
 use Rattle.plan.specs.Check.{badLevels, badFactors, badCounts, badWord, badSign, badWords, dependent, factorWord, losesFactor, planRefused, withPlan}
 use Rattle.columns.specs.Refusals.{wrongLength, isBeyond, anyBeyond}
@@ -78,17 +79,20 @@ lengths : tableRefused four (pos 3 ∷ pos 5 ∷ pos 4 ∷ []) noMarks readings 
     ∷ tableRefused four readings noMarks readings noMarks
     ∷ []
     ≡ 11 ∷ 11 ∷ 11 ∷ 11 ∷ 0 ∷ []
-unfolding tableRefused wrongLengths wrongRows wrongLength anyBeyond isBeyond badMarks badMark withPlan planRefused badLevels badFactors mostTwo mostThree badCounts badWords badWord badSign repeated dependent losesFactor factorWord any among beyond letters combined times someCombination combinesTo some bits Σℕ readingLimit factorsOf size two
+unfolding tableRefused wrongLengths wrongRows wrongLength anyBeyond isBeyond badMarks badMark withPlan planRefused badLevels badFactors mostTwo mostThree badCounts badWords badWord badSign repeated dependent losesFactor factorWord any among beyond letters combined times someCombination combinesTo some bits Σℕ readingLimit twoReadingLimit threeReadingLimit factorsOf size two
 lengths = refl
 
--- N12: "reading 100,001", and as much below 0
+-- N12: "its small input is now a three-level one", a reading of 100,001, and as much below 0; two levels admit it
 -- N13: "mark 1 on row 0", a mark of 2, mark 1 on BCD, which AD and ABC combine to
 -- L1: then 11 and 12, 12 and 13, and 2 and all of these
+abbrev three-runs : Plan
+three-runs = plan 3 1 [] [] []
+
 abbrev large : List ℤ
-large = pos 3 ∷ pos 5 ∷ pos 100_001 ∷ pos 8 ∷ []
+large = pos 2 ∷ pos 100_001 ∷ pos 3 ∷ []
 
 abbrev low : List ℤ
-low = pos 3 ∷ pos 5 ∷ neg 100_001 ∷ pos 8 ∷ []
+low = pos 2 ∷ pos 5 ∷ neg 100_001 ∷ []
 
 abbrev sixteen : List ℤ
 sixteen = pos 0 ∷ pos 0 ∷ pos 0 ∷ pos 0 ∷ pos 0 ∷ pos 0 ∷ pos 0 ∷ pos 0 ∷ pos 0 ∷ pos 0 ∷ pos 0 ∷ pos 0 ∷ pos 0 ∷ pos 0 ∷ pos 0 ∷ pos 0 ∷ []
@@ -96,20 +100,21 @@ sixteen = pos 0 ∷ pos 0 ∷ pos 0 ∷ pos 0 ∷ pos 0 ∷ pos 0 ∷ pos 0 ∷ 
 abbrev onBCD : List ℕ
 onBCD = 0 ∷ 0 ∷ 0 ∷ 0 ∷ 0 ∷ 0 ∷ 0 ∷ 0 ∷ 0 ∷ 0 ∷ 0 ∷ 0 ∷ 0 ∷ 0 ∷ 1 ∷ 0 ∷ []
 
-small-inputs : tableRefused four large noMarks readings noMarks
-    ∷ tableRefused four low noMarks readings noMarks
+small-inputs : tableRefused three-runs large (0 ∷ 0 ∷ []) low (0 ∷ 0 ∷ [])
+    ∷ tableRefused three-runs low (0 ∷ 0 ∷ []) low (0 ∷ 0 ∷ [])
+    ∷ tableRefused four (pos 3 ∷ pos 5 ∷ pos 100_001 ∷ neg 100_001 ∷ []) noMarks readings noMarks
     ∷ tableRefused four readings (1 ∷ 0 ∷ 0 ∷ 0 ∷ []) readings noMarks
     ∷ tableRefused four readings (0 ∷ 0 ∷ 2 ∷ 0 ∷ []) readings noMarks
     ∷ tableRefused (plan 2 4 [] [] (AD ∷ ABC ∷ [])) sixteen onBCD sixteen onBCD
-    ∷ tableRefused four large noMarks readings []
-    ∷ tableRefused four large (1 ∷ 0 ∷ 0 ∷ 0 ∷ []) readings noMarks
-    ∷ tableRefused (plan 4 2 [] [] []) large (1 ∷ []) readings []
+    ∷ tableRefused three-runs large (0 ∷ 0 ∷ []) low []
+    ∷ tableRefused three-runs large (1 ∷ 0 ∷ []) low (0 ∷ 0 ∷ [])
+    ∷ tableRefused (plan 4 2 [] [] []) large (1 ∷ []) low []
     ∷ []
-    ≡ 12 ∷ 12 ∷ 13 ∷ 13 ∷ 13 ∷ 11 ∷ 12 ∷ 2 ∷ []
-unfolding tableRefused wrongLengths wrongRows wrongLength anyBeyond isBeyond badMarks badMark withPlan planRefused badLevels badFactors mostTwo mostThree badCounts badWords badWord badSign repeated dependent losesFactor factorWord any among beyond letters combined times someCombination combinesTo some bits Σℕ readingLimit factorsOf size two
+    ≡ 12 ∷ 12 ∷ 0 ∷ 13 ∷ 13 ∷ 13 ∷ 11 ∷ 12 ∷ 2 ∷ []
+unfolding tableRefused wrongLengths wrongRows wrongLength anyBeyond isBeyond badMarks badMark withPlan planRefused badLevels badFactors mostTwo mostThree badCounts badWords badWord badSign repeated dependent losesFactor factorWord any among beyond letters combined times someCombination combinesTo some bits Σℕ readingLimit twoReadingLimit threeReadingLimit factorsOf size two three
 small-inputs = refl
 
 -- L2
 unchanged : (tableTotals four readings (1 ∷ 0 ∷ 0 ∷ 0 ∷ []) readings noMarks ≡ readings) × (tableRows four readings (1 ∷ 0 ∷ 0 ∷ 0 ∷ []) readings noMarks ≡ noMarks)
-unfolding tableTotals tableRows tableRefused wrongLengths wrongRows wrongLength anyBeyond isBeyond badMarks badMark withPlan planRefused badLevels badFactors mostTwo mostThree badCounts badWords badWord badSign repeated dependent losesFactor factorWord any among beyond letters combined times someCombination combinesTo some bits Σℕ readingLimit factorsOf size two
+unfolding tableTotals tableRows tableRefused wrongLengths wrongRows wrongLength anyBeyond isBeyond badMarks badMark withPlan planRefused badLevels badFactors mostTwo mostThree badCounts badWords badWord badSign repeated dependent losesFactor factorWord any among beyond letters combined times someCombination combinesTo some bits Σℕ readingLimit twoReadingLimit threeReadingLimit factorsOf size two
 unchanged = (refl, refl)

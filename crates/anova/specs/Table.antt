@@ -10,7 +10,7 @@
 --   rowsOf p xs                the row numerators
 --   tableTotals, tableRows     the lent slices at exit
 --   tableOutcome               the cases of the call's answer
---   SourceWithin s             degrees and numerator of a source are within the limit
+--   SourceWithin limit s       degrees and numerator of a source are within a limit
 use mathlib.Core.Bool.{Bool, cond, _||_}
 use mathlib.Core.List.{List, [], _∷_}
 use Prim.Native.Nat.{ℕ, _*_, _≤_}
@@ -20,12 +20,12 @@ use Rattle.algebra.specs.Naturals.{Σℕ}
 use Rattle.algebra.specs.Sum.{Σ}
 use Rattle.algebra.specs.Tab.{tab}
 use Rattle.contrasts.specs.Columns.{read, totalsOf}
-use Rattle.contrasts.specs.Limits.{readingLimit, numeratorLimit}
 use Rattle.contrasts.specs.Rows.{degreesOf, rowNumerator}
 use Rattle.contrasts.specs.Totals.{total, denominator, squared, numerator}
 use Rattle.contrasts.specs.Checks.{rounds}
 use Rattle.plan.specs.declared.types.Plan.{Plan}
 use Rattle.plan.specs.Check.{withPlan}
+use Rattle.plan.specs.Limits.{readingLimit}
 use Rattle.plan.specs.Outcome.{Refusal, refusal, Outcome, given, refused, written}
 use Rattle.plan.specs.Plan.{factorsOf, runsOf}
 use Rattle.columns.specs.Refusals.{wrongLength, anyBeyond}
@@ -46,7 +46,7 @@ wrongLengths p readings marks totals rows = wrongLength p readings || (wrongLeng
 abbrev pub tableRefusals : Plan → List ℤ → List ℕ → List ℤ → List ℕ → List Refusal
 tableRefusals p readings marks totals rows =
     refusal 11 (wrongLengths p (length readings) (length marks) (length totals) (length rows))
-    ∷ refusal 12 (anyBeyond readingLimit readings)
+    ∷ refusal 12 (anyBeyond (readingLimit p) readings)
     ∷ refusal 13 (badMarks p marks)
     ∷ []
 
@@ -112,7 +112,7 @@ tableOutcome (Refused n) = refused n
 
 -- ---- the limit
 
--- T20: no number of a source exceeds the limit of numerators
-pub record SourceWithin (s : Source) : Type 0 where
-  pub degrees : s .degrees ≤ numeratorLimit
-  pub numerator : s .numerator ≤ numeratorLimit
+-- T20: no number of a source exceeds a limit, which is that of the plan's numerators
+pub record SourceWithin (limit : ℕ) (s : Source) : Type 0 where
+  pub degrees : s .degrees ≤ limit
+  pub numerator : s .numerator ≤ limit

@@ -39,7 +39,7 @@ pub fn table_refused(p: Plan, readings: &[i32], marks: &[u8], totals: &[i64], ro
     if wrong_lengths(p, readings.len(), marks.len(), totals.len(), rows.len()) {
         return 11;
     }
-    if any_reading_beyond(readings) {
+    if any_reading_beyond(p, readings) {
         return 12;
     }
     if bad_marks(p, marks) {

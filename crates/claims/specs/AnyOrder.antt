@@ -20,12 +20,12 @@ use lib.Dec.{ltb}
 use lib.IntN.{ℤ}
 use lib.ListN.{length, getD, take}
 use Rattle.contrasts.specs.Columns.{AllWithin, passOf, totalsOf}
-use Rattle.contrasts.specs.Limits.{readingLimit}
 use Rattle.contrasts.specs.Passes.{count}
 use Rattle.plan.specs.declared.types.Plan.{Plan}
 use Rattle.plan.specs.Check.{planRefused}
 use Rattle.plan.specs.Outcome.{Outcome, given, refused, outcome}
 use Rattle.plan.specs.Plan.{factorsOf, runsOf}
+use Rattle.plan.specs.Limits.{readingLimit}
 use Rattle.yates.specs.Calls.{passRefused, passColumn}
 
 -- D3.3: "Each call works on what the last one left, and nobody else writes": `passColumn` is what the pass call promises to leave
@@ -36,7 +36,7 @@ afterCalls p (f ∷ fs) column = afterCalls p fs (passColumn p f column)
 -- D3.1: "a column with one place per run that starts as readings within the limit"
 pub record Readings (p : Plan) (column : List ℤ) : Type 0 where
   pub whole : length column ≡ runsOf p
-  pub within : AllWithin readingLimit column
+  pub within : AllWithin (readingLimit p) column
 
 -- D3.2: "names each base factor exactly once"
 abbrev pub EachOnce : Plan → List ℕ → Type 0

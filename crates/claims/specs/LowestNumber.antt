@@ -15,7 +15,7 @@ use Rattle.plan.specs.declared.types.Plan.{Plan}
 use Rattle.plan.specs.Check.{planRefusals, planRefused}
 use Rattle.plan.specs.Outcome.{Refusal, refusal, Lowest}
 use Rattle.plan.specs.Plan.{runsOf}
-use Rattle.contrasts.specs.Limits.{readingLimit}
+use Rattle.plan.specs.Limits.{readingLimit}
 use Rattle.columns.specs.Refusals.{anyBeyond}
 use Rattle.rows.specs.Kinds.{badMarks}
 use Rattle.runs.specs.Run.{runRefusals, runRefused}
@@ -47,7 +47,7 @@ onBytes sheet =
 abbrev pub tableRefusalsC : Plan → List ℤ → List ℕ → List ℤ → List ℕ → List ℕ → List ℤ → List Refusal
 tableRefusalsC p readings marks totals rows figures checks =
     refusal 11 (wrongRoom (length figures) (length checks) || wrongLengths p (length readings) (length marks) (length totals) (length rows))
-    ∷ refusal 12 (anyBeyond readingLimit readings)
+    ∷ refusal 12 (anyBeyond (readingLimit p) readings)
     ∷ refusal 13 (badMarks p marks)
     ∷ []
 

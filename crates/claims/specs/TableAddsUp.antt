@@ -6,7 +6,7 @@
 --   Formed p marks ts rows f     each of the four is formed as the rules say, from the totals and rows that the call writes
 --   totalNumerator p readings    the total
 --   AddsUp p readings f          what is claimed of the figures f
---   NoneBeyond p readings f      no number of the table exceeds the limit
+--   NoneBeyond p readings f      no number of the table exceeds the limit of numerators, which goes by the plan's levels
 --   TableAddsUp                  THE CLAIM
 use mathlib.Core.Path.{_≡_}
 use mathlib.Core.Bool.{Bool, cond}
@@ -17,11 +17,11 @@ use lib.IntN.{ℤ, natAbs}
 use lib.ListN.{getD}
 use Rattle.algebra.specs.Naturals.{Σℕ}
 use Rattle.contrasts.specs.Columns.{read, totalsOf}
-use Rattle.contrasts.specs.Limits.{numeratorLimit}
 use Rattle.contrasts.specs.Rows.{rowOf, degreesOf}
 use Rattle.contrasts.specs.Totals.{total, denominator, numerator, numeratorOf, squared}
 use Rattle.plan.specs.declared.types.Plan.{Plan}
 use Rattle.plan.specs.Plan.{factorsOf, runsOf}
+use Rattle.plan.specs.Limits.{numeratorLimit}
 use Rattle.rows.specs.Kinds.{rowsIn, Kind, meanRow, blocksRow, errorRow, keptRow, kindOf, same}
 use Rattle.anova.specs.declared.types.Figures.{Figures}
 use Rattle.anova.specs.Table.{tableRefused, tableFigures, tableTotals, tableRows, rowsOf, SourceWithin}
@@ -60,20 +60,21 @@ pub record AddsUp (p : Plan) (readings : List ℤ) (f : Figures) : Type 0 where
   pub total-degrees : f .total .degrees ≡ runsOf p
   pub checks : f .checks .totals ≡ f .checks .readings
 
--- T20: "No numerator, and no sum of them in one table, exceeds 340,122,240,000,000,000"; nor does any other number of the table in size
+-- T20: "No two-level numerator or sum of them exceeds 1,048,576,000,000,000,000.", and none at three levels 340,122,240,000,000,000; nor does
+-- any other number of the table in size
 pub record NoneBeyond (p : Plan) (readings : List ℤ) (f : Figures) : Type 0 where
-  pub totals : (e : ℕ) → e < runsOf p → natAbs (read (totalsOf (factorsOf p) readings) e) ≤ numeratorLimit
+  pub totals : (e : ℕ) → e < runsOf p → natAbs (read (totalsOf (factorsOf p) readings) e) ≤ numeratorLimit p
   -- any sum of some of the first n effects' numerators, and so each of them
   pub some-numerators : (n : ℕ) (some : ℕ → Bool) → n ≤ runsOf p
-      → Σℕ n (λ e. cond (some e) (numerator (factorsOf p) (read readings) e) 0) ≤ numeratorLimit
-  pub rows : (w : ℕ) → w < rowsIn p → getD (rowsOf p readings) w 0 ≤ numeratorLimit
-  pub denominator : f .denominator ≤ numeratorLimit
-  pub mean : SourceWithin (f .mean)
-  pub kept : SourceWithin (f .kept)
-  pub blocks : SourceWithin (f .blocks)
-  pub error : SourceWithin (f .error)
-  pub total : SourceWithin (f .total)
-  pub checks : (natAbs (f .checks .totals) ≤ numeratorLimit) × (natAbs (f .checks .readings) ≤ numeratorLimit)
+      → Σℕ n (λ e. cond (some e) (numerator (factorsOf p) (read readings) e) 0) ≤ numeratorLimit p
+  pub rows : (w : ℕ) → w < rowsIn p → getD (rowsOf p readings) w 0 ≤ numeratorLimit p
+  pub denominator : f .denominator ≤ numeratorLimit p
+  pub mean : SourceWithin (numeratorLimit p) (f .mean)
+  pub kept : SourceWithin (numeratorLimit p) (f .kept)
+  pub blocks : SourceWithin (numeratorLimit p) (f .blocks)
+  pub error : SourceWithin (numeratorLimit p) (f .error)
+  pub total : SourceWithin (numeratorLimit p) (f .total)
+  pub checks : (natAbs (f .checks .totals) ≤ numeratorLimit p) × (natAbs (f .checks .readings) ≤ numeratorLimit p)
 
 abbrev pub TableAddsUp : Type 0
 TableAddsUp =

@@ -1,7 +1,7 @@
 -- The search for a value beyond a limit.
 --
 --   above, not-above, negated         the two tests of the code on a value, and the limit's negation
---   either-way                        both tests on a reading at once
+--   turned-fits, either-way           the same of a reading, both tests at once
 --   Sought m xs i                     none of the first i values is beyond m
 --   sought, onward, found, nowhere    at the search's start, at its next turn, where it finds one, at its end
 --   Looked m xs i b                   whether one of the first i values is beyond m
@@ -59,7 +59,7 @@ either m x = by (ltZ (pos m) x) refl
     by true e = rw e (over m x e)
     by false e = rw e (under m x e)
 
-turned-fits : (m : ℕ) → m < 2 ^ 31 → SFits w32 (pos 0 -ℤ toZ w32 m)
+pub turned-fits : (m : ℕ) → m < 2 ^ 31 → SFits w32 (pos 0 -ℤ toZ w32 m)
 turned-fits m k = rw (toZ-pos w32 m k) (fits-half (pos 0 -ℤ pos m) (omega (arith, natAbs-sub (pos 0) (pos m))))
 
 pub either-way : {x : ℤ} (m : ℕ) → SFits w32 x → m < 2 ^ 31

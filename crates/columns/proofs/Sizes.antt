@@ -42,6 +42,6 @@ module _ {xs : List ℤ} {b i : ℕ} (w : Gathered xs b i) where
 
 -- ---- the whole test
 
-pub few-bits : (xs : List ℤ) {b : ℕ} → AllWithin (suc b) xs → b < 268435456 → false ≡ anyBeyond valueLimit xs
+pub few-bits : (xs : List ℤ) {b : ℕ} → AllWithin (suc b) xs → b < 536870912 → false ≡ anyBeyond valueLimit xs
 unfolding valueLimit
 few-bits xs {b} w h = sym (none-beyond valueLimit xs (λ i. omega (arith, w i)))

@@ -24,7 +24,7 @@ use Rattle.columns.specs.declared.types.Answer.the-variants.{Done, Refus
 unfoldable pub wrongLength : Plan → ℕ → Bool
 wrongLength p n = not (eqb n (runsOf p))
 
--- N12: "reading beyond 100,000 either way; [..] pass or step value beyond 409,600,000 either way"
+-- N12: "12 with these limits": a reading, or a value of a pass or a step, beyond its limit either way
 unfoldable pub isBeyond : ℕ → ℤ → Bool
 isBeyond limit z = ltb limit (natAbs z)
 

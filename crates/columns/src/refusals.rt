@@ -5,7 +5,8 @@ use super::scans::any_value_beyond;
 use plan::Plan;
 use plan::lowest;
 use sizes::runs;
-ghost use Rattle.contrasts.specs.Limits.{readingLimit, valueLimit};
+ghost use Rattle.contrasts.specs.Limits.{valueLimit};
+ghost use Rattle.plan.specs.Limits.{readingLimit};
 ghost use Rattle.columns.specs.Inner.Judged.{lengthsRefused};
 ghost use Rattle.columns.specs.Refusals.{columnsRefused};
 
@@ -43,13 +44,13 @@ pub fn values_refused(p: Plan, from: &[i64], to: &[i64]) -> u8
 
 // The same for readings.
 pub fn readings_refused(p: Plan, readings: &[i32], totals: &[i64]) -> u8
-    ensures { λ r. ⌜ r ≡ columnsRefused readingLimit p (now (readings .entry)) (now (totals .entry)) ⌝ }
+    ensures { λ r. ⌜ r ≡ columnsRefused (readingLimit p) p (now (readings .entry)) (now (totals .entry)) ⌝ }
 {
     let n = lengths_refused(p, readings.len(), totals.len());
     if n != 0 {
         return n;
     }
-    if any_reading_beyond(readings) {
+    if any_reading_beyond(p, readings) {
         return 12;
     }
     0

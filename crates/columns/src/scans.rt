@@ -1,14 +1,17 @@
 // Refusal 12: values beyond a limit, either way.
 ghost use mathlib.Core.Path.{_≡_};
+ghost use Prim.Native.Nat.{_^_, _<_};
 use super::bits::all_bits;
-ghost use Rattle.contrasts.specs.Limits.{readingLimit, valueLimit};
+use plan::Plan;
+use sizes::reading_limit;
+ghost use Rattle.contrasts.specs.Limits.{valueLimit};
+ghost use Rattle.plan.specs.Limits.{readingLimit};
 ghost use Rattle.columns.specs.Refusals.{isBeyond, anyBeyond};
 
-const READING_LIMIT: i32 = 100_000;
+const VALUE_LIMIT: u32 = 1_024_000_000;
 
-const VALUE_LIMIT: u32 = 409_600_000;
-
-fn is_beyond(x: i64, limit: u32) -> bool
+// Whether a value is beyond a limit.
+pub fn is_beyond(x: i64, limit: u32) -> bool
     ensures { λ r. ⌜ r ≡ isBeyond limit x ⌝ }
 {
     let most = limit as i64;
@@ -32,34 +35,44 @@ fn search_values(column: &[i64]) -> bool
     false
 }
 
-// Whether a pass or a step refuses a value of the column. Where no size reaches 2 to the power 28, as in nearly every column, there is no
+// Whether a pass or a step refuses a value of the column. Where no size reaches 2 to the power 29, as in nearly every column, there is no
 // search.
 pub fn any_value_beyond(column: &[i64]) -> bool
     ensures { λ r. ⌜ r ≡ anyBeyond valueLimit (now (column .entry)) ⌝ }
 {
-    if all_bits(column) < 268_435_456 {
+    if all_bits(column) < 536_870_912 {
         return false;
     }
     search_values(column)
 }
 
-// Whether a reading is refused. Both comparisons are made, and the loop does not stop early, so it is compiled to work several readings at a
-// time.
-pub fn is_reading_beyond(x: i32) -> bool
-    ensures { λ r. ⌜ r ≡ isBeyond readingLimit x ⌝ }
+// Whether a reading is beyond a limit. Both comparisons are made, and the loop that calls this does not stop early, so it is compiled to work
+// several readings at a time.
+fn is_either_way(x: i32, limit: u32) -> bool
+    requires { ⌜ limit < 2 ^ 31 ⌝ }
+    ensures { λ r. ⌜ r ≡ isBeyond limit x ⌝ }
 {
-    (READING_LIMIT < x) | (x < -READING_LIMIT)
+    let most = limit as i32;
+    (most < x) | (x < -most)
 }
 
-// Whether a reading of the column is refused.
-pub fn any_reading_beyond(readings: &[i32]) -> bool
-    ensures { λ r. ⌜ r ≡ anyBeyond readingLimit (now (readings .entry)) ⌝ }
+// Whether a reading of the column is beyond a limit.
+fn look_at_all(readings: &[i32], limit: u32) -> bool
+    requires { ⌜ limit < 2 ^ 31 ⌝ }
+    ensures { λ r. ⌜ r ≡ anyBeyond limit (now (readings .entry)) ⌝ }
 {
     let mut any = false;
     let mut i = 0;
     while i < readings.len() {
-        any = any | is_reading_beyond(readings[i]);
+        any = any | is_either_way(readings[i], limit);
         i += 1;
     }
     any
+}
+
+// Whether a reading of the column is refused, by the limit of the plan.
+pub fn any_reading_beyond(p: Plan, readings: &[i32]) -> bool
+    ensures { λ r. ⌜ r ≡ anyBeyond (readingLimit p) (now (readings .entry)) ⌝ }
+{
+    look_at_all(readings, reading_limit(p))
 }

@@ -2,9 +2,11 @@
 ghost use mathlib.Core.Path.{_≡_};
 ghost use Prim.Native.Nat.{_+_, _*_, _/_, _<_};
 ghost use lib.ListN.{length};
-use columns::is_reading_beyond;
+use columns::is_beyond;
 use numerals::reading;
-ghost use Rattle.contrasts.specs.Limits.{readingLimit};
+use plan::Plan;
+use sizes::reading_limit;
+ghost use Rattle.plan.specs.Limits.{readingLimit};
 ghost use Rattle.columns.specs.Refusals.{anyBeyond};
 ghost use Rattle.columns.specs.Copies.{copied};
 ghost use Rattle.contents.specs.Contents.{readingAt, readingsOf};
@@ -17,15 +19,16 @@ fn reading_at(body: &[u8], i: usize) -> i32
     reading(body[at], body[at + 1], body[at + 2], body[at + 3])
 }
 
-// Whether a reading is beyond the limit.
-pub fn any_beyond(body: &[u8]) -> bool
-    ensures { λ r. ⌜ r ≡ anyBeyond readingLimit (readingsOf (now (body .entry))) ⌝ }
+// Whether a reading is beyond the limit of the plan.
+pub fn any_beyond(p: Plan, body: &[u8]) -> bool
+    ensures { λ r. ⌜ r ≡ anyBeyond (readingLimit p) (readingsOf (now (body .entry))) ⌝ }
 {
+    let limit = reading_limit(p);
     let n = body.len() / 4;
     let mut any = false;
     let mut i = 0;
     while i < n {
-        any = any | is_reading_beyond(reading_at(body, i));
+        any = any | is_beyond(reading_at(body, i) as i64, limit);
         i += 1;
     }
     any

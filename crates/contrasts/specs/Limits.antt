@@ -1,23 +1,32 @@
--- The limits of sections 3 and 5 of the rules and of the table of refusals, each named once.
+-- The limits of the rules, each named once; those that differ between the kinds of plans, once for each kind. `plan/specs/Limits.antt` gives
+-- them by the plan.
 --
---   readingLimit             a reading's size
---   valueLimit               the size of a value that a pass or a step admits
---   numeratorLimit           a numerator, or a sum of some of one table
---   mostTwo, mostThree       how many factors a plan may have
---   mostAdded, mostBlocks    how many added factors and block words
+--   twoReadingLimit, threeReadingLimit        a reading's size, at two levels and at three
+--   twoNumeratorLimit, threeNumeratorLimit    a numerator, or a sum of some of one table
+--   valueLimit                                the size of a value that a pass or a step admits
+--   mostTwo, mostThree                        how many factors a plan may have
+--   mostAdded, mostBlocks                     how many added factors and block words
 use Prim.Native.Nat.{ℕ}
 
--- T1: "Readings are i32 from -100,000 to 100,000."
-unfoldable pub readingLimit : ℕ
-readingLimit = 100_000
+-- T1: "At two levels the reading limit becomes 1,000,000 either way"
+unfoldable pub twoReadingLimit : ℕ
+twoReadingLimit = 1_000_000
 
--- N12: "pass or step value beyond 409,600,000 either way"
+-- T1: "Three-level readings keep their limit.": "Readings are i32 from -100,000 to 100,000."
+unfoldable pub threeReadingLimit : ℕ
+threeReadingLimit = 100_000
+
+-- T20: "No two-level numerator or sum of them exceeds 1,048,576,000,000,000,000."
+unfoldable pub twoNumeratorLimit : ℕ
+twoNumeratorLimit = 1_048_576_000_000_000_000
+
+-- T20: "No numerator, and no sum of them in one table, exceeds 340,122,240,000,000,000.", which is left at three levels
+unfoldable pub threeNumeratorLimit : ℕ
+threeNumeratorLimit = 340_122_240_000_000_000
+
+-- N12: "A pass or step, at either level count, now admits values to 1,024,000,000 either way."
 unfoldable pub valueLimit : ℕ
-valueLimit = 409_600_000
-
--- T20: "No numerator, and no sum of them in one table, exceeds 340,122,240,000,000,000."
-unfoldable pub numeratorLimit : ℕ
-numeratorLimit = 340_122_240_000_000_000
+valueLimit = 1_024_000_000
 
 -- P2: "k base factors (1 to 10 at two levels, 1 to 6 at three)"
 unfoldable pub mostTwo : ℕ

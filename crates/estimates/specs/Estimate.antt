@@ -16,12 +16,12 @@ use Prim.Native.Nat.{ℕ, _*_, _-_, _^_}
 use lib.Dec.{eqb, ltb}
 use lib.IntN.{ℤ, natAbs, negℤ}
 use lib.Ieee.{Float}
-use Rattle.contrasts.specs.Limits.{readingLimit}
 use Rattle.words.specs.Words.{oddWord, beyond}
 use Rattle.plan.specs.declared.types.Plan.{Plan}
 use Rattle.plan.specs.Outcome.{Refusal, refusal, Outcome, given, refused}
 use Rattle.plan.specs.Plan.{confoundedIn}
 use Rattle.plan.specs.Check.{withPlan}
+use Rattle.plan.specs.Limits.{readingLimit}
 use Rattle.estimates.specs.declared.types.Estimate.{Estimate}
 use Rattle.estimates.specs.declared.types.Estimate.the-variants as answer
 use Rattle.estimates.specs.Quotient.{Exactly, quotient}
@@ -57,9 +57,9 @@ estimateValue p e t = valueBy (confoundedIn p e) (p .k) e t
 
 -- ---- the numbers
 
--- E7: "The caller hands in the total; it must lie within 2 to the power k times 100,000 either way"
+-- E7: "The caller hands in the total"; "the reading limit becomes 1,000,000 either way, and the estimate's limit 2 to the power k times that"
 abbrev pub totalLimit : Plan → ℕ
-totalLimit p = 2 ^ p .k * readingLimit
+totalLimit p = 2 ^ p .k * readingLimit p
 
 -- L8: "the estimate 9, 10, 12"
 -- N9: "estimate, alias or run call asked at three levels"; N10: "[..] estimate's letter not a base factor";

@@ -9,17 +9,18 @@
 use mathlib.Core.Path.{_≡_, refl}
 use mathlib.Core.Bool.{true, false}
 use mathlib.Core.List.{List, [], _∷_}
-use Prim.Native.Nat.{ℕ, suc}
+use Prim.Native.Nat.{ℕ, suc, _*_}
 use lib.IntN.{ℤ, pos}
 use lib.Ieee.{fin}
 use Rattle.algebra.specs.Naturals.{Σℕ}
 use Rattle.algebra.specs.Bits.{bits}
 use Rattle.algebra.specs.Search.{some}
-use Rattle.contrasts.specs.Limits.{readingLimit, mostTwo, mostThree}
+use Rattle.contrasts.specs.Limits.{twoReadingLimit, threeReadingLimit, mostTwo, mostThree}
 use Rattle.contrasts.specs.Codings.{neg}
 use Rattle.words.specs.Words.{letters, beyond, times, combined, any, among, repeated}
 use Rattle.plan.specs.declared.types.Plan.{Plan}
 use Rattle.plan.specs.Examples.{plan, A, C, ABC}
+use Rattle.plan.specs.Limits.{readingLimit}
 use Rattle.plan.specs.Outcome.{Outcome, given, refused, outcome}
 use Rattle.plan.specs.Plan.{someCombination, combinesTo}
 use Rattle.plan.specs.Check.{badLevels, badFactors, badCounts, badWord, badSign, badWords, dependent, factorWord, losesFactor, planRefused, withPlan}
@@ -50,13 +51,13 @@ four : answers twoFactors 0 (pos 20 ∷ neg 6 ∷ neg 4 ∷ pos 2 ∷ [])
     ∷ given (difference (fin false 1 (pos 1)))
     ∷ given (difference (fin false 1 (pos 0)))
     ∷ []
-unfolding estimateRefused withPlan planRefused badLevels badFactors mostTwo mostThree badCounts badWords badWord badSign repeated dependent losesFactor factorWord any among beyond letters combined times someCombination combinesTo some bits Σℕ readingLimit valueBy meanOf differenceOf printedTotal quotient
+unfolding estimateRefused withPlan planRefused badLevels badFactors mostTwo mostThree badCounts badWords badWord badSign repeated dependent losesFactor factorWord any among beyond letters combined times someCombination combinesTo some bits Σℕ readingLimit twoReadingLimit threeReadingLimit valueBy meanOf differenceOf printedTotal quotient
 four = refl
 
 -- E6: all four totals 0: no zero is negative, that of A and of B neither
 zeros : answers twoFactors 0 (pos 0 ∷ pos 0 ∷ pos 0 ∷ pos 0 ∷ [])
     ≡ given (mean positiveZero) ∷ given (difference positiveZero) ∷ given (difference positiveZero) ∷ given (difference positiveZero) ∷ []
-unfolding estimateRefused withPlan planRefused badLevels badFactors mostTwo mostThree badCounts badWords badWord badSign repeated dependent losesFactor factorWord any among beyond letters combined times someCombination combinesTo some bits Σℕ readingLimit valueBy meanOf differenceOf printedTotal quotient
+unfolding estimateRefused withPlan planRefused badLevels badFactors mostTwo mostThree badCounts badWords badWord badSign repeated dependent losesFactor factorWord any among beyond letters combined times someCombination combinesTo some bits Σℕ readingLimit twoReadingLimit threeReadingLimit valueBy meanOf differenceOf printedTotal quotient
 zeros = refl
 
 abbrev inBlocks : Plan
@@ -73,37 +74,37 @@ eight : answers inBlocks 0 (pos 36 ∷ neg 4 ∷ neg 8 ∷ pos 0 ∷ neg 16 ∷ 
     ∷ given (difference positiveZero)
     ∷ given lost
     ∷ []
-unfolding estimateRefused withPlan planRefused badLevels badFactors mostTwo mostThree badCounts badWords badWord badSign repeated dependent losesFactor factorWord any among beyond letters combined times someCombination combinesTo some bits Σℕ readingLimit valueBy meanOf differenceOf printedTotal quotient
+unfolding estimateRefused withPlan planRefused badLevels badFactors mostTwo mostThree badCounts badWords badWord badSign repeated dependent losesFactor factorWord any among beyond letters combined times someCombination combinesTo some bits Σℕ readingLimit twoReadingLimit threeReadingLimit valueBy meanOf differenceOf printedTotal quotient
 eight = refl
 
 -- X4: "totals 0, -200,000", "The k = 1 reference difference becomes 200,000", which is 3,125 * 2 ^ 6
 largest : answers (plan 2 1 [] [] []) 0 (pos 0 ∷ neg 200_000 ∷ []) ≡ given (mean positiveZero) ∷ given (difference (fin false 3_125 (pos 6))) ∷ []
-unfolding estimateRefused withPlan planRefused badLevels badFactors mostTwo mostThree badCounts badWords badWord badSign repeated dependent losesFactor factorWord any among beyond letters combined times someCombination combinesTo some bits Σℕ readingLimit valueBy meanOf differenceOf printedTotal quotient
+unfolding estimateRefused withPlan planRefused badLevels badFactors mostTwo mostThree badCounts badWords badWord badSign repeated dependent losesFactor factorWord any among beyond letters combined times someCombination combinesTo some bits Σℕ readingLimit twoReadingLimit threeReadingLimit valueBy meanOf differenceOf printedTotal quotient
 largest = refl
 
--- N9: "levels 3, k = 1"; N10: k = 2, effect C; N12: k = 2, total 400,001
+-- N9: "levels 3, k = 1"; N10: k = 2, effect C; N12: k = 2, a total of one more than four times the limit
 -- L1: then calls to which 3, 9, 10 and 12 apply, 9, 10 and 12, and 10 and 12
 small-inputs : answer (plan 3 1 [] [] []) A (pos 0)
     ∷ answer twoFactors C (pos 0)
-    ∷ answer twoFactors A (pos 400_001)
-    ∷ answer (plan 3 7 [] [] []) 2048 (neg 1_000_000_000)
-    ∷ answer (plan 3 1 [] [] []) C (neg 1_000_000_000)
-    ∷ answer twoFactors C (neg 1_000_000_000)
+    ∷ answer twoFactors A (pos (suc (4 * twoReadingLimit)))
+    ∷ answer (plan 3 7 [] [] []) 2048 (neg 10_000_000_000)
+    ∷ answer (plan 3 1 [] [] []) C (neg 10_000_000_000)
+    ∷ answer twoFactors C (neg 10_000_000_000)
     ∷ []
     ≡ refused 9 ∷ refused 10 ∷ refused 12 ∷ refused 3 ∷ refused 9 ∷ refused 10 ∷ []
-unfolding estimateRefused withPlan planRefused badLevels badFactors mostTwo mostThree badCounts badWords badWord badSign repeated dependent losesFactor factorWord any among beyond letters combined times someCombination combinesTo some bits Σℕ readingLimit valueBy meanOf differenceOf printedTotal quotient
+unfolding estimateRefused withPlan planRefused badLevels badFactors mostTwo mostThree badCounts badWords badWord badSign repeated dependent losesFactor factorWord any among beyond letters combined times someCombination combinesTo some bits Σℕ readingLimit twoReadingLimit threeReadingLimit valueBy meanOf differenceOf printedTotal quotient
 small-inputs = refl
 
 -- E7, N12: both ways, with two factors and with ten, and the smallest i64; an effect that is lost is refused by its total too
-at-limits : estimateRefused twoFactors A (pos 400_000)
-    ∷ estimateRefused twoFactors A (neg 400_000)
-    ∷ estimateRefused twoFactors A (pos 400_001)
-    ∷ estimateRefused twoFactors A (neg 400_001)
-    ∷ estimateRefused (plan 2 10 [] [] []) 0 (neg 102_400_000)
-    ∷ estimateRefused (plan 2 10 [] [] []) 0 (pos 102_400_001)
+at-limits : estimateRefused twoFactors A (pos (4 * twoReadingLimit))
+    ∷ estimateRefused twoFactors A (neg (4 * twoReadingLimit))
+    ∷ estimateRefused twoFactors A (pos (suc (4 * twoReadingLimit)))
+    ∷ estimateRefused twoFactors A (neg (suc (4 * twoReadingLimit)))
+    ∷ estimateRefused (plan 2 10 [] [] []) 0 (neg (1024 * twoReadingLimit))
+    ∷ estimateRefused (plan 2 10 [] [] []) 0 (pos (suc (1024 * twoReadingLimit)))
     ∷ estimateRefused twoFactors A (neg 9_223_372_036_854_775_808)
-    ∷ estimateRefused inBlocks ABC (pos 800_001)
+    ∷ estimateRefused inBlocks ABC (pos (suc (8 * twoReadingLimit)))
     ∷ []
     ≡ 0 ∷ 0 ∷ 12 ∷ 12 ∷ 0 ∷ 12 ∷ 12 ∷ 12 ∷ []
-unfolding estimateRefused withPlan planRefused badLevels badFactors mostTwo mostThree badCounts badWords badWord badSign repeated dependent losesFactor factorWord any among beyond letters combined times someCombination combinesTo some bits Σℕ readingLimit
+unfolding estimateRefused withPlan planRefused badLevels badFactors mostTwo mostThree badCounts badWords badWord badSign repeated dependent losesFactor factorWord any among beyond letters combined times someCombination combinesTo some bits Σℕ readingLimit twoReadingLimit threeReadingLimit
 at-limits = refl

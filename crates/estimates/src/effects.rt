@@ -8,22 +8,20 @@ use super::types::Estimate;
 use plan::Plan;
 use plan::confounded;
 use plan::lowest;
+use sizes::reading_limit;
 use words::has_beyond;
 use words::is_odd_word;
-ghost use Rattle.contrasts.specs.Limits.{readingLimit};
 ghost use Rattle.plan.specs.Outcome.{outcome, given};
 ghost use Rattle.estimates.specs.Quotient.{InDouble};
 ghost use Rattle.estimates.specs.Estimate.{printedTotal, valueBy, estimateRefused, estimateValue, estimateOutcome, ExactlyGiven};
 
-const READING_LIMIT: u64 = 100_000;
-
 // Refusal 12: whether a total lies beyond 2 to the power k times the limit of a reading, either way. Of a negative total the size less 1 is
 // compared, -1 minus the total, which is an i64 for every total.
-fn is_beyond(total: i64, k: usize) -> bool
+fn is_beyond(total: i64, k: usize, limit: u32) -> bool
     requires { ⌜ k ≤ 10 ⌝ }
-    ensures { λ r. ⌜ r ≡ ltb (2 ^ k * readingLimit) (natAbs total) ⌝ }
+    ensures { λ r. ⌜ r ≡ ltb (2 ^ k * limit) (natAbs total) ⌝ }
 {
-    let most = READING_LIMIT << k;
+    let most = (limit as u64) << k;
     if total < 0 {
         return most <= (-1 - total) as u64;
     }
@@ -45,7 +43,7 @@ fn estimate_refused(p: Plan, effect: u16, total: i64) -> u8
     if has_beyond(effect, k) {
         return 10;
     }
-    if is_beyond(total, k) {
+    if is_beyond(total, k, reading_limit(p)) {
         return 12;
     }
     0

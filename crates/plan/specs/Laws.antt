@@ -7,6 +7,7 @@
 --   Lowest         the number of a call is the lowest that applies
 --   Confounded     the confounded effects of an accepted plan
 --   Sizes          the factors and the runs of an accepted plan
+--   Limits         what readings within the plan's limit come to
 --   Coefficients   the coefficients and totals of two levels, by letters
 --   Alike          places beyond the counts are ignored
 pub mod Combinations
@@ -16,5 +17,6 @@ pub mod Answers
 pub mod Lowest
 pub mod Confounded
 pub mod Sizes
+pub mod Limits
 pub mod Coefficients
 pub mod Alike

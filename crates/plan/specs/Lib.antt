@@ -1,11 +1,13 @@
 -- What the calls about plans promise, and laws that callers cite.
 --
 --   Plan       what a plan says: its words, factors, runs and confounded effects
+--   Limits     the limits of its readings and numerators
 --   Outcome    what every call answers, and the lowest number that applies
 --   Check      the refusals 2 to 8, and the check's answer
 --   Examples   the small inputs of refusals 2 to 8
 --   Laws       laws about plans
 pub mod Plan
+pub mod Limits
 pub mod Outcome
 pub mod Check
 pub mod Examples

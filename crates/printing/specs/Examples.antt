@@ -13,13 +13,14 @@ use Rattle.algebra.specs.Search.{some}
 use Rattle.algebra.specs.Sorted.{sumAt}
 use Rattle.algebra.specs.Sum.{Σ}
 use Rattle.algebra.specs.Tab.{tabFrom}
-use Rattle.contrasts.specs.Limits.{readingLimit, mostTwo, mostThree}
+use Rattle.contrasts.specs.Limits.{twoReadingLimit, threeReadingLimit, mostTwo, mostThree}
 use Rattle.contrasts.specs.Rows.{rowOf, degreesOf}
 use Rattle.contrasts.specs.Factors.{two, three}
 use Rattle.contrasts.specs.Totals.{size, coef*, total, divisor*, denominator, weight*, numeratorOf, squared}
 use Rattle.contrasts.specs.Checks.{checkWeight, round, rounds}
 use Rattle.words.specs.Words.{letters, beyond, times, combined, any, among, repeated}
 use Rattle.plan.specs.Check.{badLevels, badFactors, badCounts, badWord, badSign, badWords, dependent, factorWord, losesFactor, planRefused, withPlan}
+use Rattle.plan.specs.Limits.{readingLimit}
 use Rattle.plan.specs.Plan.{factorsOf, someCombination, combinesTo}
 use Rattle.columns.specs.Refusals.{wrongLength, isBeyond, anyBeyond}
 use Rattle.rows.specs.Kinds.{wrongRows, kindByMark, kindOf, badMark, badMarks}
@@ -42,7 +43,7 @@ rulesSheet =
 
 -- W4
 pub rules-text : textOf rulesSheet ≡ ascii "over 4\nmean 1 400\nA 1 36\nB 1 16\nAB 1 4 error\nblocks 0 0\nerror 1 4\ntotal 4 456\ncheck 12 12\n"
-unfolding textOf printed printRefused sheetTable tableText rowLines rowLine namedLine sourceLine checkLine lineOf labelOf kindWords lettersIn letterOf decimalIn tableFigures sourceOf totalSource checksOf rowsOf kindOf kindByMark marksRefused refusedWith planIn readingsOf readingAt twos big fieldsOf parse bodies bodyAt badFields badFrom wrongLength wrongRows anyBeyond isBeyond badMarks badMark withPlan planRefused badLevels badFactors mostTwo mostThree badCounts badWords badWord badSign repeated dependent losesFactor factorWord any among beyond letters combined times someCombination combinesTo some bits Σℕ Σ readingLimit factorsOf size two three tabFrom total coef* divisor* denominator weight* numeratorOf squared checkWeight round rounds rowOf degreesOf sumAt
+unfolding textOf printed printRefused sheetTable tableText rowLines rowLine namedLine sourceLine checkLine lineOf labelOf kindWords lettersIn letterOf decimalIn tableFigures sourceOf totalSource checksOf rowsOf kindOf kindByMark marksRefused refusedWith planIn readingsOf readingAt twos big fieldsOf parse bodies bodyAt badFields badFrom wrongLength wrongRows anyBeyond isBeyond badMarks badMark withPlan planRefused badLevels badFactors mostTwo mostThree badCounts badWords badWord badSign repeated dependent losesFactor factorWord any among beyond letters combined times someCombination combinesTo some bits Σℕ Σ readingLimit twoReadingLimit threeReadingLimit factorsOf size two three tabFrom total coef* divisor* denominator weight* numeratorOf squared checkWeight round rounds rowOf degreesOf sumAt
 rules-text = refl
 
 abbrev pub threeSheet : List ℕ
@@ -50,7 +51,7 @@ threeSheet = 1 ∷ 0 ∷ 2 ∷ 3 ∷ 1 ∷ 4 ∷ 0 ∷ 12 ∷ 0 ∷ 0 ∷ 0 ∷ 
 
 -- X2
 pub three-text : textOf threeSheet ≡ ascii "over 6\nmean 1 200\nA 2 28\nblocks 0 0\nerror 0 0\ntotal 3 228\ncheck 4 4\n"
-unfolding textOf printed printRefused sheetTable tableText rowLines rowLine namedLine sourceLine checkLine lineOf labelOf kindWords lettersIn letterOf decimalIn tableFigures sourceOf totalSource checksOf rowsOf kindOf kindByMark marksRefused refusedWith planIn readingsOf readingAt twos big fieldsOf parse bodies bodyAt badFields badFrom wrongLength wrongRows anyBeyond isBeyond badMarks badMark withPlan planRefused badLevels badFactors mostTwo mostThree badCounts badWords badWord badSign repeated dependent losesFactor factorWord any among beyond letters combined times someCombination combinesTo some bits Σℕ Σ readingLimit factorsOf size two three tabFrom total coef* divisor* denominator weight* numeratorOf squared checkWeight round rounds rowOf degreesOf sumAt
+unfolding textOf printed printRefused sheetTable tableText rowLines rowLine namedLine sourceLine checkLine lineOf labelOf kindWords lettersIn letterOf decimalIn tableFigures sourceOf totalSource checksOf rowsOf kindOf kindByMark marksRefused refusedWith planIn readingsOf readingAt twos big fieldsOf parse bodies bodyAt badFields badFrom wrongLength wrongRows anyBeyond isBeyond badMarks badMark withPlan planRefused badLevels badFactors mostTwo mostThree badCounts badWords badWord badSign repeated dependent losesFactor factorWord any among beyond letters combined times someCombination combinesTo some bits Σℕ Σ readingLimit twoReadingLimit threeReadingLimit factorsOf size two three tabFrom total coef* divisor* denominator weight* numeratorOf squared checkWeight round rounds rowOf degreesOf sumAt
 three-text = refl
 
 abbrev blocked : List ℕ
@@ -60,11 +61,11 @@ blocked =
     ∷ 5 ∷ 0 ∷ 4 ∷ 0 ∷ 0 ∷ 1 ∷ 0 ∷ []
 
 blocked-text : textOf blocked ≡ ascii "over 4\nmean 1 16\nA 1 0\nB 1 100 error\nAB 1 4 blocks\nblocks 1 4\nerror 1 100\ntotal 4 120\ncheck -4 -4\n"
-unfolding textOf printed printRefused sheetTable tableText rowLines rowLine namedLine sourceLine checkLine lineOf labelOf kindWords lettersIn letterOf decimalIn tableFigures sourceOf totalSource checksOf rowsOf kindOf kindByMark marksRefused refusedWith planIn readingsOf readingAt twos big fieldsOf parse bodies bodyAt badFields badFrom wrongLength wrongRows anyBeyond isBeyond badMarks badMark withPlan planRefused badLevels badFactors mostTwo mostThree badCounts badWords badWord badSign repeated dependent losesFactor factorWord any among beyond letters combined times someCombination combinesTo some bits Σℕ Σ readingLimit factorsOf size two three tabFrom total coef* divisor* denominator weight* numeratorOf squared checkWeight round rounds rowOf degreesOf sumAt
+unfolding textOf printed printRefused sheetTable tableText rowLines rowLine namedLine sourceLine checkLine lineOf labelOf kindWords lettersIn letterOf decimalIn tableFigures sourceOf totalSource checksOf rowsOf kindOf kindByMark marksRefused refusedWith planIn readingsOf readingAt twos big fieldsOf parse bodies bodyAt badFields badFrom wrongLength wrongRows anyBeyond isBeyond badMarks badMark withPlan planRefused badLevels badFactors mostTwo mostThree badCounts badWords badWord badSign repeated dependent losesFactor factorWord any among beyond letters combined times someCombination combinesTo some bits Σℕ Σ readingLimit twoReadingLimit threeReadingLimit factorsOf size two three tabFrom total coef* divisor* denominator weight* numeratorOf squared checkWeight round rounds rowOf degreesOf sumAt
 blocked-text = refl
 
 -- W3, N1, N2, N13
 refused-texts : map textOf ([] ∷ (1 ∷ 0 ∷ 2 ∷ 4 ∷ 1 ∷ 4 ∷ 0 ∷ 0 ∷ 5 ∷ 0 ∷ 0 ∷ []) ∷ (1 ∷ 0 ∷ 2 ∷ 2 ∷ 1 ∷ 4 ∷ 0 ∷ 8 ∷ 0 ∷ 0 ∷ 0 ∷ 1 ∷ 0 ∷ 0 ∷ 0 ∷ 1 ∷ 5 ∷ 0 ∷ 2 ∷ 1 ∷ 0 ∷ []) ∷ [])
     ≡ ascii "refused 1\n" ∷ ascii "refused 2\n" ∷ ascii "refused 13\n" ∷ []
-unfolding textOf printed printRefused sheetTable tableText rowLines rowLine namedLine sourceLine checkLine lineOf labelOf kindWords lettersIn letterOf decimalIn tableFigures sourceOf totalSource checksOf rowsOf kindOf kindByMark marksRefused refusedWith planIn readingsOf readingAt twos big fieldsOf parse bodies bodyAt badFields badFrom wrongLength wrongRows anyBeyond isBeyond badMarks badMark withPlan planRefused badLevels badFactors mostTwo mostThree badCounts badWords badWord badSign repeated dependent losesFactor factorWord any among beyond letters combined times someCombination combinesTo some bits Σℕ Σ readingLimit factorsOf size two three tabFrom total coef* divisor* denominator weight* numeratorOf squared checkWeight round rounds rowOf degreesOf sumAt
+unfolding textOf printed printRefused sheetTable tableText rowLines rowLine namedLine sourceLine checkLine lineOf labelOf kindWords lettersIn letterOf decimalIn tableFigures sourceOf totalSource checksOf rowsOf kindOf kindByMark marksRefused refusedWith planIn readingsOf readingAt twos big fieldsOf parse bodies bodyAt badFields badFrom wrongLength wrongRows anyBeyond isBeyond badMarks badMark withPlan planRefused badLevels badFactors mostTwo mostThree badCounts badWords badWord badSign repeated dependent losesFactor factorWord any among beyond letters combined times someCombination combinesTo some bits Σℕ Σ readingLimit twoReadingLimit threeReadingLimit factorsOf size two three tabFrom total coef* divisor* denominator weight* numeratorOf squared checkWeight round rounds rowOf degreesOf sumAt
 refused-texts = refl

@@ -11,9 +11,9 @@ use mathlib.Core.List.{List}
 use Prim.Native.Nat.{ℕ, _/_}
 use lib.Dec.{eqb}
 use lib.ListN.{length}
-use Rattle.contrasts.specs.Limits.{readingLimit}
 use Rattle.plan.specs.declared.types.Plan.{Plan}
 use Rattle.plan.specs.Check.{planRefused, runCount}
+use Rattle.plan.specs.Limits.{readingLimit}
 use Rattle.plan.specs.Laws.Answers.{plan-first, after-plan}
 use Rattle.columns.specs.Refusals.{wrongLength, anyBeyond}
 use Rattle.columns.specs.Laws.Lengths.{wrong, right}
@@ -62,14 +62,14 @@ module _ (fs : Fields) (p : Plan) (narrow : Bool) (b m : List ℕ) where
 
   pub record Within : Type 0 where
     pub measured : Measured
-    pub within : anyBeyond readingLimit (readingsOf b) ≡ false
+    pub within : anyBeyond (readingLimit p) (readingsOf b) ≡ false
 
 module _ {fs : Fields} {p : Plan} {narrow : Bool} {b m : List ℕ} where
   pub lengths-wrong : Opened fs p narrow b m → (wrongLength p (length b / 4) || wrongRows p (length m)) ≡ true → 11 ≡ refusedWith fs p narrow
   unfolding refusedWith
   lengths-wrong o e = sym (rw (o .fine) (after-plan p _ (o .ok) ∙ rw (o .wide, ← (o .readings-are), ← (o .marks-are), readings-long, e) refl))
 
-  pub beyond : Measured fs p narrow b m → anyBeyond readingLimit (readingsOf b) ≡ true → 12 ≡ refusedWith fs p narrow
+  pub beyond : Measured fs p narrow b m → anyBeyond (readingLimit p) (readingsOf b) ≡ true → 12 ≡ refusedWith fs p narrow
   unfolding refusedWith
   beyond h e =
       let o = h .opened in

@@ -12,9 +12,10 @@ use Prim.Native.Nat.{ℕ}
 use lib.Dec.{ltb}
 use lib.IntN.{ℤ}
 use lib.ListN.{length, drop, replicate}
-use Rattle.contrasts.specs.Limits.{readingLimit, mostAdded, mostBlocks}
+use Rattle.contrasts.specs.Limits.{mostAdded, mostBlocks}
 use Rattle.plan.specs.declared.types.Plan.{Plan}
 use Rattle.plan.specs.Check.{withPlan}
+use Rattle.plan.specs.Limits.{readingLimit}
 use Rattle.plan.specs.Outcome.{Refusal, refusal, written}
 use Rattle.plan.specs.Plan.{runsOf}
 use Rattle.columns.specs.Refusals.{wrongLength, anyBeyond}
@@ -27,10 +28,11 @@ use Rattle.contents.specs.Contents.{planIn, readingsIn, marksIn}
 
 -- L5, L6: "the reader gives 1, 11, 12, 13"
 -- N11: "readings [..] or marks not N, [..] R long; [..] reader's column under N", where `narrow` says the last
+-- N12: "reading beyond [its limit] either way", by the plan's levels
 abbrev pub sheetRefusals : Fields → Plan → Bool → List Refusal
 sheetRefusals fs p narrow =
     refusal 11 (narrow || (wrongLength p (length (readingsIn fs)) || wrongRows p (length (marksIn fs))))
-    ∷ refusal 12 (anyBeyond readingLimit (readingsIn fs))
+    ∷ refusal 12 (anyBeyond (readingLimit p) (readingsIn fs))
     ∷ refusal 13 (badMarks p (marksIn fs))
     ∷ []
 

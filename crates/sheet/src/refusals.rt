@@ -45,7 +45,7 @@ pub fn sheet_refused(sheet: &[u8], p: Plan, narrow: bool) -> u8
     if wrong_lengths(p, readings.len() / 4, marks.len()) {
         return 11;
     }
-    if any_beyond(readings) {
+    if any_beyond(p, readings) {
         return 12;
     }
     if bad_marks(p, marks) {

@@ -2,7 +2,10 @@
 //
 //   runs(p)              how many runs there are
 //   spacing(p, factor)   how far apart the values of a factor lie
+//   reading_limit(p)     how large a reading may be
 mod counts;
+mod limits;
 
 pub use counts::runs;
 pub use counts::spacing;
+pub use limits::reading_limit;

@@ -5,6 +5,7 @@
 --   small-inputs  refusals 11 and 12, of the column that is read and of the one that is written
 use mathlib.Core.Path.{_≡_, refl}
 use mathlib.Core.List.{List, [], _∷_}
+use Prim.Native.Nat.{suc}
 use lib.IntN.{ℤ, pos}
 use Rattle.algebra.specs.Naturals.{Σℕ}
 use Rattle.algebra.specs.Bits.{bits}
@@ -31,9 +32,9 @@ four = plan 2 2 [] [] []
 abbrev readings : List ℤ
 readings = pos 3 ∷ pos 5 ∷ pos 4 ∷ pos 8 ∷ []
 
--- whatever the written column held
+-- whatever the written column held; a step that reads it is refused
 abbrev other : List ℤ
-other = pos 409_600_001 ∷ pos 7 ∷ pos 7 ∷ pos 7 ∷ []
+other = pos (suc valueLimit) ∷ pos 7 ∷ pos 7 ∷ pos 7 ∷ []
 
 -- X1
 four-steps : stepColumn four (stepColumn four readings other) other ≡ pos 20 ∷ neg 6 ∷ neg 4 ∷ pos 2 ∷ []

@@ -15,7 +15,7 @@ use Rattle.plan.specs.Plan.{runsOf}
 use Rattle.columns.specs.Refusals.{columnsRefusals, columnsRefused}
 
 -- L10: "the step 11, 12"
--- N11: "pass or step column not N"; N12: "pass or step value beyond 409,600,000 either way"
+-- N11: "pass or step column not N"; N12: "A pass or step, at either level count, now admits values to 1,024,000,000 either way."
 abbrev pub stepRefusals : Plan → List ℤ → List ℤ → List Refusal
 stepRefusals p from to = columnsRefusals valueLimit p from to
 

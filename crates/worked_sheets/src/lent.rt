@@ -13,7 +13,7 @@ const MODULUS: u64 = 2_147_483_647;
 
 // What a place holds before the call: a number that tells the place, and that no reading may be.
 fn before(place: usize) -> i32 {
-    (500_000 + place % 2048) as i32
+    (2_000_000 + place % 2048) as i32
 }
 
 pub fn fill(column: &mut [i32]) {

@@ -14,18 +14,22 @@ fn whole(levels: u8, k: u8) -> Plan {
     }
 }
 
-pub fn step(levels: u8, k: u8, from: &[i64], to: &mut [i64]) {
-    yates::step(whole(levels, k), from, to);
+// 0 where the call is done, and the number that refuses it.
+fn number_of(answer: Answer) -> u8 {
+    match answer {
+        Answer::Done => 0,
+        Answer::Refused(number) => number,
+    }
+}
+
+pub fn step(levels: u8, k: u8, from: &[i64], to: &mut [i64]) -> u8 {
+    number_of(yates::step(whole(levels, k), from, to))
 }
 
 pub fn totals(levels: u8, k: u8, readings: &[i32], column: &mut [i64]) {
     yates::totals(whole(levels, k), readings, column);
 }
 
-// 0 where the pass is done, and the number that refuses it.
 pub fn pass(levels: u8, k: u8, factor: u8, column: &mut [i64]) -> u8 {
-    match yates::pass(whole(levels, k), factor as usize, column) {
-        Answer::Done => 0,
-        Answer::Refused(number) => number,
-    }
+    number_of(yates::pass(whole(levels, k), factor as usize, column))
 }

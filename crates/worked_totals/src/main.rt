@@ -1,10 +1,12 @@
-// Works published examples by the step, totals and pass calls. `reference/published/examples.py` has the figures that the sources print, and
-// makes of the readings the text that this program must write.
+// Works published examples by the step, totals and pass calls, and tries step and pass at their limit. `reference/published/examples.py` has
+// the figures that the sources print, and makes of the readings the text that this program must write.
 mod calls;
+mod limits;
 mod readings;
 mod text;
 mod works;
 
+use limits::try_limits;
 use works::work;
 
 // An example: its number, levels, factors and readings. Few share a function, so that its check stays short.
@@ -49,7 +51,15 @@ fn work_rules() {
     work(20, 2, 2, &readings::RULES_TWO_FACTORS);
     work(21, 3, 1, &readings::RULES_THREE_LEVELS);
     work(22, 2, 3, &readings::RULES_BLOCKS);
-    work(23, 2, 1, &readings::RULES_LIMITS);
+    work(23, 2, 1, &readings::RULES_ONE_FACTOR);
+}
+
+fn try_all_limits() {
+    try_limits(2, 0);
+    try_limits(2, 1);
+    try_limits(3, 0);
+    try_limits(3, 1);
+    try_limits(3, 2);
 }
 
 fn main() {
@@ -60,4 +70,5 @@ fn main() {
     work_three_levels_of_report();
     work_three_levels_of_yates();
     work_rules();
+    try_all_limits();
 }

@@ -323,4 +323,4 @@ pub const RULES_THREE_LEVELS: [i32; 3] = [2, 5, 3];
 
 pub const RULES_BLOCKS: [i32; 8] = [1, 2, 3, 4, 5, 6, 7, 8];
 
-pub const RULES_LIMITS: [i32; 2] = [-100000, 100000];
+pub const RULES_ONE_FACTOR: [i32; 2] = [-100000, 100000];

@@ -20,7 +20,7 @@ fn size(value: i64) -> u64 {
 }
 
 // A value after a space, with a minus sign where it is below 0.
-fn print_value(value: i64) {
+pub fn print_value(value: i64) {
     if value < 0 {
         print(b" -");
     } else {

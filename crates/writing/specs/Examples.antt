@@ -14,11 +14,12 @@ use Rattle.algebra.specs.Bits.{bits}
 use Rattle.algebra.specs.Naturals.{Σℕ}
 use Rattle.algebra.specs.Search.{some}
 use Rattle.algebra.specs.Tab.{tabFrom}
-use Rattle.contrasts.specs.Limits.{readingLimit, mostTwo, mostThree}
+use Rattle.contrasts.specs.Limits.{twoReadingLimit, threeReadingLimit, mostTwo, mostThree}
 use Rattle.contrasts.specs.Factors.{two, three}
 use Rattle.contrasts.specs.Totals.{size}
 use Rattle.words.specs.Words.{letters, beyond, times, combined, any, among, repeated}
 use Rattle.plan.specs.Check.{badLevels, badFactors, badCounts, badWord, badSign, badWords, dependent, factorWord, losesFactor, planRefused, withPlan}
+use Rattle.plan.specs.Limits.{readingLimit}
 use Rattle.plan.specs.Examples.{AB, ABC, C, plan}
 use Rattle.plan.specs.Plan.{factorsOf, someCombination, combinesTo}
 use Rattle.columns.specs.Refusals.{wrongLength, isBeyond, anyBeyond}
@@ -46,20 +47,20 @@ sample-written = refl
 
 -- S9 to S12: the plan; the first four of six places; the marks
 sample-plan : readPlan sample 6 ≡ plan 2 2 [] [] []
-unfolding readPlan readRefused refusedWith planIn readingsOf readingAt twos big fieldsOf parse bodies bodyAt badFields badFrom wrongLength wrongRows anyBeyond isBeyond badMarks badMark withPlan planRefused badLevels badFactors mostTwo mostThree badCounts badWords badWord badSign repeated dependent losesFactor factorWord any among beyond letters combined times someCombination combinesTo some bits Σℕ readingLimit factorsOf size two three tabFrom
+unfolding readPlan readRefused refusedWith planIn readingsOf readingAt twos big fieldsOf parse bodies bodyAt badFields badFrom wrongLength wrongRows anyBeyond isBeyond badMarks badMark withPlan planRefused badLevels badFactors mostTwo mostThree badCounts badWords badWord badSign repeated dependent losesFactor factorWord any among beyond letters combined times someCombination combinesTo some bits Σℕ readingLimit twoReadingLimit threeReadingLimit factorsOf size two three tabFrom
 sample-plan = refl
 
 sample-column : readColumn sample (replicate 6 (pos 9)) ≡ pos 3 ∷ pos 5 ∷ pos 4 ∷ pos 8 ∷ pos 9 ∷ pos 9 ∷ []
-unfolding readColumn readRefused refusedWith planIn readingsOf readingAt twos big fieldsOf parse bodies bodyAt badFields badFrom wrongLength wrongRows anyBeyond isBeyond badMarks badMark withPlan planRefused badLevels badFactors mostTwo mostThree badCounts badWords badWord badSign repeated dependent losesFactor factorWord any among beyond letters combined times someCombination combinesTo some bits Σℕ readingLimit factorsOf size two three tabFrom
+unfolding readColumn readRefused refusedWith planIn readingsOf readingAt twos big fieldsOf parse bodies bodyAt badFields badFrom wrongLength wrongRows anyBeyond isBeyond badMarks badMark withPlan planRefused badLevels badFactors mostTwo mostThree badCounts badWords badWord badSign repeated dependent losesFactor factorWord any among beyond letters combined times someCombination combinesTo some bits Σℕ readingLimit twoReadingLimit threeReadingLimit factorsOf size two three tabFrom
 sample-column = refl
 
 sample-marks : marksOf sample ≡ 0 ∷ 0 ∷ 0 ∷ 1 ∷ []
-unfolding marksOf marksRefused refusedWith planIn readingsOf readingAt twos big fieldsOf parse bodies bodyAt badFields badFrom wrongLength wrongRows anyBeyond isBeyond badMarks badMark withPlan planRefused badLevels badFactors mostTwo mostThree badCounts badWords badWord badSign repeated dependent losesFactor factorWord any among beyond letters combined times someCombination combinesTo some bits Σℕ readingLimit factorsOf size two three tabFrom
+unfolding marksOf marksRefused refusedWith planIn readingsOf readingAt twos big fieldsOf parse bodies bodyAt badFields badFrom wrongLength wrongRows anyBeyond isBeyond badMarks badMark withPlan planRefused badLevels badFactors mostTwo mostThree badCounts badWords badWord badSign repeated dependent losesFactor factorWord any among beyond letters combined times someCombination combinesTo some bits Σℕ readingLimit twoReadingLimit threeReadingLimit factorsOf size two three tabFrom
 sample-marks = refl
 
 -- N11, L2: a column of three places: nothing is written, and the plan is all zeros
 narrow : (readRefused sample 3 ≡ 11) × (readPlan sample 3 ≡ noPlan) × (readColumn sample (replicate 3 (pos 9)) ≡ replicate 3 (pos 9))
-unfolding readPlan readColumn readRefused refusedWith planIn readingsOf readingAt twos big fieldsOf parse bodies bodyAt badFields badFrom wrongLength wrongRows anyBeyond isBeyond badMarks badMark withPlan planRefused badLevels badFactors mostTwo mostThree badCounts badWords badWord badSign repeated dependent losesFactor factorWord any among beyond letters combined times someCombination combinesTo some bits Σℕ readingLimit factorsOf size two three tabFrom
+unfolding readPlan readColumn readRefused refusedWith planIn readingsOf readingAt twos big fieldsOf parse bodies bodyAt badFields badFrom wrongLength wrongRows anyBeyond isBeyond badMarks badMark withPlan planRefused badLevels badFactors mostTwo mostThree badCounts badWords badWord badSign repeated dependent losesFactor factorWord any among beyond letters combined times someCombination combinesTo some bits Σℕ readingLimit twoReadingLimit threeReadingLimit factorsOf size two three tabFrom
 narrow = (refl, refl, refl)
 
 -- N1 to N8, N11 to N13: the small inputs; and seven added factors
@@ -74,16 +75,16 @@ refusedSheets =
     ∷ sheetOf (plan 2 3 [] [] (AB ∷ AB ∷ [])) four (0 ∷ 0 ∷ [])
     ∷ sheetOf (plan 2 3 [] [] (AB ∷ ABC ∷ [])) four (0 ∷ 0 ∷ [])
     ∷ sheetOf (plan 2 2 [] [] []) (pos 3 ∷ pos 5 ∷ pos 4 ∷ []) (0 ∷ 0 ∷ 0 ∷ 0 ∷ [])
-    ∷ sheetOf (plan 2 2 [] [] []) (pos 3 ∷ pos 5 ∷ pos 100001 ∷ pos 8 ∷ []) (0 ∷ 0 ∷ 0 ∷ 0 ∷ [])
+    ∷ sheetOf (plan 3 1 [] [] []) (pos 2 ∷ pos 5 ∷ pos 100_001 ∷ []) (0 ∷ 0 ∷ [])
     ∷ sheetOf (plan 2 2 [] [] []) four (1 ∷ 0 ∷ 0 ∷ 0 ∷ [])
     ∷ sheetOf (plan 2 4 (replicate 7 AB) (replicate 7 0) []) four (0 ∷ 0 ∷ [])
     ∷ []
 
 small-inputs : map (λ sheet. readRefused sheet 8) refusedSheets ≡ 1 ∷ 2 ∷ 3 ∷ 4 ∷ 5 ∷ 6 ∷ 7 ∷ 8 ∷ 11 ∷ 12 ∷ 13 ∷ 4 ∷ []
-unfolding sheetOf sheetFields bytesOf each readingBytes bytes readRefused refusedWith planIn readingsOf readingAt twos big fieldsOf parse bodies bodyAt badFields badFrom wrongLength wrongRows anyBeyond isBeyond badMarks badMark withPlan planRefused badLevels badFactors mostTwo mostThree badCounts badWords badWord badSign repeated dependent losesFactor factorWord any among beyond letters combined times someCombination combinesTo some bits Σℕ readingLimit factorsOf size two three tabFrom
+unfolding sheetOf sheetFields bytesOf each readingBytes bytes readRefused refusedWith planIn readingsOf readingAt twos big fieldsOf parse bodies bodyAt badFields badFrom wrongLength wrongRows anyBeyond isBeyond badMarks badMark withPlan planRefused badLevels badFactors mostTwo mostThree badCounts badWords badWord badSign repeated dependent losesFactor factorWord any among beyond letters combined times someCombination combinesTo some bits Σℕ readingLimit twoReadingLimit threeReadingLimit factorsOf size two three tabFrom
 small-inputs = refl
 
 -- S13: "if the sheet is refused, an empty part"; of `sample`, which only a narrow column has refused, it gives the marks all the same
 no-marks : map marksOf refusedSheets ≡ replicate 12 []
-unfolding sheetOf sheetFields bytesOf each readingBytes bytes marksOf marksRefused refusedWith planIn readingsOf readingAt twos big fieldsOf parse bodies bodyAt badFields badFrom wrongLength wrongRows anyBeyond isBeyond badMarks badMark withPlan planRefused badLevels badFactors mostTwo mostThree badCounts badWords badWord badSign repeated dependent losesFactor factorWord any among beyond letters combined times someCombination combinesTo some bits Σℕ readingLimit factorsOf size two three tabFrom
+unfolding sheetOf sheetFields bytesOf each readingBytes bytes marksOf marksRefused refusedWith planIn readingsOf readingAt twos big fieldsOf parse bodies bodyAt badFields badFrom wrongLength wrongRows anyBeyond isBeyond badMarks badMark withPlan planRefused badLevels badFactors mostTwo mostThree badCounts badWords badWord badSign repeated dependent losesFactor factorWord any among beyond letters combined times someCombination combinesTo some bits Σℕ readingLimit twoReadingLimit threeReadingLimit factorsOf size two three tabFrom
 no-marks = refl

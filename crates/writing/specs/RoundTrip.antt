@@ -13,8 +13,8 @@ use Rattle.writing.specs.Writer.{settled, sheetOf}
 use mathlib.Core.Path.{_≡_}
 use mathlib.Core.Bool.{false}
 use Rattle.plan.specs.declared.types.Plan.{Plan}
-use Rattle.contrasts.specs.Limits.{readingLimit}
 use Rattle.plan.specs.Check.{planRefused}
+use Rattle.plan.specs.Limits.{readingLimit}
 use Rattle.plan.specs.Plan.{runsOf}
 use Rattle.columns.specs.Refusals.{anyBeyond}
 use Rattle.rows.specs.Kinds.{rowsIn, badMarks}
@@ -41,7 +41,7 @@ pub record Sheetable (p : Plan) (xs : List ℤ) (marks : List ℕ) : Type 0 wher
   pub shaped : Shaped p
   pub accepted : planRefused p ≡ 0
   pub whole : length xs ≡ runsOf p
-  pub within : anyBeyond readingLimit xs ≡ false
+  pub within : anyBeyond (readingLimit p) xs ≡ false
   pub rows : length marks ≡ rowsIn p
   pub lawful : badMarks p marks ≡ false
 

@@ -19,7 +19,7 @@ use lib.Seq.{take-length}
 use Rattle.algebra.specs.Tab.{tab}
 use Rattle.algebra.specs.Laws.Tab.{length-tab, getD-tab}
 use Rattle.contrasts.specs.Columns.{read, AllWithin, passOf, passesOf, totalsOf}
-use Rattle.contrasts.specs.Limits.{readingLimit, valueLimit}
+use Rattle.contrasts.specs.Limits.{valueLimit}
 use Rattle.contrasts.specs.Factors.{ofLevels}
 use Rattle.contrasts.specs.Totals.{size}
 use Rattle.contrasts.specs.Passes.{passes, count}
@@ -32,9 +32,11 @@ use Rattle.contrasts.specs.Laws.Order.{inOrder, in-order}
 use Rattle.contrasts.specs.Laws.Stretches.{passOver}
 use Rattle.plan.specs.declared.types.Plan.{Plan}
 use Rattle.plan.specs.Check.{spacingAt}
+use Rattle.plan.specs.Limits.{readingLimit, numeratorLimit}
 use Rattle.plan.specs.Plan.{factorsOf}
 use Rattle.plan.specs.Laws.Accepted.{accepted}
-use Rattle.plan.specs.Laws.Sizes.{as-power, spacing-power, spacing-is, plan-kind, plan-within}
+use Rattle.plan.specs.Laws.Limits.{plan-roomy}
+use Rattle.plan.specs.Laws.Sizes.{as-power, spacing-power, spacing-is, plan-kind}
 use Rattle.columns.specs.Laws.Admitted.{Columns}
 use Rattle.yates.specs.Laws.Admitted.{PassAdmitted}
 use Rattle.yates.specs.Inner.Ready.{Stretches, PassReadings}
@@ -75,12 +77,15 @@ module _ {p : Plan} {f : ℕ} {xs : List ℤ} (a : PassAdmitted p f xs) {s : ℕ
 
 -- ---- the totals
 
-module _ {p : Plan} {readings totals : List ℤ} (a : Columns readingLimit p readings totals) where
+module _ {p : Plan} {readings totals : List ℤ} (a : Columns (readingLimit p) p readings totals) where
   pub totals-ready : PassReadings (p .levels) (p .k) readings
+  unfolding factorsOf
   totals-ready =
       record {
         kind = plan-kind p (a .plan);
-        admitted = plan-within p (a .plan);
+        limit = readingLimit p;
+        numerators = numeratorLimit p;
+        roomy = plan-roomy p (a .plan);
         whole = as-power p (a .plan) (a .whole);
         within = a .within;
       }
@@ -114,7 +119,7 @@ module _ {l k : ℕ} {xs : List ℤ} (pre : PassReadings l k xs) where
     small =
         rw column
         (within-tab _ valueLimit _
-        (values-fit (ofLevels l) k (pre .admitted) (read xs) (λ r _. pre .within r) (inOrder k) (λ j h. omega (arith, once j h)) f))
+        (values-fit (pre .roomy) (read xs) (λ r _. pre .within r) (inOrder k) (λ j h. omega (arith, once j h)) f))
 
     pub all-done : k ≤ f → ys ≡ totalsOf (replicate k (ofLevels l)) xs
     all-done h =

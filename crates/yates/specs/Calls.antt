@@ -10,16 +10,17 @@ use lib.Dec.{leb}
 use lib.IntN.{ℤ}
 use lib.ListN.{length}
 use Rattle.contrasts.specs.Columns.{passOf, totalsOf}
-use Rattle.contrasts.specs.Limits.{readingLimit, valueLimit}
+use Rattle.contrasts.specs.Limits.{valueLimit}
 use Rattle.plan.specs.declared.types.Plan.{Plan}
 use Rattle.plan.specs.Check.{withPlan}
+use Rattle.plan.specs.Limits.{readingLimit}
 use Rattle.plan.specs.Outcome.{Refusal, refusal, written}
 use Rattle.plan.specs.Plan.{factorsOf}
 use Rattle.columns.specs.Refusals.{wrongLength, anyBeyond, columnsRefusals, columnsRefused}
 
 -- L9: "the pass 10, 11, 12"
 -- N10: "pass factor [..] not a base factor"; N11: "pass or step column not N";
--- N12: "pass or step value beyond 409,600,000 either way"
+-- N12: "A pass or step, at either level count, now admits values to 1,024,000,000 either way."
 abbrev pub passRefusals : Plan → ℕ → List ℤ → List Refusal
 passRefusals p f xs = refusal 10 (leb (p .k) f) ∷ refusal 11 (wrongLength p (length xs)) ∷ refusal 12 (anyBeyond valueLimit xs) ∷ []
 
@@ -30,12 +31,12 @@ passRefused p f xs = withPlan p (passRefusals p f xs)
 unfoldable pub passColumn : Plan → ℕ → List ℤ → List ℤ
 passColumn p f xs = written (passRefused p f xs) (passOf (factorsOf p) f xs) xs
 
--- N11: "readings, totals [..] not N [..] long"; N12: "reading beyond 100,000 either way"
+-- N11: "readings, totals [..] not N [..] long"; N12: "reading beyond [its limit] either way", by the plan's levels
 abbrev pub totalsRefusals : Plan → List ℤ → List ℤ → List Refusal
-totalsRefusals p readings totals = columnsRefusals readingLimit p readings totals
+totalsRefusals p readings totals = columnsRefusals (readingLimit p) p readings totals
 
 abbrev pub totalsRefused : Plan → List ℤ → List ℤ → ℕ
-totalsRefused p readings totals = columnsRefused readingLimit p readings totals
+totalsRefused p readings totals = columnsRefused (readingLimit p) p readings totals
 
 -- T2: "Totals are i64, N of them."
 unfoldable pub totalsColumn : Plan → List ℤ → List ℤ → List ℤ

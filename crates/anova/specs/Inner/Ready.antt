@@ -5,16 +5,16 @@
 --   Weighable t w                          a numerator fits
 --   Walkable ts effects d ds kinds rows    the walk stays within its slices, and its sums fit
 --   Sets n xs                              n sets of three that a round turns
---   Rounds k xs                            the readings of k three-level factors
+--   Rounds k xs                            the readings of k three-level factors, within a limit that leaves room for the rounds
 --   Checkable levels k readings column     readings of an accepted plan, and a column for the rounds
 use mathlib.Core.Path.{_≡_}
 use mathlib.Core.List.{List}
-use Prim.Native.Nat.{ℕ, _*_, _/_, _^_, _<_, _≤_}
+use Prim.Native.Nat.{ℕ, _-_, _*_, _/_, _^_, _<_, _≤_}
 use lib.IntN.{ℤ, natAbs}
 use lib.ListN.{length, getD}
 use Rattle.algebra.specs.Naturals.{Σℕ}
 use Rattle.contrasts.specs.Columns.{AllWithin}
-use Rattle.contrasts.specs.Limits.{readingLimit, valueLimit}
+use Rattle.contrasts.specs.Limits.{valueLimit}
 use Rattle.contrasts.specs.Factors.{ofLevels}
 use Rattle.anova.specs.Inner.Walk.{walkNumerator, walkRow, walkKind, zeros, squaresOf}
 
@@ -45,14 +45,18 @@ pub record Sets (n : ℕ) (xs : List ℤ) : Type 0 where
   pub within : AllWithin valueLimit xs
 
 pub record Rounds (k : ℕ) (xs : List ℤ) : Type 0 where
-  pub most : k ≤ 6
+  pub limit : ℕ
+  -- a round makes a number no more than 5 times as large; the last one's may be larger than a value
+  pub roomy : 5 ^ (k - 1) * limit ≤ valueLimit
   pub whole : length xs ≡ 3 ^ k
-  pub within : AllWithin readingLimit xs
+  pub within : AllWithin limit xs
 
 pub record Checkable (levels k : ℕ) (readings column : List ℤ) : Type 0 where
   pub kind : ofLevels levels .levels ≡ levels
-  pub most : (levels ≡ 2 → ⊥) → k ≤ 6
+  pub limit : ℕ
+  pub first-roomy : limit ≤ valueLimit
+  pub rounds-roomy : (levels ≡ 2 → ⊥) → 5 ^ (k - 1) * limit ≤ valueLimit
   pub few : length readings ≤ 1024
   pub whole : length readings ≡ levels ^ k
   pub same : length column ≡ length readings
-  pub within : AllWithin readingLimit readings
+  pub within : AllWithin limit readings

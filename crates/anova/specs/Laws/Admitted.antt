@@ -4,7 +4,6 @@
 --   table-admitted                             these, from the number
 --   table-admits                               and this is all that is asked, with readings within the limit and marks that are lawful
 --   rows-power                                 R is 2 to the power of the number of factors
---   limit-fits                                 the limit of numerators fits an i64
 --   within-limit                               the total, by the sum of squares, is within that limit
 use mathlib.Core.Path.{_≡_, refl, _∙_, ap}
 use mathlib.Core.Bool.{false, _||_}
@@ -12,20 +11,19 @@ use mathlib.Core.List.{List}
 use Prim.Native.Nat.{ℕ, _*_, _^_, _<_, _≤_}
 use native.Mathlib.Omega.{arith}
 use borrow.Author.Tests.{eq-eqb}
-use lib.Dec.{lit<}
 use lib.IntN.{ℤ}
 use lib.ListN.{length, length-replicate}
 use Rattle.algebra.specs.Laws.Tests.{neither}
 use Rattle.contrasts.specs.Columns.{read, AllWithin}
-use Rattle.contrasts.specs.Limits.{readingLimit, numeratorLimit}
 use Rattle.contrasts.specs.Factors.{ofLevels}
 use Rattle.contrasts.specs.Totals.{denominator, squared}
 use Rattle.contrasts.specs.Laws.Limits.{total-fits}
 use Rattle.plan.specs.declared.types.Plan.{Plan}
 use Rattle.plan.specs.Check.{planRefused}
+use Rattle.plan.specs.Limits.{readingLimit, numeratorLimit}
 use Rattle.plan.specs.Plan.{factorsOf, runsOf}
 use Rattle.plan.specs.Laws.Answers.{passed, plan-passed, after-plan}
-use Rattle.plan.specs.Laws.Sizes.{plan-within}
+use Rattle.plan.specs.Laws.Limits.{plan-roomy}
 use Rattle.columns.specs.Refusals.{wrongLength, anyBeyond}
 use Rattle.columns.specs.Laws.Admitted.{all-within, as-long}
 use Rattle.rows.specs.Kinds.{rowsIn, wrongRows, badMarks}
@@ -37,7 +35,7 @@ pub record TableReady (p : Plan) (readings : List ℤ) (marks : List ℕ) (total
   pub whole : length readings ≡ runsOf p
   pub same : length totals ≡ runsOf p
   pub rows-long : length rows ≡ rowsIn p
-  pub within : AllWithin readingLimit readings
+  pub within : AllWithin (readingLimit p) readings
 
 pub table-admitted : (p : Plan) (readings : List ℤ) (marks : List ℕ) (totals : List ℤ) (rows : List ℕ)
     → tableRefused p readings marks totals rows ≡ 0 → TableReady p readings marks totals rows
@@ -45,7 +43,7 @@ unfolding tableRefused wrongLengths
 table-admitted p readings marks totals rows e =
     let q = plan-passed p _ e in
     let l11 = passed (wrongLengths p (length readings) (length marks) (length totals) (length rows)) 11 _ (omega arith) (q .1) in
-    let l12 = passed (anyBeyond readingLimit readings) 12 _ (omega arith) (l11 .1) in
+    let l12 = passed (anyBeyond (readingLimit p) readings) 12 _ (omega arith) (l11 .1) in
     let a = neither (wrongLength p (length readings)) (wrongLength p (length totals) || (wrongRows p (length rows) || wrongRows p (length marks))) (l11 .0) in
     let b = neither (wrongLength p (length totals)) (wrongRows p (length rows) || wrongRows p (length marks)) (a .1) in
     let c = neither (wrongRows p (length rows)) (wrongRows p (length marks)) (b .1) in
@@ -54,12 +52,12 @@ table-admitted p readings marks totals rows e =
       whole = as-long p (length readings) (a .0);
       same = as-long p (length totals) (b .0);
       rows-long = rows-as-long p (length rows) (c .0);
-      within = all-within readingLimit readings (l12 .0);
+      within = all-within (readingLimit p) readings (l12 .0);
     }
 
 module _ (p : Plan) (readings : List ℤ) (marks : List ℕ) (totals : List ℤ) (rows : List ℕ) where
   pub table-admits : planRefused p ≡ 0 → length readings ≡ runsOf p → length totals ≡ runsOf p → length rows ≡ rowsIn p → length marks ≡ rowsIn p
-      → anyBeyond readingLimit readings ≡ false → badMarks p marks ≡ false → tableRefused p readings marks totals rows ≡ 0
+      → anyBeyond (readingLimit p) readings ≡ false → badMarks p marks ≡ false → tableRefused p readings marks totals rows ≡ 0
   unfolding tableRefused wrongLengths wrongLength wrongRows
   table-admits ok n m r q within lawful =
       after-plan p _ ok
@@ -69,10 +67,6 @@ module _ (p : Plan) (readings : List ℤ) (marks : List ℕ) (totals : List ℤ)
 
 -- ---- sizes
 
-pub limit-fits : numeratorLimit < 2 ^ 63
-unfolding numeratorLimit
-limit-fits = lit< tt
-
 module _ {p : Plan} {readings : List ℤ} {marks : List ℕ} {totals : List ℤ} {rows : List ℕ} (a : TableReady p readings marks totals rows) where
   factors-count : length (factorsOf p) ≡ p .k
   unfolding factorsOf
@@ -81,6 +75,5 @@ module _ {p : Plan} {readings : List ℤ} {marks : List ℕ} {totals : List ℤ}
   pub rows-power : 2 ^ length (factorsOf p) ≡ rowsIn p
   rows-power = ap (λ n. 2 ^ n) factors-count
 
-  pub within-limit : denominator (factorsOf p) * squared (factorsOf p) (read readings) ≤ numeratorLimit
-  unfolding factorsOf
-  within-limit = total-fits (ofLevels (p .levels)) (p .k) (plan-within p (a .plan)) (read readings) (λ r _. a .within r)
+  pub within-limit : denominator (factorsOf p) * squared (factorsOf p) (read readings) ≤ numeratorLimit p
+  within-limit = total-fits (plan-roomy p (a .plan)) (read readings) (λ r _. a .within r)

@@ -21,7 +21,6 @@ use Rattle.algebra.specs.Laws.Naturals.{Σℕ-by, Σℕ-some}
 use Rattle.algebra.specs.Sorted.{sumAt}
 use Rattle.algebra.specs.Laws.Sorted.{sum-least}
 use Rattle.contrasts.specs.Columns.{read}
-use Rattle.contrasts.specs.Limits.{numeratorLimit}
 use Rattle.contrasts.specs.Rows.{rowOf, degreesOf, rowNumerator}
 use Rattle.contrasts.specs.Factors.{ofLevels}
 use Rattle.contrasts.specs.Totals.{total, denominator, numerator, squared}
@@ -31,8 +30,9 @@ use Rattle.contrasts.specs.Laws.Degrees.{row-lt, degrees-sum}
 use Rattle.contrasts.specs.Laws.Limits.{sizes-fit, numerators-fit}
 use Rattle.contrasts.specs.Laws.Squares.{numerators, total-within, check-within}
 use Rattle.plan.specs.declared.types.Plan.{Plan}
+use Rattle.plan.specs.Limits.{numeratorLimit}
 use Rattle.plan.specs.Plan.{factorsOf, runsOf}
-use Rattle.plan.specs.Laws.Sizes.{plan-within}
+use Rattle.plan.specs.Laws.Limits.{plan-roomy, some-reading}
 use Rattle.rows.specs.Kinds.{rowsIn, Kind, kindOf, same}
 use Rattle.anova.specs.Laws.Admitted.{TableReady, rows-power, within-limit}
 use Rattle.anova.specs.Table.{sourceOf, totalSource, checksOf, SourceWithin}
@@ -49,23 +49,21 @@ module _ {p : Plan} {readings : List ℤ} {marks : List ℕ} {totals : List ℤ}
   pub all-degrees : Σℕ (rowsIn p) (degreesOf (factorsOf p)) ≡ runsOf p
   all-degrees = rw (rows-power a) at (degrees-sum (factorsOf p))
 
-  -- ---- "No numerator, and no sum of them in one table, exceeds 340,122,240,000,000,000"
+  -- ---- "No numerator, and no sum of them in one table, exceeds" the limit of the plan
 
-  pub fit : (denominator (factorsOf p) ≤ numeratorLimit) × (runsOf p ≤ numeratorLimit)
-  unfolding factorsOf
-  fit = sizes-fit (ofLevels (p .levels)) (p .k) (plan-within p (a .plan))
+  pub fit : (denominator (factorsOf p) ≤ numeratorLimit p) × (runsOf p ≤ numeratorLimit p)
+  fit = sizes-fit (plan-roomy p (a .plan)) (some-reading p)
 
   pub some-within : (n : ℕ) (some : ℕ → Bool) → n ≤ runsOf p
-      → Σℕ n (λ e. cond (some e) (numerator (factorsOf p) (read readings) e) 0) ≤ numeratorLimit
-  unfolding factorsOf
-  some-within = numerators-fit (ofLevels (p .levels)) (p .k) (plan-within p (a .plan)) (read readings) (λ r _. a .within r)
+      → Σℕ n (λ e. cond (some e) (numerator (factorsOf p) (read readings) e) 0) ≤ numeratorLimit p
+  some-within = numerators-fit (plan-roomy p (a .plan)) (read readings) (λ r _. a .within r)
 
-  pub row-within : (w : ℕ) → rowNumerator (factorsOf p) (read readings) w ≤ numeratorLimit
+  pub row-within : (w : ℕ) → rowNumerator (factorsOf p) (read readings) w ≤ numeratorLimit p
   row-within w =
       le-trans (rw (numerators (factorsOf p) (read readings)) at (sum-least (rowOf (factorsOf p)) (numerator (factorsOf p) (read readings)) (runsOf p) (runsOf p) w (omega arith)))
       (within-limit a)
 
-  pub kind-within : (c : Kind) → SourceWithin (sourceOf p readings marks c)
+  pub kind-within : (c : Kind) → SourceWithin (numeratorLimit p) (sourceOf p readings marks c)
   unfolding sourceOf
   kind-within c =
       record {
@@ -73,18 +71,18 @@ module _ {p : Plan} {readings : List ℤ} {marks : List ℕ} {totals : List ℤ}
         numerator = le-trans (Σℕ-some (rowsIn p) (rowsIn p) (λ w. same (kindOf p marks w) c) (rowNumerator (factorsOf p) (read readings)) (omega arith)) (rw all-rows (within-limit a));
       }
 
-  pub total-source-within : SourceWithin (totalSource p readings)
+  pub total-source-within : SourceWithin (numeratorLimit p) (totalSource p readings)
   unfolding totalSource
   total-source-within = record { degrees = fit .1; numerator = within-limit a }
 
   -- ---- the totals and the check numbers, in size
 
-  pub total-within-limit : (e : ℕ) → e < runsOf p → natAbs (total (factorsOf p) (read readings) e) ≤ numeratorLimit
+  pub total-within-limit : (e : ℕ) → e < runsOf p → natAbs (total (factorsOf p) (read readings) e) ≤ numeratorLimit p
   total-within-limit e h = le-trans (total-within (factorsOf p) (read readings) e h) (within-limit a)
 
-  pub check-small : natAbs (rounds (factorsOf p) (read readings)) ≤ numeratorLimit
+  pub check-small : natAbs (rounds (factorsOf p) (read readings)) ≤ numeratorLimit p
   check-small = rw (← (check-rounds (factorsOf p) (read readings))) (le-trans (check-within (factorsOf p) (read readings)) (within-limit a))
 
-  pub checks-within : (natAbs (checksOf p readings .totals) ≤ numeratorLimit) × (natAbs (checksOf p readings .readings) ≤ numeratorLimit)
+  pub checks-within : (natAbs (checksOf p readings .totals) ≤ numeratorLimit p) × (natAbs (checksOf p readings .readings) ≤ numeratorLimit p)
   unfolding checksOf
   checks-within = (le-trans (check-within (factorsOf p) (read readings)) (within-limit a), check-small)

@@ -25,7 +25,7 @@ use Rattle.plan.specs.Examples.{plan}
 use Rattle.plan.specs.Outcome.{Outcome, outcome}
 use Rattle.plan.specs.Plan.{factorsOf, runsOf}
 use Rattle.plan.specs.Laws.Answers.{unwritten, written-new}
-use Rattle.plan.specs.Laws.Sizes.{plan-within}
+use Rattle.plan.specs.Laws.Limits.{plan-roomy}
 use Rattle.yates.specs.Calls.{passRefused, passColumn}
 use Rattle.yates.specs.Laws.Admitted.{PassAdmitted, pass-admits, pass-ten}
 use Rattle.claims.specs.AnyOrder.{afterCalls, Readings, EachOnce, call, found, answer, doneOrTen, ownPass, AnyOrder}
@@ -59,7 +59,7 @@ module _ (p : Plan) (ok : planRefused p ≡ 0) (xs : List ℤ) (start : Readings
   small n =
       rw (as-table n)
       (within-tab (runsOf p) valueLimit (passes (factorsOf p) (take n calls) (read xs))
-      (values-fit (ofLevels (p .levels)) (p .k) (plan-within p ok) (read xs) (λ r _. start .within r) calls
+      (values-fit (plan-roomy p ok) (read xs) (λ r _. start .within r) calls
       (λ f h. omega (arith, once f (rw (length-replicate (p .k) (ofLevels (p .levels))) at h))) n))
 
   admitted : (n : ℕ) → call calls n < p .k → PassAdmitted p (call calls n) (passed n)

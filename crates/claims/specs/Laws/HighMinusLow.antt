@@ -18,7 +18,6 @@ use lib.Pow.{pow-lt, pow-pos}
 use Rattle.algebra.specs.Sum.{Σ}
 use Rattle.algebra.specs.Laws.Tab.{getD-tab}
 use Rattle.contrasts.specs.Columns.{read, totalsOf}
-use Rattle.contrasts.specs.Limits.{readingLimit}
 use Rattle.contrasts.specs.Totals.{Column, total}
 use Rattle.contrasts.specs.Laws.Signed.{contrast-turned, contrast-all, count-half}
 use Rattle.words.specs.Words.{has, oddWord, oddIn, plusIn}
@@ -26,6 +25,7 @@ use Rattle.words.specs.Laws.Parity.{odd-swap, none-odd, plus-odd, one-plus}
 use Rattle.plan.specs.declared.types.Plan.{Plan}
 use Rattle.plan.specs.Outcome.{Outcome, given, refused}
 use Rattle.plan.specs.Plan.{addedWords, addedSigns, factorsOf, runsOf, allLetters, confoundedIn}
+use Rattle.plan.specs.Limits.{readingLimit}
 use Rattle.plan.specs.Laws.Answers.{given-with, refused-with, written-new}
 use Rattle.plan.specs.Laws.Coefficients.{plan-total, plan-balance}
 use Rattle.plan.specs.Laws.Confounded.{letter-kept, word-kept, word-some}
@@ -132,7 +132,7 @@ module _ (p : Plan) (t : TwoLevels p) (readings totals : List ℤ) (n : totalsRe
 
   no-refusal : estimateRefused p e total-of ≡ 0
   no-refusal =
-      let c = admitted readingLimit p readings totals n in
+      let c = admitted (readingLimit p) p readings totals n in
       admits (totals-admitted p (t .accepted) (t .two) (read readings) (λ r l. c .within r) e h)
 
   found : Estimated p e total-of

@@ -12,8 +12,8 @@ use Rattle.plan.specs.declared.types.Plan.{Plan}
 use Rattle.plan.specs.Check.{planRefusals, planRefused, withPlan}
 use Rattle.plan.specs.Outcome.{Refusal, refusal, lowest, Lowest}
 use Rattle.plan.specs.Plan.{runsOf}
+use Rattle.plan.specs.Limits.{readingLimit}
 use Rattle.plan.specs.Laws.Lowest.{is-lowest, with-plan, lowest-with-plan}
-use Rattle.contrasts.specs.Limits.{readingLimit}
 use Rattle.columns.specs.Refusals.{anyBeyond, columnsRefused}
 use Rattle.rows.specs.Kinds.{badMarks}
 use Rattle.runs.specs.Run.{runRefusals, runRefused}
@@ -58,7 +58,7 @@ of-table p readings marks column rows figures checks = by (wrongRoom (length fig
   where
     by : (room : Bool) → cond room (withPlan p (refusal 11 true ∷ [])) (withPlan p (tableRefusals p readings marks column rows))
         ≡ withPlan p (refusal 11 (room || wrongLengths p (length readings) (length marks) (length column) (length rows))
-        ∷ refusal 12 (anyBeyond readingLimit readings) ∷ refusal 13 (badMarks p marks) ∷ [])
+        ∷ refusal 12 (anyBeyond (readingLimit p) readings) ∷ refusal 13 (badMarks p marks) ∷ [])
     by true = refl
     by false = refl
 

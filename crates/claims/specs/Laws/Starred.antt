@@ -9,13 +9,14 @@ use Rattle.algebra.specs.Sorted.{sumAt}
 use Rattle.algebra.specs.Sum.{Σ}
 use Rattle.algebra.specs.Tab.{tabFrom}
 use Rattle.contrasts.specs.Columns.{totalsOf}
-use Rattle.contrasts.specs.Limits.{readingLimit, mostTwo, mostThree}
+use Rattle.contrasts.specs.Limits.{twoReadingLimit, threeReadingLimit, mostTwo, mostThree}
 use Rattle.contrasts.specs.Rows.{rowOf, degreesOf}
 use Rattle.contrasts.specs.Factors.{two, three}
 use Rattle.contrasts.specs.Totals.{size, coef*, total, divisor*, denominator, weight*, numeratorOf, squared}
 use Rattle.contrasts.specs.Checks.{checkWeight, round, rounds}
 use Rattle.words.specs.Words.{letters, beyond, times, combined, any, among, repeated}
 use Rattle.plan.specs.Plan.{factorsOf, someCombination, combinesTo}
+use Rattle.plan.specs.Limits.{readingLimit}
 use Rattle.plan.specs.Check.{badLevels, badFactors, badCounts, badWord, badSign, badWords, dependent, factorWord, losesFactor, planRefused, withPlan, runCount, confoundedAccepted}
 use Rattle.aliases.specs.Alias.{baseWord, signOnes, oddSigns, turned, aliasRefused}
 use Rattle.columns.specs.Refusals.{wrongLength, isBeyond, anyBeyond}
@@ -27,5 +28,5 @@ use Rattle.anova.specs.Table.{wrongLengths, tableRefused, sourceOf, totalSource
 use Rattle.claims.specs.Starred.{Starred}
 
 pub starred : Starred
-unfolding tableRefused tableTotals tableRows tableFigures sourceOf totalSource checksOf rowsOf wrongLengths wrongRows wrongLength anyBeyond isBeyond badMarks badMark kindOf kindByMark withPlan planRefused badLevels badFactors mostTwo mostThree badCounts badWords badWord badSign repeated dependent losesFactor factorWord any among beyond letters combined times someCombination combinesTo some bits Σℕ Σ readingLimit factorsOf size two three total coef* totalsOf tabFrom divisor* denominator weight* numeratorOf squared checkWeight round rounds rowOf degreesOf sumAt baseWord signOnes oddSigns turned aliasRefused estimateRefused valueBy meanOf differenceOf printedTotal quotient runCount effectDivisors confoundedAccepted
+unfolding tableRefused tableTotals tableRows tableFigures sourceOf totalSource checksOf rowsOf wrongLengths wrongRows wrongLength anyBeyond isBeyond badMarks badMark kindOf kindByMark withPlan planRefused badLevels badFactors mostTwo mostThree badCounts badWords badWord badSign repeated dependent losesFactor factorWord any among beyond letters combined times someCombination combinesTo some bits Σℕ Σ readingLimit twoReadingLimit threeReadingLimit factorsOf size two three total coef* totalsOf tabFrom divisor* denominator weight* numeratorOf squared checkWeight round rounds rowOf degreesOf sumAt baseWord signOnes oddSigns turned aliasRefused estimateRefused valueBy meanOf differenceOf printedTotal quotient runCount effectDivisors confoundedAccepted
 starred = refl

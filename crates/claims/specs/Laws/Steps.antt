@@ -5,17 +5,16 @@ use mathlib.Core.Path.{_≡_, refl, sym, _∙_, ap}
 use mathlib.Core.List.{List}
 use Prim.Native.Nat.{ℕ, zero, suc, _<_, _≤_}
 use native.Mathlib.Omega.{arith}
-use lib.Dec.{T}
 use lib.IntN.{ℤ}
 use lib.ListN.{length, replicate}
 use Rattle.algebra.specs.Laws.Tab.{length-tab}
 use Rattle.contrasts.specs.Columns.{read, AllWithin, stepsOf, totalsOf}
 use Rattle.contrasts.specs.Factor.{Factor}
-use Rattle.contrasts.specs.Limits.{readingLimit, valueLimit}
+use Rattle.contrasts.specs.Limits.{valueLimit}
 use Rattle.contrasts.specs.Factors.{ofLevels}
 use Rattle.contrasts.specs.Totals.{size}
 use Rattle.contrasts.specs.Steps.{steps}
-use Rattle.contrasts.specs.Laws.Limits.{withinLimits, steps-fit}
+use Rattle.contrasts.specs.Laws.Limits.{Roomy, steps-fit}
 use Rattle.contrasts.specs.Laws.Lists.{steps-list, steps-alike, steps-more}
 use Rattle.contrasts.specs.Laws.Within.{within-tab}
 use Rattle.plan.specs.declared.types.Plan.{Plan}
@@ -24,19 +23,19 @@ use Rattle.plan.specs.Outcome.{given}
 use Rattle.plan.specs.Plan.{factorsOf, runsOf}
 use Rattle.plan.specs.Laws.Accepted.{accepted}
 use Rattle.plan.specs.Laws.Answers.{written-new}
-use Rattle.plan.specs.Laws.Sizes.{plan-within}
+use Rattle.plan.specs.Laws.Limits.{plan-roomy}
 use Rattle.columns.specs.Laws.Admitted.{Columns, admits}
 use Rattle.steps.specs.Step.{stepRefused, stepColumn}
 use Rattle.claims.specs.AnyOrder.{Readings}
 use Rattle.claims.specs.Steps.{afterSteps, Lent, answer, Steps}
 
 -- a step needs a factor, so k is the number after another
-fits-each : (F : Factor) (k : ℕ) → 0 < k → T (withinLimits F k) → (xs : List ℤ) → length xs ≡ size (replicate k F) → AllWithin readingLimit xs
-    → (t : ℕ) → t ≤ k → AllWithin valueLimit (stepsOf (size (replicate k F)) (replicate t F) xs)
+fits-each : (F : Factor) (k : ℕ) → 0 < k → {L M : ℕ} → Roomy (replicate k F) L M → (xs : List ℤ) → length xs ≡ size (replicate k F)
+    → AllWithin L xs → (t : ℕ) → t ≤ k → AllWithin valueLimit (stepsOf (size (replicate k F)) (replicate t F) xs)
 fits-each F zero some ok xs whole within t h = absurd (omega arith)
 fits-each F (suc k) some ok xs whole within t h =
     rw (steps-alike (suc k) t F xs h whole)
-    (within-tab _ valueLimit _ (steps-fit F k (read xs) ok (λ r _. within r) t h))
+    (within-tab _ valueLimit _ (steps-fit F k ok (read xs) (λ r _. within r) t h))
 
 module _ (p : Plan) (ok : planRefused p ≡ 0) (xs : List ℤ) (start : Readings p xs) (lent : ℕ → List ℤ) (room : Lent p lent) where
   stepped : ℕ → List ℤ
@@ -55,7 +54,7 @@ module _ (p : Plan) (ok : planRefused p ≡ 0) (xs : List ℤ) (start : Readings
         plan = ok;
         whole = as-long n h;
         same = room n;
-        within = fits-each (ofLevels (p .levels)) (p .k) (accepted p ok .factors .0) (plan-within p ok) xs (start .whole) (start .within) n h;
+        within = fits-each (ofLevels (p .levels)) (p .k) (accepted p ok .factors .0) (plan-roomy p ok) xs (start .whole) (start .within) n h;
       }
 
   so-far : (n : ℕ) → n ≤ p .k → afterSteps p lent xs n ≡ stepped n

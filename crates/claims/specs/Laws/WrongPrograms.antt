@@ -5,6 +5,7 @@
 use mathlib.Core.Path.{_≡_, refl, sym, _∙_, ap}
 use mathlib.Core.List.{List, [], _∷_}
 use Prim.Native.Nat.{ℕ, suc, _<_}
+use native.Mathlib.Nat.{le-trans}
 use native.Mathlib.Omega.{arith}
 use lib.IntN.{ℤ, pos, natAbs}
 use lib.ListN.{length}
@@ -14,7 +15,7 @@ use Rattle.algebra.specs.Search.{some}
 use Rattle.algebra.specs.Sum.{Σ}
 use Rattle.algebra.specs.Tab.{tabFrom}
 use Rattle.contrasts.specs.Columns.{read, passOf, totalsOf}
-use Rattle.contrasts.specs.Limits.{readingLimit, valueLimit, mostTwo, mostThree}
+use Rattle.contrasts.specs.Limits.{twoReadingLimit, threeReadingLimit, valueLimit, mostTwo, mostThree}
 use Rattle.contrasts.specs.Rows.{degreesOf}
 use Rattle.contrasts.specs.Factors.{two, three}
 use Rattle.contrasts.specs.Codings.{neg}
@@ -24,9 +25,11 @@ use Rattle.contrasts.specs.Checks.{checkWeight, round, rounds}
 use Rattle.words.specs.Words.{letters, beyond, times, combined, any, among, repeated}
 use Rattle.plan.specs.declared.types.Plan.{Plan}
 use Rattle.plan.specs.Check.{badLevels, badFactors, badCounts, badWord, badSign, badWords, dependent, factorWord, losesFactor, planRefused, withPlan}
+use Rattle.plan.specs.Limits.{readingLimit}
 use Rattle.plan.specs.Outcome.{Outcome, given, refused}
 use Rattle.plan.specs.Plan.{factorsOf, someCombination, combinesTo}
 use Rattle.plan.specs.Laws.Answers.{refused-is, given-is, given-with, written-new}
+use Rattle.plan.specs.Laws.Limits.{reading-admitted}
 use Rattle.columns.specs.Refusals.{wrongLength, isBeyond, anyBeyond, columnsRefused}
 use Rattle.rows.specs.Kinds.{keptRow, wrongRows, kindByMark, kindOf, badMark, badMarks}
 use Rattle.yates.specs.Calls.{passRefused, passColumn, totalsColumn}
@@ -73,12 +76,12 @@ unfolding factorsOf size two totalsOf total coef* Σ tabFrom
 four-totals = refl
 
 totals-over-zeros : totalsColumn four readings zeros ≡ fourTotals
-unfolding totalsColumn columnsRefused withPlan planRefused badLevels badFactors mostTwo mostThree badCounts badWords badWord badSign repeated dependent losesFactor factorWord any among beyond letters combined times someCombination combinesTo some bits Σℕ wrongLength anyBeyond isBeyond readingLimit factorsOf size two totalsOf total coef* Σ tabFrom
+unfolding totalsColumn columnsRefused withPlan planRefused badLevels badFactors mostTwo mostThree badCounts badWords badWord badSign repeated dependent losesFactor factorWord any among beyond letters combined times someCombination combinesTo some bits Σℕ wrongLength anyBeyond isBeyond readingLimit twoReadingLimit threeReadingLimit factorsOf size two totalsOf total coef* Σ tabFrom
 totals-over-zeros = refl
 
 -- three tables are made: of 3, 5, 4, 8 with every row kept and with AB pooled, and of zeros
 made : (tableRefused four readings allKept zeros allKept ≡ 0) × (tableRefused four readings pooled zeros allKept ≡ 0) × (tableRefused four zeros allKept zeros allKept ≡ 0)
-unfolding tableRefused wrongLengths wrongRows wrongLength anyBeyond isBeyond badMarks badMark withPlan planRefused badLevels badFactors mostTwo mostThree badCounts badWords badWord badSign repeated dependent losesFactor factorWord any among beyond letters combined times someCombination combinesTo some bits Σℕ readingLimit factorsOf size two
+unfolding tableRefused wrongLengths wrongRows wrongLength anyBeyond isBeyond badMarks badMark withPlan planRefused badLevels badFactors mostTwo mostThree badCounts badWords badWord badSign repeated dependent losesFactor factorWord any among beyond letters combined times someCombination combinesTo some bits Σℕ readingLimit twoReadingLimit threeReadingLimit factorsOf size two
 made = (refl, refl, refl)
 
 table-totals : tableTotals four readings allKept zeros allKept ≡ fourTotals
@@ -95,7 +98,7 @@ kept-degrees = (refl, refl)
 
 -- one three-level factor: one row is kept, and it has 2 degrees
 three-made : tableRefused threeLevels threeReadings (0 ∷ 0 ∷ []) threeReadings (0 ∷ 0 ∷ []) ≡ 0
-unfolding tableRefused wrongLengths wrongRows wrongLength anyBeyond isBeyond badMarks badMark withPlan planRefused badLevels badFactors mostTwo mostThree badCounts badWords badWord badSign repeated dependent losesFactor factorWord any among beyond letters combined times someCombination combinesTo some bits Σℕ readingLimit factorsOf size two three
+unfolding tableRefused wrongLengths wrongRows wrongLength anyBeyond isBeyond badMarks badMark withPlan planRefused badLevels badFactors mostTwo mostThree badCounts badWords badWord badSign repeated dependent losesFactor factorWord any among beyond letters combined times someCombination combinesTo some bits Σℕ readingLimit twoReadingLimit threeReadingLimit factorsOf size two three
 three-made = refl
 
 two-degrees : (rowsOfKind threeLevels (0 ∷ 0 ∷ []) keptRow ≡ 1) × (tableFigures threeLevels threeReadings (0 ∷ 0 ∷ []) .kept .degrees ≡ 2)
@@ -108,7 +111,7 @@ check-numbers = (refl, refl)
 
 -- the estimate of A, whose total is -6, is not lost
 A-estimated : estimateRefused four 1 (neg 6) ≡ 0
-unfolding estimateRefused withPlan planRefused badLevels badFactors mostTwo mostThree badCounts badWords badWord badSign repeated dependent losesFactor factorWord any among beyond letters combined times someCombination combinesTo some bits Σℕ readingLimit
+unfolding estimateRefused withPlan planRefused badLevels badFactors mostTwo mostThree badCounts badWords badWord badSign repeated dependent losesFactor factorWord any among beyond letters combined times someCombination combinesTo some bits Σℕ readingLimit twoReadingLimit threeReadingLimit
 A-estimated = refl
 
 A-not-lost : estimateValue four 1 (neg 6) ≡ difference (differenceOf 2 1 (neg 6))
@@ -117,11 +120,11 @@ A-not-lost = refl
 
 -- the sheet of the rules' example, and that of 2, 5, 3 at three levels
 sheets-accepted : (printRefused rulesSheet ≡ 0) × (printRefused threeSheet ≡ 0)
-unfolding printRefused marksRefused refusedWith planIn readingsOf readingAt twos big fieldsOf parse bodies bodyAt badFields badFrom wrongLength wrongRows anyBeyond isBeyond badMarks badMark withPlan planRefused badLevels badFactors mostTwo mostThree badCounts badWords badWord badSign repeated dependent losesFactor factorWord any among beyond letters combined times someCombination combinesTo some bits Σℕ readingLimit factorsOf size two three tabFrom
+unfolding printRefused marksRefused refusedWith planIn readingsOf readingAt twos big fieldsOf parse bodies bodyAt badFields badFrom wrongLength wrongRows anyBeyond isBeyond badMarks badMark withPlan planRefused badLevels badFactors mostTwo mostThree badCounts badWords badWord badSign repeated dependent losesFactor factorWord any among beyond letters combined times someCombination combinesTo some bits Σℕ readingLimit twoReadingLimit threeReadingLimit factorsOf size two three tabFrom
 sheets-accepted = (refl, refl)
 
 rules-marks : marksOf rulesSheet ≡ 0 ∷ 0 ∷ 0 ∷ 1 ∷ []
-unfolding marksOf marksRefused refusedWith planIn readingsOf readingAt twos big fieldsOf parse bodies bodyAt badFields badFrom wrongLength wrongRows anyBeyond isBeyond badMarks badMark withPlan planRefused badLevels badFactors mostTwo mostThree badCounts badWords badWord badSign repeated dependent losesFactor factorWord any among beyond letters combined times someCombination combinesTo some bits Σℕ readingLimit factorsOf size two three tabFrom
+unfolding marksOf marksRefused refusedWith planIn readingsOf readingAt twos big fieldsOf parse bodies bodyAt badFields badFrom wrongLength wrongRows anyBeyond isBeyond badMarks badMark withPlan planRefused badLevels badFactors mostTwo mostThree badCounts badWords badWord badSign repeated dependent losesFactor factorWord any among beyond letters combined times someCombination combinesTo some bits Σℕ readingLimit twoReadingLimit threeReadingLimit factorsOf size two three tabFrom
 rules-marks = refl
 
 -- ---- the proof
@@ -165,11 +168,11 @@ idle n p (f ∷ fs) column = idle (suc n) p fs column
 
 all-at-once : (p : Plan) → planRefused p ≡ 0 → (column : List ℤ) → Readings p column → (f : ℕ) → f < p .k → (fs : List ℕ)
     → afterTold firstDoesAll 0 p (f ∷ fs) column ≡ totalsOf (factorsOf p) column
-unfolding afterTold readingLimit valueLimit
+unfolding afterTold
 all-at-once p ok column start f base fs =
     idle 0 p fs _
     ∙ sym (written-new (passRefused p f column) (totalsOf (factorsOf p) column) column
-    (pass-admits (record { plan = ok; base = base; whole = start .whole; within = λ i. omega (arith, start .within i) })))
+    (pass-admits (record { plan = ok; base = base; whole = start .whole; within = λ i. le-trans (start .within i) (reading-admitted p) })))
 
 -- a pass call that keeps its promise has 8 in the first place after the pass of A
 eight : (program : PassCall) → KeepsPass program → first (program four 0 readings .column) ≡ 8

@@ -1,20 +1,21 @@
--- From readings within their limit no plan of two or three levels leaves the others.
+-- From readings within a limit no plan leaves the others, whatever its factors.
 --
---   withinLimits F k     the test: k factors F keep values and numerators within the limits; valuesWithin, numeratorsWithin are its parts
---   two-within           up to ten two-level factors do
---   three-within         up to six three-level factors do
---   values-fit           so does the column after each of any calls that repeat no factor
---   steps-fit            and after each of k steps
---   totals-fit           and so do the totals
---   sizes-fit            the denominator and the number of runs do not exceed the limit of numerators
---   total-fits           the denominator times the sum of squared readings does not exceed the limit of numerators
---   numerators-fit       "No numerator, and no sum of them in one table, exceeds 340,122,240,000,000,000."
+--   Roomy Fs L M    readings within L keep values and numerators of the factors Fs within their limits, M that of numerators
+--   roomy           the test of it
+--   two-roomy       up to ten two-level factors have that room
+--   three-roomy     up to six three-level factors have it
+--   sizes-fit       the denominator and the number of runs do not exceed the limit of numerators
+--   values-fit      no value exceeds its limit after each of any calls that repeat no factor
+--   totals-fit      nor does a total
+--   total-fits      the denominator times the sum of squared readings does not exceed the limit of numerators
+--   numerators-fit  "No numerator, and no sum of them in one table, exceeds" it
+--   steps-fit       no value exceeds its limit after each of k steps
 use mathlib.Core.Bool.{Bool, cond, _&&_}
 use mathlib.Core.List.{List}
 use Prim.Native.Nat.{ℕ, suc, _*_, _^_, _<_, _≤_, max}
 use native.Mathlib.Nat.{mul-one, mul-pos, mul-left-comm, le-trans, mul-le-mul, mul-le-mul-left, mul-le-mul-right, pow-le-pow-left, pow-le-pow-right}
 use native.Mathlib.Omega.{arith}
-use lib.Dec.{T, leb, leb→le, lit<}
+use lib.Dec.{T, leb, leb→le}
 use lib.IntN.{natAbs}
 use lib.ListN.{length, replicate, take}
 use Rattle.algebra.specs.Naturals.{Σℕ, most}
@@ -22,7 +23,7 @@ use Rattle.algebra.specs.Laws.Naturals.{Σℕ-each}
 use Rattle.algebra.specs.Laws.Tests.{and-left, and-right, every-at}
 use Rattle.algebra.specs.Tests.{every}
 use Rattle.contrasts.specs.Factor.{Factor}
-use Rattle.contrasts.specs.Limits.{readingLimit, valueLimit, numeratorLimit, mostTwo, mostThree}
+use Rattle.contrasts.specs.Limits.{twoReadingLimit, threeReadingLimit, twoNumeratorLimit, threeNumeratorLimit, valueLimit, mostTwo, mostThree}
 use Rattle.contrasts.specs.Factors.{two, three}
 use Rattle.contrasts.specs.Totals.{Column, size, total, denominator, numerator, squared}
 use Rattle.contrasts.specs.Passes.{passes, count}
@@ -33,87 +34,76 @@ use Rattle.contrasts.specs.Laws.Digits.{size-pos}
 use Rattle.contrasts.specs.Laws.Divisors.{denominator-pos}
 use Rattle.contrasts.specs.Laws.Squares.{within}
 
-unfoldable pub valuesWithin : Factor → ℕ → Bool
-valuesWithin F k = leb (growth (replicate k F) * readingLimit) valueLimit
+pub record Roomy (Fs : List Factor) (L M : ℕ) : Type 0 where
+  pub values : growth Fs * L ≤ valueLimit
+  pub numerators : denominator Fs * (size Fs * (L * L)) ≤ M
 
-unfoldable pub numeratorsWithin : Factor → ℕ → Bool
-numeratorsWithin F k = leb (denominator (replicate k F) * (size (replicate k F) * (readingLimit * readingLimit))) numeratorLimit
+unfoldable pub roomy : List Factor → ℕ → ℕ → Bool
+roomy Fs L M = leb (growth Fs * L) valueLimit && leb (denominator Fs * (size Fs * (L * L))) M
 
-unfoldable pub withinLimits : Factor → ℕ → Bool
-withinLimits F k = valuesWithin F k && numeratorsWithin F k
+-- ---- the kinds of plans, a computed test for each
 
--- ---- the two kinds of plan
+tested : (Fs : List Factor) (L M : ℕ) → T (roomy Fs L M) → Roomy Fs L M
+unfolding roomy
+tested Fs L M t =
+    record {
+      values = leb→le (growth Fs * L) valueLimit (and-left (leb (growth Fs * L) valueLimit) (leb (denominator Fs * (size Fs * (L * L))) M) t);
+      numerators =
+          leb→le (denominator Fs * (size Fs * (L * L))) M
+          (and-right (leb (growth Fs * L) valueLimit) (leb (denominator Fs * (size Fs * (L * L))) M) t);
+    }
 
-all-two : T (every (suc mostTwo) (withinLimits two))
-unfolding every withinLimits valuesWithin numeratorsWithin readingLimit valueLimit numeratorLimit mostTwo growth reach most Σℕ denominator size two
+all-two : T (every (suc mostTwo) (λ k. roomy (replicate k two) twoReadingLimit twoNumeratorLimit))
+unfolding every roomy twoReadingLimit twoNumeratorLimit valueLimit mostTwo growth reach most Σℕ denominator size two
 all-two = tt
 
-pub two-within : (k : ℕ) → k ≤ mostTwo → T (withinLimits two k)
-two-within k h = every-at (suc mostTwo) (withinLimits two) all-two k (omega arith)
+pub two-roomy : (k : ℕ) → k ≤ mostTwo → Roomy (replicate k two) twoReadingLimit twoNumeratorLimit
+two-roomy k h =
+    tested (replicate k two) twoReadingLimit twoNumeratorLimit
+    (every-at (suc mostTwo) (λ k. roomy (replicate k two) twoReadingLimit twoNumeratorLimit) all-two k (omega arith))
 
-all-three : T (every (suc mostThree) (withinLimits three))
-unfolding every withinLimits valuesWithin numeratorsWithin readingLimit valueLimit numeratorLimit mostThree growth reach most Σℕ denominator size three
+all-three : T (every (suc mostThree) (λ k. roomy (replicate k three) threeReadingLimit threeNumeratorLimit))
+unfolding every roomy threeReadingLimit threeNumeratorLimit valueLimit mostThree growth reach most Σℕ denominator size three
 all-three = tt
 
-pub three-within : (k : ℕ) → k ≤ mostThree → T (withinLimits three k)
-three-within k h = every-at (suc mostThree) (withinLimits three) all-three k (omega arith)
+pub three-roomy : (k : ℕ) → k ≤ mostThree → Roomy (replicate k three) threeReadingLimit threeNumeratorLimit
+three-roomy k h =
+    tested (replicate k three) threeReadingLimit threeNumeratorLimit
+    (every-at (suc mostThree) (λ k. roomy (replicate k three) threeReadingLimit threeNumeratorLimit) all-three k (omega arith))
 
--- ---- what follows from the test
+-- ---- what follows, of readings within L
 
-squared-bound : (Fs : List Factor) (x : Column) (M : ℕ) → Within (size Fs) M x → squared Fs x ≤ size Fs * (M * M)
-unfolding squared
-squared-bound Fs x M h = Σℕ-each (size Fs) (M * M) (λ r. natAbs (x r) * natAbs (x r)) (λ r k. mul-le-mul (h r k) (h r k))
-
--- the numerators' test is a product of three numbers that are not 0
+-- a product of three numbers that are not 0
 factor-le : (a b c m : ℕ) → 0 < b → 0 < c → a * (b * c) ≤ m → a ≤ m
 factor-le a b c m p q h = le-trans (rw (mul-one a) at (mul-le-mul-left a (mul-pos p q))) h
 
-some-limit : 0 < readingLimit * readingLimit
-unfolding readingLimit
-some-limit = lit< tt
+module _ {Fs : List Factor} {L M : ℕ} (room : Roomy Fs L M) where
+  pub sizes-fit : 0 < L → (denominator Fs ≤ M) × (size Fs ≤ M)
+  sizes-fit some = (
+    factor-le (denominator Fs) (size Fs) (L * L) M (size-pos Fs) (mul-pos some some) (room .numerators),
+    factor-le (size Fs) (denominator Fs) (L * L) M (denominator-pos Fs) (mul-pos some some)
+        (rw (mul-left-comm (denominator Fs) (size Fs) (L * L)) at (room .numerators)),
+  )
 
-pub sizes-fit : (F : Factor) (k : ℕ) → T (withinLimits F k)
-    → (denominator (replicate k F) ≤ numeratorLimit) × (size (replicate k F) ≤ numeratorLimit)
-unfolding withinLimits numeratorsWithin
-sizes-fit F k ok = (
-  factor-le d n l numeratorLimit (size-pos (replicate k F)) some-limit h,
-  factor-le n d l numeratorLimit (denominator-pos (replicate k F)) some-limit (rw (mul-left-comm d n l) at h),
-)
-  where
-    d : ℕ
-    d = denominator (replicate k F)
+  module _ (x : Column) (h : Within (size Fs) L x) where
+    pub values-fit : (calls : List ℕ) → ((f : ℕ) → f < length Fs → count f calls ≤ 1)
+        → (n : ℕ) → Within (size Fs) valueLimit (passes Fs (take n calls) x)
+    values-fit calls once n i p = le-trans (bound-each Fs calls n x L once h i p) (room .values)
 
-    n : ℕ
-    n = size (replicate k F)
+    pub totals-fit : Within (size Fs) valueLimit (total Fs x)
+    totals-fit i p = le-trans (bound-total Fs x L h i p) (room .values)
 
-    l : ℕ
-    l = readingLimit * readingLimit
+    squared-bound : squared Fs x ≤ size Fs * (L * L)
+    unfolding squared
+    squared-bound = Σℕ-each (size Fs) (L * L) (λ r. natAbs (x r) * natAbs (x r)) (λ r k. mul-le-mul (h r k) (h r k))
 
-    h : d * (n * l) ≤ numeratorLimit
-    h = leb→le (d * (n * l)) numeratorLimit (and-right (valuesWithin F k) (numeratorsWithin F k) ok)
+    pub total-fits : denominator Fs * squared Fs x ≤ M
+    total-fits = le-trans (mul-le-mul-left (denominator Fs) squared-bound) (room .numerators)
 
-module _ (F : Factor) (k : ℕ) (ok : T (withinLimits F k)) (x : Column) (h : Within (size (replicate k F)) readingLimit x) where
-  grown : growth (replicate k F) * readingLimit ≤ valueLimit
-  unfolding withinLimits valuesWithin
-  grown = leb→le (growth (replicate k F) * readingLimit) valueLimit (and-left (valuesWithin F k) (numeratorsWithin F k) ok)
+    pub numerators-fit : (n : ℕ) (p : ℕ → Bool) → n ≤ size Fs → Σℕ n (λ e. cond (p e) (numerator Fs x e) 0) ≤ M
+    numerators-fit n p le = le-trans (within Fs x n p le) total-fits
 
-  pub values-fit : (calls : List ℕ) → ((f : ℕ) → f < length (replicate k F) → count f calls ≤ 1)
-      → (n : ℕ) → Within (size (replicate k F)) valueLimit (passes (replicate k F) (take n calls) x)
-  values-fit calls once n i p = le-trans (bound-each (replicate k F) calls n x readingLimit once h i p) grown
-
-  pub totals-fit : Within (size (replicate k F)) valueLimit (total (replicate k F) x)
-  totals-fit i p = le-trans (bound-total (replicate k F) x readingLimit h i p) grown
-
-  pub total-fits : denominator (replicate k F) * squared (replicate k F) x ≤ numeratorLimit
-  unfolding withinLimits numeratorsWithin
-  total-fits =
-      le-trans (mul-le-mul-left (denominator (replicate k F)) (squared-bound (replicate k F) x readingLimit h))
-      (leb→le (denominator (replicate k F) * (size (replicate k F) * (readingLimit * readingLimit))) numeratorLimit
-      (and-right (valuesWithin F k) (numeratorsWithin F k) ok))
-
-  pub numerators-fit : (n : ℕ) (p : ℕ → Bool) → n ≤ size (replicate k F)
-      → Σℕ n (λ e. cond (p e) (numerator (replicate k F) x e) 0) ≤ numeratorLimit
-  numerators-fit n p le = le-trans (within (replicate k F) x n p le) total-fits
+-- ---- steps, of factors that are alike
 
 -- a step has less reach than all passes
 reach-le : (F : Factor) (t k : ℕ) → t ≤ k → reach F ^ t ≤ growth (replicate k F)
@@ -121,9 +111,9 @@ reach-le F t k h =
     rw (growth-alike k F)
     (le-trans (pow-le-pow-left {n = reach F} {m = max 1 (reach F)} (omega arith) t) (pow-le-pow-right {n = max 1 (reach F)} (omega arith) h))
 
-pub steps-fit : (F : Factor) (k : ℕ) (x : Column) → T (withinLimits F (suc k)) → Within (size (replicate (suc k) F)) readingLimit x
+pub steps-fit : (F : Factor) (k : ℕ) {L M : ℕ} → Roomy (replicate (suc k) F) L M → (x : Column) → Within (size (replicate (suc k) F)) L x
     → (t : ℕ) → t ≤ suc k → Within (size (replicate (suc k) F)) valueLimit (steps (size (replicate (suc k) F)) (replicate t F) x)
 unfolding size
-steps-fit F k x ok h t le i p =
-    le-trans (bound-steps F (size (replicate k F)) t x readingLimit (size-pos (replicate k F)) h i p)
-    (le-trans (mul-le-mul-right readingLimit (reach-le F t (suc k) le)) (grown F (suc k) ok x h))
+steps-fit F k {L} room x h t le i p =
+    le-trans (bound-steps F (size (replicate k F)) t x L (size-pos (replicate k F)) h i p)
+    (le-trans (mul-le-mul-right L (reach-le F t (suc k) le)) (room .values))

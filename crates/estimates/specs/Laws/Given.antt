@@ -18,15 +18,16 @@ use lib.Dec.{eqb, ltb}
 use lib.IntN.{ℤ, natAbs}
 use lib.Pow.{pow-mono}
 use lib.Ieee.{Float}
-use Rattle.contrasts.specs.Limits.{readingLimit}
 use Rattle.words.specs.Words.{beyond}
 use Rattle.plan.specs.declared.types.Plan.{Plan}
 use Rattle.plan.specs.Outcome.{Outcome, given, outcome}
 use Rattle.plan.specs.Plan.{confoundedIn}
 use Rattle.plan.specs.Check.{planRefused}
+use Rattle.plan.specs.Limits.{readingLimit}
 use Rattle.plan.specs.Laws.Accepted.{accepted, sizes}
 use Rattle.plan.specs.Laws.Answers.{after-plan, passed, plan-passed, refused-with, given-with}
 use Rattle.plan.specs.Laws.Confounded.{not-empty}
+use Rattle.plan.specs.Laws.Limits.{reading-fits}
 use Rattle.plan.specs.Laws.Sizes.{two-levels}
 use Rattle.estimates.specs.Quotient.{Exactly, InDouble}
 use Rattle.estimates.specs.Estimate.{Value, mean, difference, lost, printedTotal, meanOf, differenceOf, valueBy, estimateValue, totalLimit, estimateRefused, ExactlyGiven}
@@ -70,11 +71,10 @@ module _ {p : Plan} {e : ℕ} {t : ℤ} (a : Admitted p e t) where
   some-factor = accepted p (a .plan) .factors .0
 
   pub held : InDouble t (p .k)
-  unfolding readingLimit
   held =
       let k : p .k ≤ 10 = sizes p (a .plan) .0 in
-      let l : totalLimit p ≤ 2 ^ 10 * readingLimit = mul-le-mul-right readingLimit (pow-mono k) in
-      record { number = omega (arith, a .within, l); power = omega (arith, k) }
+      let l : totalLimit p ≤ 2 ^ 10 * readingLimit p = mul-le-mul-right (readingLimit p) (pow-mono k) in
+      record { number = omega (arith, a .within, l, reading-fits p); power = omega (arith, k) }
 
 -- ---- the outcome
 

@@ -3,12 +3,14 @@
 --   Alike p q       the plans agree so far
 --   same-refused    the check gives them the same number
 --   same-factors    they have the same base factors
+--   same-limit      the same limit of readings
 --   same-lost       the same effects are confounded
 use mathlib.Core.Path.{_≡_, refl}
 use Prim.Native.Nat.{ℕ}
 use Rattle.plan.specs.declared.types.Plan.{Plan}
 use Rattle.plan.specs.Plan.{addedWords, addedSigns, blockWords, factorsOf, confoundedIn}
 use Rattle.plan.specs.Check.{planRefused}
+use Rattle.plan.specs.Limits.{readingLimit}
 
 pub record Alike (p q : Plan) : Type 0 where
   pub levels : p .levels ≡ q .levels
@@ -27,6 +29,10 @@ module _ {p q : Plan} (a : Alike p q) where
   pub same-factors : factorsOf p ≡ factorsOf q
   unfolding factorsOf
   same-factors = rw (a .levels, a .k) refl
+
+  pub same-limit : readingLimit p ≡ readingLimit q
+  unfolding readingLimit
+  same-limit = rw (a .levels) refl
 
   pub same-lost : (w : ℕ) → confoundedIn p w ≡ confoundedIn q w
   same-lost w = rw (a .blockwords) refl

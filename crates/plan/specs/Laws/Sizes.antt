@@ -5,7 +5,6 @@
 --   runs-two                                so with two levels there are 2 ^ k
 --   factors-two, factors-three              its base factors, by its levels
 --   plan-kind                               the factor of the plan's levels has so many
---   plan-within                             its totals, and all values on the way, are within the limits
 --   spacing-power                           the values of the factor at position f lie levels to the power f apart
 --   RunsTwo, RunsThree, runs-known          what `runs` gives of any plan: 0, or the number of runs at two or at three levels
 --   runs-few                                there are at most 1,024 runs
@@ -19,7 +18,6 @@ use Prim.Native.Nat.{ℕ, _+_, _*_, _^_, _<_, _≤_}
 use native.Mathlib.Nat.{le-trans, mul-le-mul-left, pow-le-pow-left, pow-le-pow-right, pow-suc}
 use native.Mathlib.Numerals.{add-one}
 use native.Mathlib.Omega.{arith}
-use lib.Dec.{T}
 use lib.ListN.{replicate, length-take}
 use borrow.Author.Tests.{eq-eqb, lt-leb}
 use Rattle.contrasts.specs.Limits.{mostTwo, mostThree}
@@ -27,7 +25,6 @@ use Rattle.contrasts.specs.Factors.{two, three, ofLevels}
 use Rattle.contrasts.specs.Passes.{spacing}
 use Rattle.contrasts.specs.Laws.Replicated.{size-alike, spacing-alike}
 use Rattle.contrasts.specs.Laws.Levels.{kind-of}
-use Rattle.contrasts.specs.Laws.Limits.{withinLimits, two-within, three-within}
 use Rattle.plan.specs.declared.types.Plan.{Plan}
 use Rattle.plan.specs.Plan.{factorsOf, runsOf, allLetters, confoundedIn}
 use Rattle.plan.specs.Check.{badLevels, badFactors, planRefused, runCount, spacingAt, confoundedAccepted}
@@ -70,13 +67,6 @@ factors-three p e = rw e refl
 
 pub plan-kind : (p : Plan) → planRefused p ≡ 0 → ofLevels (p .levels) .levels ≡ p .levels
 plan-kind p e = kind-of (p .levels) (accepted p e .levels)
-
-pub plan-within : (p : Plan) → planRefused p ≡ 0 → T (withinLimits (ofLevels (p .levels)) (p .k))
-plan-within p e = by (accepted p e .levels)
-  where
-    by : (p .levels ≡ 2) ⊎ (p .levels ≡ 3) → T (withinLimits (ofLevels (p .levels)) (p .k))
-    by (inl d) = rw d (two-within (p .k) (accepted p e .factors .1))
-    by (inr d) = rw d (three-within (p .k) (accepted p e .factors .2 d))
 
 pub record RunsTwo (p : Plan) : Type 0 where
   pub levels : p .levels ≡ 2

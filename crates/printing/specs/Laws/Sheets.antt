@@ -80,7 +80,7 @@ module _ (sheet : List ℕ) (before : List ℤ) (long : length before ≡ 1024) 
                 ap length own-column
                 ∙ length-append (readingsIn (fieldsOf sheet)) (drop (length (readingsIn (fieldsOf sheet))) before)
                 ∙ omega (arith, length-drop (length (readingsIn (fieldsOf sheet))) before, long, runs-are, runs-few (planIn (fieldsOf sheet)) (a .plan));
-            within = rw own-readings (a .within);
+            within = rw (own-readings, own-plan) (a .within);
             marks-long = rw (own-plan, own-marks) (rows-as-long (planIn (fieldsOf sheet)) (length (marksIn (fieldsOf sheet))) (a .marks));
             lawful = rw (own-plan, own-marks) (a .lawful);
           }

@@ -13,9 +13,9 @@ use native.Mathlib.Omega.{arith}
 use lib.Dec.{ltb}
 use lib.ListN.{length}
 use Rattle.algebra.specs.Laws.Tests.{neither}
-use Rattle.contrasts.specs.Limits.{readingLimit}
 use Rattle.plan.specs.declared.types.Plan.{Plan}
 use Rattle.plan.specs.Check.{planRefused}
+use Rattle.plan.specs.Limits.{readingLimit}
 use Rattle.plan.specs.Laws.Answers.{passed, plan-first, plan-passed, after-plan}
 use Rattle.plan.specs.Plan.{runsOf}
 use Rattle.columns.specs.Refusals.{wrongLength, anyBeyond}
@@ -31,7 +31,7 @@ pub record Admitted (fs : Fields) (p : Plan) (narrow : Bool) : Type 0 where
   pub wide : narrow ≡ false
   pub readings : wrongLength p (length (readingsIn fs)) ≡ false
   pub marks : wrongRows p (length (marksIn fs)) ≡ false
-  pub within : anyBeyond readingLimit (readingsIn fs) ≡ false
+  pub within : anyBeyond (readingLimit p) (readingsIn fs) ≡ false
   pub lawful : badMarks p (marksIn fs) ≡ false
 
 module _ (fs : Fields) (p : Plan) (narrow : Bool) where
@@ -44,7 +44,7 @@ module _ (fs : Fields) (p : Plan) (narrow : Bool) where
       let l1 = passed (badFields fs) 1 _ (omega arith) e in
       let q = plan-passed p _ (l1 .1) in
       let l11 = passed (narrow || lengths) 11 _ (omega arith) (q .1) in
-      let l12 = passed (anyBeyond readingLimit (readingsIn fs)) 12 _ (omega arith) (l11 .1) in
+      let l12 = passed (anyBeyond (readingLimit p) (readingsIn fs)) 12 _ (omega arith) (l11 .1) in
       let l13 = passed (badMarks p (marksIn fs)) 13 _ (omega arith) (l12 .1) in
       let a = neither narrow lengths (l11 .0) in
       let b = neither (wrongLength p (length (readingsIn fs))) (wrongRows p (length (marksIn fs))) (a .1) in

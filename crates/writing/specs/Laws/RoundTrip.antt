@@ -16,12 +16,13 @@ use lib.ListN.{length, getD, drop}
 use lib.Seq.{length-take-le, getD-take}
 use Rattle.algebra.specs.Laws.Tests.{none}
 use Rattle.contrasts.specs.Columns.{read}
-use Rattle.contrasts.specs.Limits.{readingLimit}
 use Rattle.plan.specs.declared.types.Plan.{Plan}
 use Rattle.plan.specs.Plan.{addedSigns, factorsOf, runsOf}
+use Rattle.plan.specs.Limits.{readingLimit}
 use Rattle.plan.specs.Laws.Accepted.{accepted as accepted-plan, sizes}
-use Rattle.plan.specs.Laws.Alike.{Alike, same-refused, same-factors}
+use Rattle.plan.specs.Laws.Alike.{Alike, same-refused, same-factors, same-limit}
 use Rattle.plan.specs.Laws.Answers.{written-new}
+use Rattle.plan.specs.Laws.Limits.{reading-fits}
 use Rattle.plan.specs.Laws.Sizes.{runs-few}
 use Rattle.columns.specs.Refusals.{wrongLength}
 use Rattle.columns.specs.Laws.Admitted.{all-within}
@@ -87,8 +88,7 @@ module _ {p : Plan} {xs : List ℤ} {marks : List ℕ} (g : Sheetable p xs marks
   plan-is = plan-back p xs marks (g .shaped)
 
   small : (j : ℕ) → natAbs (read xs j) < 2 ^ 31
-  unfolding readingLimit
-  small j = omega (arith, all-within 100_000 xs (g .within) j)
+  small j = omega (arith, all-within (readingLimit p) xs (g .within) j, reading-fits p)
 
   readings-are : readingsIn fs ≡ xs
   unfolding bodyAt
@@ -115,7 +115,7 @@ module _ {p : Plan} {xs : List ℤ} {marks : List ℕ} (g : Sheetable p xs marks
     wide = w;
     readings = rw (readings-are, plan-is) readings-right;
     marks = rw (marks-are, plan-is) rows-right;
-    within = rw readings-are (g .within);
+    within = rw (readings-are, plan-is, same-limit alike) (g .within);
     lawful = rw (marks-are, plan-is) (same-marks alike marks ∙ g .lawful);
   }
 

@@ -2,17 +2,16 @@
 --
 --   Stretch levels h xs         xs is one stretch of a factor whose values lie h apart
 --   Stretches levels h xs       xs is one or more of them
---   PassReadings levels k xs    readings of a plan of k factors, which all passes may run on
+--   PassReadings levels k xs    readings of a plan of k factors, within a limit that leaves room for all passes
 use mathlib.Core.Path.{_≡_}
 use mathlib.Core.List.{List}
 use Prim.Native.Nat.{ℕ, _*_, _<_, _^_}
-use lib.Dec.{T}
 use lib.IntN.{ℤ}
-use lib.ListN.{length}
+use lib.ListN.{length, replicate}
 use Rattle.contrasts.specs.Columns.{AllWithin}
-use Rattle.contrasts.specs.Limits.{readingLimit, valueLimit}
+use Rattle.contrasts.specs.Limits.{valueLimit}
 use Rattle.contrasts.specs.Factors.{ofLevels}
-use Rattle.contrasts.specs.Laws.Limits.{withinLimits}
+use Rattle.contrasts.specs.Laws.Limits.{Roomy}
 
 pub record Stretch (levels h : ℕ) (xs : List ℤ) : Type 0 where
   pub kind : ofLevels levels .levels ≡ levels
@@ -30,6 +29,8 @@ pub record Stretches (levels h : ℕ) (xs : List ℤ) : Type 0 where
 
 pub record PassReadings (levels k : ℕ) (xs : List ℤ) : Type 0 where
   pub kind : ofLevels levels .levels ≡ levels
-  pub admitted : T (withinLimits (ofLevels levels) k)
+  pub limit : ℕ
+  pub numerators : ℕ
+  pub roomy : Roomy (replicate k (ofLevels levels)) limit numerators
   pub whole : length xs ≡ levels ^ k
-  pub within : AllWithin readingLimit xs
+  pub within : AllWithin limit xs

@@ -1,3 +1,4 @@
+use native.Mathlib.Omega.{arith}
 use borrow.Author.Needs.{needs}
 use Rattle.algebra.specs.Laws.Signs.{turned-fits, turned-held, upright-held}
 use Rattle.estimates.proofs.Limit.{below, above}
@@ -11,6 +12,6 @@ is-beyond-spec =
     (λ c. search needs)
     (λ c. turned-fits (c .before .fits .total) (c .if1 .taken))
     (λ c. turned-held (c .before .fits .total) (c .if1 .taken))
-    (λ c. below (c .before .fits .total) (c .before .pre) (c .if1 .taken))
+    (λ c. below (c .before .fits .total) (omega arith) (c .before .pre) (c .if1 .taken))
     (λ c. upright-held (c .before .fits .total) (c .if1 .left))
-    (λ c. above (c .before .fits .total) (c .before .pre) (c .if1 .left)))
+    (λ c. above (c .before .fits .total) (omega arith) (c .before .pre) (c .if1 .left)))

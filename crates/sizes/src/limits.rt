@@ -1,0 +1,19 @@
+// How large a reading of a plan may be.
+ghost use mathlib.Core.Path.{_≡_};
+use plan::Plan;
+ghost use Rattle.plan.specs.Limits.{readingLimit};
+
+const TWO_READING_LIMIT: u32 = 1_000_000;
+
+const THREE_READING_LIMIT: u32 = 100_000;
+
+// The limit of a reading either way, by the levels.
+pub fn reading_limit(p: Plan) -> u32
+    ensures { λ r. ⌜ r ≡ readingLimit p ⌝ }
+{
+    if p.levels == 2 {
+        TWO_READING_LIMIT
+    } else {
+        THREE_READING_LIMIT
+    }
+}
