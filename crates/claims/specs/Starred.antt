@@ -118,8 +118,8 @@ fourReadings = record {
 }
 
 -- X2: "Three levels, 2, 5, 3: totals 10, -1, -5; numerators 200, 3, 25; row A 28 with 2 degrees; check 4." Row A is the one row that is kept.
-abbrev threeReadingLimit : Tabled
-threeReadingLimit = tabled (plan 3 1 [] [] []) (pos 2 ∷ pos 5 ∷ pos 3 ∷ []) (replicate 2 0)
+abbrev threeReadings : Tabled
+threeReadings = tabled (plan 3 1 [] [] []) (pos 2 ∷ pos 5 ∷ pos 3 ∷ []) (replicate 2 0)
 
 abbrev threeSaid : Tabled
 threeSaid = record {
@@ -138,7 +138,7 @@ threeSaid = record {
 
 abbrev threeLevels : StarredRun
 threeLevels = record {
-  gives = table threeReadingLimit ∷ numerators (numeratorsOf (plan 3 1 [] [] []) (threeReadingLimit .totals)) ∷ [];
+  gives = table threeReadings ∷ numerators (numeratorsOf (plan 3 1 [] [] []) (threeReadings .totals)) ∷ [];
   says = table threeSaid ∷ numerators (200 ∷ 3 ∷ 25 ∷ []) ∷ [];
 }
 
