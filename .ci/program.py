@@ -12,11 +12,12 @@
 # cases/compare.py from a seed that is always the same.
 #
 # Defined here:
-#   Run                  a run: its name, what the program is given, and what must be seen
-#   sized, stored, limited, parted, failing   the runs, by what is tried
-#   seen, complaints_of  what is seen of a run, and how it differs from what is meant
-#   part_taken           the same of a run whose output takes a part of the text
-#   tried                makes all runs and prints the differences
+#   Run                              a run: its name, what the program is given, and what must be seen
+#   sized, stored, limited           the runs, by what is tried: sizes, stored sheets, readings about the limits
+#   parted, failing                  inputs in parts, and inputs and outputs that fail
+#   seen, complaints_of              what is seen of a run, and how it differs from what is meant
+#   part_taken                       the same of a run whose output takes a part of the text
+#   tried                            makes all runs and prints the differences
 
 import fcntl
 import os

@@ -13,7 +13,8 @@
 # Defined here:
 #   Plan                                  a plan as a caller hands it in
 #   COEFFICIENTS, DIVISORS                coefficient rows and divisors of one factor, by levels
-#   MOST_READING, MOST_VALUE, MOST_NUMERATOR   the limits of readings, of values of a pass or step, and of numerators
+#   MOST_READING, MOST_NUMERATOR          the limits of readings and of numerators, by levels
+#   MOST_VALUE                            the limit of values of a pass or step
 #   most_total                            the limit of the total that the estimate is given
 #   run_count, digits                     N, and the digits of a run or effect number
 #   coefficient, total, totals            totals by the definition

@@ -1,8 +1,9 @@
-// Tries the table call on plans, readings and marks that it refuses, the estimate call and the alias call, by the records of its input.
-// `reference/cases/answers.py` makes the input and the text that this program must write, and says how both are laid out.
+// Tries the table call on plans, readings and marks that it refuses and on readings at the limits, the estimate call and the alias call, by the
+// records of its input. `reference/cases/answers.py` makes the input and the text that this program must write, and says how both are laid
+// out.
 mod estimated;
 mod reduced;
-mod refused;
+mod tabled;
 mod text;
 
 use contents::plan_in;
@@ -10,7 +11,7 @@ use estimated::try_estimate;
 use fields::body;
 use numerals::byte;
 use reduced::try_alias;
-use refused::try_refusal;
+use tabled::try_table;
 use text::print;
 
 // Field 6 is the call, a byte, and what else it takes: 1 is the table, 2 the estimate, 3 the alias.
@@ -21,7 +22,7 @@ fn work(number: u64, record: &[u8]) {
     let rest = body(record, 6, 0);
     let call = byte(rest, 0);
     if call == 1 {
-        try_refusal(p, record, byte(rest, 1), byte(rest, 2));
+        try_table(p, record, byte(rest, 1), byte(rest, 2));
     } else if call == 2 {
         try_estimate(p, rest);
     } else {

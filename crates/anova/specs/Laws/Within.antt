@@ -22,7 +22,6 @@ use Rattle.algebra.specs.Sorted.{sumAt}
 use Rattle.algebra.specs.Laws.Sorted.{sum-least}
 use Rattle.contrasts.specs.Columns.{read}
 use Rattle.contrasts.specs.Rows.{rowOf, degreesOf, rowNumerator}
-use Rattle.contrasts.specs.Factors.{ofLevels}
 use Rattle.contrasts.specs.Totals.{total, denominator, numerator, squared}
 use Rattle.contrasts.specs.Checks.{rounds}
 use Rattle.contrasts.specs.Laws.CheckSum.{check-rounds}

@@ -1,4 +1,4 @@
-// The table call, where it is refused: nothing that it is lent may change.
+// The table call: where it is refused, nothing that it is lent may change.
 ghost use Prim.Native.Nat.{_≤_};
 use super::text::print;
 use super::text::print_refusal;
@@ -28,7 +28,7 @@ fn is_kept(totals: &[i64; MOST], rows: &[u64; MOST]) -> bool {
 }
 
 // Lends the readings, and so many totals and rows.
-fn try_table(p: Plan, body: &[u8], readings: &mut [i32], marks: &[u8], n: usize, r: usize)
+fn try_lent(p: Plan, body: &[u8], readings: &mut [i32], marks: &[u8], n: usize, r: usize)
     requires { ⌜ (n ≤ 8) × (r ≤ 8) ⌝ }
 {
     put_readings(body, readings);
@@ -46,7 +46,7 @@ fn try_table(p: Plan, body: &[u8], readings: &mut [i32], marks: &[u8], n: usize,
 }
 
 // Lends so many totals and rows, at most eight of each, and the readings and marks of the record.
-pub fn try_refusal(p: Plan, record: &[u8], totals: u8, rows: u8) {
+pub fn try_table(p: Plan, record: &[u8], totals: u8, rows: u8) {
     let readings = body(record, 4, 0);
     let count = readings.len() / 4;
     if count > MOST {
@@ -54,7 +54,7 @@ pub fn try_refusal(p: Plan, record: &[u8], totals: u8, rows: u8) {
     }
     let mut column = [0i32; MOST];
     let marks = body(record, 5, 0);
-    try_table(
+    try_lent(
         p,
         readings,
         &mut column[..count],

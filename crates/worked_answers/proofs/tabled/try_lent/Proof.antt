@@ -2,11 +2,11 @@ use native.Mathlib.Omega.{arith}
 use borrow.Author.Needs.{needs}
 use mathlib.Core.Path.{sym}
 use lib.Seq.{length-take-le}
-use Rattle.worked_answers.proofs.refused.try_table.Statement.{statement}
-use Rattle.worked_answers.proofs.refused.try_table.Tie as tie
+use Rattle.worked_answers.proofs.tabled.try_lent.Statement.{statement}
+use Rattle.worked_answers.proofs.tabled.try_lent.Tie as tie
 
-pub try-table-spec : {M : Type 1} → statement M
-try-table-spec =
+pub try-lent-spec : {M : Type 1} → statement M
+try-lent-spec =
     tie.close
     (tie.spec
     (λ c κs. search needs)

@@ -1,7 +1,7 @@
 use native.Mathlib.Omega.{arith}
 use Prim.Native.Nat.{_-_, _≤_}
-use Rattle.worked_answers.proofs.refused.is_kept.Statement.{statement}
-use Rattle.worked_answers.proofs.refused.is_kept.Tie as tie
+use Rattle.worked_answers.proofs.tabled.is_kept.Statement.{statement}
+use Rattle.worked_answers.proofs.tabled.is_kept.Tie as tie
 
 abbrev Inv-loop : tie.InvT-loop
 Inv-loop totals rows i₀ i = i ≤ 8
