@@ -140,7 +140,7 @@ static void compare_table(unsigned levels, unsigned k, const size_t lengths[6])
 static void compare_about_limits(unsigned levels, unsigned k)
 {
     size_t n = runs_of(levels, k), rows = runs_of(2, k);
-    const size_t places[] = {0, 1, 17, n - 2, n - 1};
+    const size_t places[] = {0, 1, 17, n - 2, n - 1, n};
     const size_t lengths[] = {n, rows, n, rows, FIGURES, CHECKS};
     for (size_t p = 0; p < sizeof places / sizeof *places; p++)
         for (int64_t over = -1; over <= 1; over++)

@@ -24,10 +24,10 @@ use Rattle.contrasts.specs.Checks.{checkWeight, round, rounds}
 use Rattle.words.specs.Words.{letters, beyond, times, combined, any, among, repeated}
 use Rattle.plan.specs.declared.types.Plan.{Plan}
 use Rattle.plan.specs.Examples.{plan, ABC, AD}
-use Rattle.plan.specs.Limits.{readingLimit}
+use Rattle.plan.specs.Limits.{readingLimit, isBeyond}
 use Rattle.plan.specs.Plan.{factorsOf, someCombination, combinesTo}
 use Rattle.plan.specs.Check.{badLevels, badFactors, badCounts, badWord, badSign, badWords, dependent, factorWord, losesFactor, planRefused, withPlan}
-use Rattle.columns.specs.Refusals.{wrongLength, isBeyond, anyBeyond}
+use Rattle.columns.specs.Refusals.{wrongLength, anyBeyond}
 use Rattle.rows.specs.Kinds.{wrongRows, kindByMark, kindOf, badMark, badMarks}
 use Rattle.anova.specs.declared.types.Figures.{Figures}
 use Rattle.anova.specs.Table.{wrongLengths, tableRefused, sourceOf, totalSource, checksOf, tableFigures, tableTotals, tableRows}
@@ -94,21 +94,24 @@ large = pos 2 ∷ pos 100_001 ∷ pos 3 ∷ []
 abbrev low : List ℤ
 low = pos 2 ∷ pos 5 ∷ neg 100_001 ∷ []
 
+abbrev three-zeros : List ℤ
+three-zeros = pos 0 ∷ pos 0 ∷ pos 0 ∷ []
+
 abbrev sixteen : List ℤ
 sixteen = pos 0 ∷ pos 0 ∷ pos 0 ∷ pos 0 ∷ pos 0 ∷ pos 0 ∷ pos 0 ∷ pos 0 ∷ pos 0 ∷ pos 0 ∷ pos 0 ∷ pos 0 ∷ pos 0 ∷ pos 0 ∷ pos 0 ∷ pos 0 ∷ []
 
 abbrev onBCD : List ℕ
 onBCD = 0 ∷ 0 ∷ 0 ∷ 0 ∷ 0 ∷ 0 ∷ 0 ∷ 0 ∷ 0 ∷ 0 ∷ 0 ∷ 0 ∷ 0 ∷ 0 ∷ 1 ∷ 0 ∷ []
 
-small-inputs : tableRefused three-runs large (0 ∷ 0 ∷ []) low (0 ∷ 0 ∷ [])
-    ∷ tableRefused three-runs low (0 ∷ 0 ∷ []) low (0 ∷ 0 ∷ [])
+small-inputs : tableRefused three-runs large (0 ∷ 0 ∷ []) three-zeros (0 ∷ 0 ∷ [])
+    ∷ tableRefused three-runs low (0 ∷ 0 ∷ []) three-zeros (0 ∷ 0 ∷ [])
     ∷ tableRefused four (pos 3 ∷ pos 5 ∷ pos 100_001 ∷ neg 100_001 ∷ []) noMarks readings noMarks
     ∷ tableRefused four readings (1 ∷ 0 ∷ 0 ∷ 0 ∷ []) readings noMarks
     ∷ tableRefused four readings (0 ∷ 0 ∷ 2 ∷ 0 ∷ []) readings noMarks
     ∷ tableRefused (plan 2 4 [] [] (AD ∷ ABC ∷ [])) sixteen onBCD sixteen onBCD
-    ∷ tableRefused three-runs large (0 ∷ 0 ∷ []) low []
-    ∷ tableRefused three-runs large (1 ∷ 0 ∷ []) low (0 ∷ 0 ∷ [])
-    ∷ tableRefused (plan 4 2 [] [] []) large (1 ∷ []) low []
+    ∷ tableRefused three-runs large (0 ∷ 0 ∷ []) three-zeros []
+    ∷ tableRefused three-runs large (1 ∷ 0 ∷ []) three-zeros (0 ∷ 0 ∷ [])
+    ∷ tableRefused (plan 4 2 [] [] []) large (1 ∷ []) three-zeros []
     ∷ []
     ≡ 12 ∷ 12 ∷ 0 ∷ 13 ∷ 13 ∷ 13 ∷ 11 ∷ 12 ∷ 2 ∷ []
 unfolding tableRefused wrongLengths wrongRows wrongLength anyBeyond isBeyond badMarks badMark withPlan planRefused badLevels badFactors mostTwo mostThree badCounts badWords badWord badSign repeated dependent losesFactor factorWord any among beyond letters combined times someCombination combinesTo some bits Σℕ readingLimit twoReadingLimit threeReadingLimit factorsOf size two three

@@ -31,7 +31,8 @@ use Rattle.plan.specs.Check.{badLevels, badFactors, badCounts, badWord, badSign
 use Rattle.plan.specs.Examples.{plan, A, C, AB, ABC, AD, BC}
 use Rattle.plan.specs.Outcome.{given, refused}
 use Rattle.plan.specs.Plan.{factorsOf, someCombination, combinesTo}
-use Rattle.columns.specs.Refusals.{wrongLength, isBeyond, anyBeyond}
+use Rattle.plan.specs.Limits.{isBeyond}
+use Rattle.columns.specs.Refusals.{wrongLength, anyBeyond}
 use Rattle.yates.specs.Calls.{passRefused, passColumn}
 use Rattle.claims.specs.AnyOrder.{afterCalls, found, answer}
 use Rattle.runs.specs.Run.{highBy, highIn, highLetters}

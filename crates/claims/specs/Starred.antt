@@ -181,11 +181,11 @@ inBlocks = record {
 
 -- X4: "k = 1, -100,000 and 100,000: totals 0, -200,000"; "The k = 1 reference difference becomes 200,000." The difference is that of the total
 -- which the table writes; 3,125 times 2 to the power 6 is 200,000.
-abbrev limits : Tabled
-limits = tabled (plan 2 1 [] [] []) (neg 100_000 ∷ pos 100_000 ∷ []) (replicate 2 0)
+abbrev twoReadings : Tabled
+twoReadings = tabled (plan 2 1 [] [] []) (neg 100_000 ∷ pos 100_000 ∷ []) (replicate 2 0)
 
-abbrev limitsSaid : Tabled
-limitsSaid = record {
+abbrev twoSaid : Tabled
+twoSaid = record {
   answer = given (record {
     denominator = 2;
     mean = source 1 0;
@@ -199,10 +199,10 @@ limitsSaid = record {
   rows = 0 ∷ 40_000_000_000 ∷ [];
 }
 
-abbrev atLimits : StarredRun
-atLimits = record {
-  gives = table limits ∷ estimate (promisedEstimate (plan 2 1 [] [] []) A (read (limits .totals) A)) ∷ [];
-  says = table limitsSaid ∷ estimate (given (difference (fin false 3125 (pos 6)))) ∷ [];
+abbrev oneFactor : StarredRun
+oneFactor = record {
+  gives = table twoReadings ∷ estimate (promisedEstimate (plan 2 1 [] [] []) A (read (twoReadings .totals) A)) ∷ [];
+  says = table twoSaid ∷ estimate (given (difference (fin false 3125 (pos 6)))) ∷ [];
 }
 
 -- X5: "k = 3, D = ABC: AD reduces to BC, unturned; with sign 1, turned."
@@ -248,7 +248,7 @@ lostFactor = record {
 }
 
 abbrev pub starredRuns : List StarredRun
-starredRuns = fourReadings ∷ threeLevels ∷ inBlocks ∷ atLimits ∷ reduced ∷ nineDivisors ∷ combination ∷ lostFactor ∷ []
+starredRuns = fourReadings ∷ threeLevels ∷ inBlocks ∷ oneFactor ∷ reduced ∷ nineDivisors ∷ combination ∷ lostFactor ∷ []
 
 -- ---- the claim
 

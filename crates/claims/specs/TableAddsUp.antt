@@ -60,8 +60,8 @@ pub record AddsUp (p : Plan) (readings : List ℤ) (f : Figures) : Type 0 where
   pub total-degrees : f .total .degrees ≡ runsOf p
   pub checks : f .checks .totals ≡ f .checks .readings
 
--- T20: "No two-level numerator or sum of them exceeds 1,048,576,000,000,000,000.", and none at three levels 340,122,240,000,000,000; nor does
--- any other number of the table in size
+-- T20: "No two-level numerator or sum of them exceeds 1,048,576,000,000,000,000."; at three levels "No numerator, and no sum of them in one
+-- table, exceeds 340,122,240,000,000,000."; nor does any other number of the table in size
 pub record NoneBeyond (p : Plan) (readings : List ℤ) (f : Figures) : Type 0 where
   pub totals : (e : ℕ) → e < runsOf p → natAbs (read (totalsOf (factorsOf p) readings) e) ≤ numeratorLimit p
   -- any sum of some of the first n effects' numerators, and so each of them

@@ -1,7 +1,6 @@
 -- The search for a value beyond a limit.
 --
---   above, not-above, negated         the two tests of the code on a value, and the limit's negation
---   turned-fits, either-way           the same of a reading, both tests at once
+--   turned-fits, either-way           both tests of the code on a reading at once
 --   Sought m xs i                     none of the first i values is beyond m
 --   sought, onward, found, nowhere    at the search's start, at its next turn, where it finds one, at its end
 --   Looked m xs i b                   whether one of the first i values is beyond m
@@ -9,49 +8,26 @@
 use mathlib.Core.Path.{_≡_, refl, sym, _∙_, ap}
 use mathlib.Core.Bool.{Bool, true, false, _||_}
 use mathlib.Core.List.{List}
-use Prim.Native.Nat.{ℕ, zero, suc, _+_, _^_, _<_, _≤_}
+use Prim.Native.Nat.{ℕ, _+_, _^_, _<_, _≤_}
 use native.Mathlib.Omega.{arith}
-use borrow.Author.Tests.{lt-ltb, le-ltb}
-use lib.Dec.{leb·suc-suc}
-use lib.IntN.{ℤ, pos, negsuc, _-ℤ_, +ℤ-idl}
+use lib.IntN.{ℤ, pos, _-ℤ_}
 use lib.ListN.{length}
 use lib.Signed.{ltZ}
 use mir.Facts.{toZ-ofZ}
-use mir.Syntax.{w32, w64}
+use mir.Syntax.{w32}
 use mir.Val.{SFits, toZ, ofZ}
 use mir.ValLaws.{toZ-pos}
 use Rattle.algebra.specs.Laws.Searching as search-for
 use Rattle.algebra.specs.Laws.Searching.{Unfound, Seen}
 use Rattle.algebra.specs.Laws.Size.{natAbs-sub}
-use Rattle.algebra.specs.Laws.Machine.{fits, fits-half, wrap}
+use Rattle.algebra.specs.Laws.Machine.{fits-half}
 use Rattle.contrasts.specs.Columns.{read}
-use Rattle.columns.specs.Refusals.{isBeyond, anyBeyond}
+use Rattle.plan.specs.Limits.{isBeyond}
+use Rattle.plan.specs.Laws.Beyond.{over, under}
+use Rattle.columns.specs.Refusals.{anyBeyond}
 
 -- ---- the tests
 
-over : (m : ℕ) (x : ℤ) → ltZ (pos m) x ≡ true → true ≡ isBeyond m x
-unfolding isBeyond
-over m (pos n) t = sym t
-over m (negsuc n) t = cc
-
-under : (m : ℕ) (x : ℤ) → ltZ (pos m) x ≡ false → ltZ x (pos 0 -ℤ pos m) ≡ isBeyond m x
-unfolding isBeyond
-under zero (pos n) t = le-ltb n 0 (omega arith) ∙ sym t
-under zero (negsuc n) t = sym (lt-ltb 0 (suc n) (omega arith))
-under (suc m) (pos n) t = ap (ltZ (pos n)) (+ℤ-idl (negsuc m)) ∙ sym t
-under (suc m) (negsuc n) t = ap (ltZ (negsuc n)) (+ℤ-idl (negsuc m)) ∙ sym (leb·suc-suc (suc m) n)
-
-pub negated : (m : ℕ) → m < 2 ^ 63 → SFits w64 (pos 0 -ℤ toZ w64 m)
-negated m k = rw (toZ-pos w64 m k) (fits (pos 0 -ℤ pos m) (omega (arith, natAbs-sub (pos 0) (pos m))))
-
-module _ {x : ℤ} {m : ℕ} (f : SFits w64 x) (k : m < 2 ^ 63) where
-  pub above : ltZ (toZ w64 m) (wrap x) ≡ true → true ≡ isBeyond m x
-  above t = over m x (rw (toZ-pos w64 m k, toZ-ofZ f) at t)
-
-  pub not-above : ltZ (toZ w64 m) (wrap x) ≡ false → ltZ (wrap x) (wrap (pos 0 -ℤ toZ w64 m)) ≡ isBeyond m x
-  not-above t = rw (toZ-ofZ (negated m k), toZ-pos w64 m k, toZ-ofZ f) (under m x (rw (toZ-pos w64 m k, toZ-ofZ f) at t))
-
--- both tests at once, of an i32
 either : (m : ℕ) (x : ℤ) → (ltZ (pos m) x || ltZ x (pos 0 -ℤ pos m)) ≡ isBeyond m x
 either m x = by (ltZ (pos m) x) refl
   where

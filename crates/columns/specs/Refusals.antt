@@ -1,20 +1,21 @@
 -- Refusals 11 and 12 of the table of refusals, of a column; and what a call that writes a column answers.
 --
 --   wrongLength p n                  refusal 11: a column of n places is not N long
---   isBeyond, anyBeyond limit xs     refusal 12: a value beyond a limit, and a column that has one
+--   anyBeyond limit xs               refusal 12: a column that has a value beyond a limit
 --   columnsRefusals limit p xs ys    the refusals, besides those of the plan, of a call that reads the column xs and writes the column ys
 --   columnsRefused limit p xs ys     its lowest number that applies, 0 where it is done
 --   answerOutcome                    the cases of the answer
 use mathlib.Core.Bool.{Bool, not, _||_}
 use mathlib.Core.List.{List, [], _∷_}
 use Prim.Native.Nat.{ℕ}
-use lib.Dec.{eqb, ltb}
-use lib.IntN.{ℤ, natAbs}
+use lib.Dec.{eqb}
+use lib.IntN.{ℤ}
 use lib.ListN.{length}
 use Rattle.algebra.specs.Search.{some}
 use Rattle.contrasts.specs.Columns.{read}
 use Rattle.plan.specs.declared.types.Plan.{Plan}
 use Rattle.plan.specs.Check.{withPlan}
+use Rattle.plan.specs.Limits.{isBeyond}
 use Rattle.plan.specs.Outcome.{Refusal, refusal, Outcome, given, refused}
 use Rattle.plan.specs.Plan.{runsOf}
 use Rattle.columns.specs.declared.types.Answer.{Answer}
@@ -24,11 +25,7 @@ use Rattle.columns.specs.declared.types.Answer.the-variants.{Done, Refus
 unfoldable pub wrongLength : Plan → ℕ → Bool
 wrongLength p n = not (eqb n (runsOf p))
 
--- N12: "12 with these limits": a reading, or a value of a pass or a step, beyond its limit either way
-unfoldable pub isBeyond : ℕ → ℤ → Bool
-isBeyond limit z = ltb limit (natAbs z)
-
--- N12
+-- N12: "12 with these limits", of a column
 unfoldable pub anyBeyond : ℕ → List ℤ → Bool
 anyBeyond limit xs = some (length xs) (λ i. isBeyond limit (read xs i))
 

@@ -1,7 +1,6 @@
 // What is refused of columns: their lengths, refusal 11, and their values, refusal 12; the copy of readings; and what a call that writes a column
 // answers.
 //
-//   is_beyond(x, limit)                      a value is beyond a limit
 //   any_value_beyond(column)                 a pass or a step refuses a value of it
 //   any_reading_beyond(p, readings)          the totals and the table refuse a reading
 //   values_refused(p, from, to)              the lowest number of a call that reads a column of values and writes another
@@ -19,5 +18,4 @@ pub use refusals::readings_refused;
 pub use refusals::values_refused;
 pub use scans::any_reading_beyond;
 pub use scans::any_value_beyond;
-pub use scans::is_beyond;
 pub use types::Answer;

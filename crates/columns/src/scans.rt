@@ -3,23 +3,13 @@ ghost use mathlib.Core.Path.{_≡_};
 ghost use Prim.Native.Nat.{_^_, _<_};
 use super::bits::all_bits;
 use plan::Plan;
+use sizes::is_beyond;
 use sizes::reading_limit;
 ghost use Rattle.contrasts.specs.Limits.{valueLimit};
-ghost use Rattle.plan.specs.Limits.{readingLimit};
-ghost use Rattle.columns.specs.Refusals.{isBeyond, anyBeyond};
+ghost use Rattle.plan.specs.Limits.{readingLimit, isBeyond};
+ghost use Rattle.columns.specs.Refusals.{anyBeyond};
 
 const VALUE_LIMIT: u32 = 1_024_000_000;
-
-// Whether a value is beyond a limit.
-pub fn is_beyond(x: i64, limit: u32) -> bool
-    ensures { λ r. ⌜ r ≡ isBeyond limit x ⌝ }
-{
-    let most = limit as i64;
-    if most < x {
-        return true;
-    }
-    x < -most
-}
 
 // Whether a pass or a step refuses a value of the column, by a search.
 fn search_values(column: &[i64]) -> bool
@@ -48,7 +38,7 @@ pub fn any_value_beyond(column: &[i64]) -> bool
 
 // Whether a reading is beyond a limit. Both comparisons are made, and the loop that calls this does not stop early, so it is compiled to work
 // several readings at a time.
-fn is_either_way(x: i32, limit: u32) -> bool
+fn is_reading_beyond(x: i32, limit: u32) -> bool
     requires { ⌜ limit < 2 ^ 31 ⌝ }
     ensures { λ r. ⌜ r ≡ isBeyond limit x ⌝ }
 {
@@ -57,14 +47,14 @@ fn is_either_way(x: i32, limit: u32) -> bool
 }
 
 // Whether a reading of the column is beyond a limit.
-fn look_at_all(readings: &[i32], limit: u32) -> bool
+fn any_beyond(readings: &[i32], limit: u32) -> bool
     requires { ⌜ limit < 2 ^ 31 ⌝ }
     ensures { λ r. ⌜ r ≡ anyBeyond limit (now (readings .entry)) ⌝ }
 {
     let mut any = false;
     let mut i = 0;
     while i < readings.len() {
-        any = any | is_either_way(readings[i], limit);
+        any = any | is_reading_beyond(readings[i], limit);
         i += 1;
     }
     any
@@ -74,5 +64,5 @@ fn look_at_all(readings: &[i32], limit: u32) -> bool
 pub fn any_reading_beyond(p: Plan, readings: &[i32]) -> bool
     ensures { λ r. ⌜ r ≡ anyBeyond (readingLimit p) (now (readings .entry)) ⌝ }
 {
-    look_at_all(readings, reading_limit(p))
+    any_beyond(readings, reading_limit(p))
 }

@@ -1,7 +1,7 @@
 // What the fields of a sheet say, for any bytes.
 //
 //   plan_in(sheet)               the plan
-//   any_beyond(body)             whether a reading of the body of field 4 is refused
+//   any_beyond(p, body)          whether a reading of the body of field 4 is refused
 //   put_readings(body, column)   its readings, in a column of as many places
 mod plans;
 mod readings;

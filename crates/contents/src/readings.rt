@@ -2,9 +2,9 @@
 ghost use mathlib.Core.Path.{_≡_};
 ghost use Prim.Native.Nat.{_+_, _*_, _/_, _<_};
 ghost use lib.ListN.{length};
-use columns::is_beyond;
 use numerals::reading;
 use plan::Plan;
+use sizes::is_beyond;
 use sizes::reading_limit;
 ghost use Rattle.plan.specs.Limits.{readingLimit};
 ghost use Rattle.columns.specs.Refusals.{anyBeyond};

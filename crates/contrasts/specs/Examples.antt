@@ -3,7 +3,7 @@
 --   four-*       readings 3, 5, 4, 8
 --   three-*      three levels, 2, 5, 3
 --   eight-*      readings 1 to 8
---   largest-*    k = 1, -100,000 and 100,000
+--   one-factor-* k = 1, -100,000 and 100,000
 --   nine-*       two three-level factors
 --   places       a place by its digits, and with another digit
 use mathlib.Core.Path.{_≡_, refl}
@@ -125,9 +125,9 @@ eight-totals = refl
 
 -- ---- X4: "k = 1, -100,000 and 100,000: totals 0, -200,000"
 
-largest-totals : totalsOf (two ∷ []) (neg 100_000 ∷ pos 100_000 ∷ []) ≡ pos 0 ∷ neg 200_000 ∷ []
+one-factor-totals : totalsOf (two ∷ []) (neg 100_000 ∷ pos 100_000 ∷ []) ≡ pos 0 ∷ neg 200_000 ∷ []
 unfolding totalsOf total coef* size Σ tabFrom two
-largest-totals = refl
+one-factor-totals = refl
 
 -- ---- X6: "Two three-level factors: divisors 9, 6, 18, 6, 4, 12, 18, 12, 36."
 

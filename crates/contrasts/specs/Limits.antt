@@ -12,7 +12,7 @@ use Prim.Native.Nat.{ℕ}
 unfoldable pub twoReadingLimit : ℕ
 twoReadingLimit = 1_000_000
 
--- T1: "Three-level readings keep their limit.": "Readings are i32 from -100,000 to 100,000."
+-- T1: "Three-level readings keep their limit.", "Readings are i32 from -100,000 to 100,000."
 unfoldable pub threeReadingLimit : ℕ
 threeReadingLimit = 100_000
 
@@ -20,7 +20,7 @@ threeReadingLimit = 100_000
 unfoldable pub twoNumeratorLimit : ℕ
 twoNumeratorLimit = 1_048_576_000_000_000_000
 
--- T20: "No numerator, and no sum of them in one table, exceeds 340,122,240,000,000,000.", which is left at three levels
+-- T20: at three levels, "No numerator, and no sum of them in one table, exceeds 340,122,240,000,000,000."
 unfoldable pub threeNumeratorLimit : ℕ
 threeNumeratorLimit = 340_122_240_000_000_000
 

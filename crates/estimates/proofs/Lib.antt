@@ -2,7 +2,7 @@
 --
 --   Division   a total over a power of two, as doubles
 --   Negation   the total as it is printed
---   Limit      a total beside its limit
+--   Limit      the limit of a total
 --   Answers    the answers of the call, by the number that was found
 pub mod Division
 pub mod Negation

@@ -13,15 +13,15 @@
 use mathlib.Core.Bool.{Bool, cond}
 use mathlib.Core.List.{List, [], _∷_}
 use Prim.Native.Nat.{ℕ, _*_, _-_, _^_}
-use lib.Dec.{eqb, ltb}
-use lib.IntN.{ℤ, natAbs, negℤ}
+use lib.Dec.{eqb}
+use lib.IntN.{ℤ, negℤ}
 use lib.Ieee.{Float}
 use Rattle.words.specs.Words.{oddWord, beyond}
 use Rattle.plan.specs.declared.types.Plan.{Plan}
 use Rattle.plan.specs.Outcome.{Refusal, refusal, Outcome, given, refused}
 use Rattle.plan.specs.Plan.{confoundedIn}
 use Rattle.plan.specs.Check.{withPlan}
-use Rattle.plan.specs.Limits.{readingLimit}
+use Rattle.plan.specs.Limits.{readingLimit, isBeyond}
 use Rattle.estimates.specs.declared.types.Estimate.{Estimate}
 use Rattle.estimates.specs.declared.types.Estimate.the-variants as answer
 use Rattle.estimates.specs.Quotient.{Exactly, quotient}
@@ -65,7 +65,7 @@ totalLimit p = 2 ^ p .k * readingLimit p
 -- N9: "estimate, alias or run call asked at three levels"; N10: "[..] estimate's letter not a base factor";
 -- N12: "estimate's total beyond its limit"
 abbrev pub estimateRefusals : Plan → ℕ → ℤ → List Refusal
-estimateRefusals p e t = refusal 9 (eqb (p .levels) 3) ∷ refusal 10 (beyond (p .k) e) ∷ refusal 12 (ltb (totalLimit p) (natAbs t)) ∷ []
+estimateRefusals p e t = refusal 9 (eqb (p .levels) 3) ∷ refusal 10 (beyond (p .k) e) ∷ refusal 12 (isBeyond (totalLimit p) t) ∷ []
 
 unfoldable pub estimateRefused : Plan → ℕ → ℤ → ℕ
 estimateRefused p e t = withPlan p (estimateRefusals p e t)

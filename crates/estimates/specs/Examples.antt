@@ -3,7 +3,7 @@
 --   quotients              totals over powers of two, as doubles
 --   four, eight            readings 3, 5, 4, 8, and readings 1 to 8 with the block word ABC
 --   zeros                  totals of 0
---   largest                "k = 1, -100,000 and 100,000"
+--   oneFactor              "k = 1, -100,000 and 100,000"
 --   small-inputs           the small inputs of refusals 9, 10 and 12, and the lowest of them where several apply
 --   at-limits              the largest totals that are admitted, and those one larger
 use mathlib.Core.Path.{_≡_, refl}
@@ -20,7 +20,7 @@ use Rattle.contrasts.specs.Codings.{neg}
 use Rattle.words.specs.Words.{letters, beyond, times, combined, any, among, repeated}
 use Rattle.plan.specs.declared.types.Plan.{Plan}
 use Rattle.plan.specs.Examples.{plan, A, C, ABC}
-use Rattle.plan.specs.Limits.{readingLimit}
+use Rattle.plan.specs.Limits.{readingLimit, isBeyond}
 use Rattle.plan.specs.Outcome.{Outcome, given, refused, outcome}
 use Rattle.plan.specs.Plan.{someCombination, combinesTo}
 use Rattle.plan.specs.Check.{badLevels, badFactors, badCounts, badWord, badSign, badWords, dependent, factorWord, losesFactor, planRefused, withPlan}
@@ -51,13 +51,13 @@ four : answers twoFactors 0 (pos 20 ∷ neg 6 ∷ neg 4 ∷ pos 2 ∷ [])
     ∷ given (difference (fin false 1 (pos 1)))
     ∷ given (difference (fin false 1 (pos 0)))
     ∷ []
-unfolding estimateRefused withPlan planRefused badLevels badFactors mostTwo mostThree badCounts badWords badWord badSign repeated dependent losesFactor factorWord any among beyond letters combined times someCombination combinesTo some bits Σℕ readingLimit twoReadingLimit threeReadingLimit valueBy meanOf differenceOf printedTotal quotient
+unfolding estimateRefused withPlan planRefused badLevels badFactors mostTwo mostThree badCounts badWords badWord badSign repeated dependent losesFactor factorWord any among beyond letters combined times someCombination combinesTo some bits Σℕ isBeyond readingLimit twoReadingLimit threeReadingLimit valueBy meanOf differenceOf printedTotal quotient
 four = refl
 
 -- E6: all four totals 0: no zero is negative, that of A and of B neither
 zeros : answers twoFactors 0 (pos 0 ∷ pos 0 ∷ pos 0 ∷ pos 0 ∷ [])
     ≡ given (mean positiveZero) ∷ given (difference positiveZero) ∷ given (difference positiveZero) ∷ given (difference positiveZero) ∷ []
-unfolding estimateRefused withPlan planRefused badLevels badFactors mostTwo mostThree badCounts badWords badWord badSign repeated dependent losesFactor factorWord any among beyond letters combined times someCombination combinesTo some bits Σℕ readingLimit twoReadingLimit threeReadingLimit valueBy meanOf differenceOf printedTotal quotient
+unfolding estimateRefused withPlan planRefused badLevels badFactors mostTwo mostThree badCounts badWords badWord badSign repeated dependent losesFactor factorWord any among beyond letters combined times someCombination combinesTo some bits Σℕ isBeyond readingLimit twoReadingLimit threeReadingLimit valueBy meanOf differenceOf printedTotal quotient
 zeros = refl
 
 abbrev inBlocks : Plan
@@ -74,13 +74,13 @@ eight : answers inBlocks 0 (pos 36 ∷ neg 4 ∷ neg 8 ∷ pos 0 ∷ neg 16 ∷ 
     ∷ given (difference positiveZero)
     ∷ given lost
     ∷ []
-unfolding estimateRefused withPlan planRefused badLevels badFactors mostTwo mostThree badCounts badWords badWord badSign repeated dependent losesFactor factorWord any among beyond letters combined times someCombination combinesTo some bits Σℕ readingLimit twoReadingLimit threeReadingLimit valueBy meanOf differenceOf printedTotal quotient
+unfolding estimateRefused withPlan planRefused badLevels badFactors mostTwo mostThree badCounts badWords badWord badSign repeated dependent losesFactor factorWord any among beyond letters combined times someCombination combinesTo some bits Σℕ isBeyond readingLimit twoReadingLimit threeReadingLimit valueBy meanOf differenceOf printedTotal quotient
 eight = refl
 
 -- X4: "totals 0, -200,000", "The k = 1 reference difference becomes 200,000", which is 3,125 * 2 ^ 6
-largest : answers (plan 2 1 [] [] []) 0 (pos 0 ∷ neg 200_000 ∷ []) ≡ given (mean positiveZero) ∷ given (difference (fin false 3_125 (pos 6))) ∷ []
-unfolding estimateRefused withPlan planRefused badLevels badFactors mostTwo mostThree badCounts badWords badWord badSign repeated dependent losesFactor factorWord any among beyond letters combined times someCombination combinesTo some bits Σℕ readingLimit twoReadingLimit threeReadingLimit valueBy meanOf differenceOf printedTotal quotient
-largest = refl
+oneFactor : answers (plan 2 1 [] [] []) 0 (pos 0 ∷ neg 200_000 ∷ []) ≡ given (mean positiveZero) ∷ given (difference (fin false 3_125 (pos 6))) ∷ []
+unfolding estimateRefused withPlan planRefused badLevels badFactors mostTwo mostThree badCounts badWords badWord badSign repeated dependent losesFactor factorWord any among beyond letters combined times someCombination combinesTo some bits Σℕ isBeyond readingLimit twoReadingLimit threeReadingLimit valueBy meanOf differenceOf printedTotal quotient
+oneFactor = refl
 
 -- N9: "levels 3, k = 1"; N10: k = 2, effect C; N12: k = 2, a total of one more than four times the limit
 -- L1: then calls to which 3, 9, 10 and 12 apply, 9, 10 and 12, and 10 and 12
@@ -92,7 +92,7 @@ small-inputs : answer (plan 3 1 [] [] []) A (pos 0)
     ∷ answer twoFactors C (neg 10_000_000_000)
     ∷ []
     ≡ refused 9 ∷ refused 10 ∷ refused 12 ∷ refused 3 ∷ refused 9 ∷ refused 10 ∷ []
-unfolding estimateRefused withPlan planRefused badLevels badFactors mostTwo mostThree badCounts badWords badWord badSign repeated dependent losesFactor factorWord any among beyond letters combined times someCombination combinesTo some bits Σℕ readingLimit twoReadingLimit threeReadingLimit valueBy meanOf differenceOf printedTotal quotient
+unfolding estimateRefused withPlan planRefused badLevels badFactors mostTwo mostThree badCounts badWords badWord badSign repeated dependent losesFactor factorWord any among beyond letters combined times someCombination combinesTo some bits Σℕ isBeyond readingLimit twoReadingLimit threeReadingLimit valueBy meanOf differenceOf printedTotal quotient
 small-inputs = refl
 
 -- E7, N12: both ways, with two factors and with ten, and the smallest i64; an effect that is lost is refused by its total too
@@ -106,5 +106,5 @@ at-limits : estimateRefused twoFactors A (pos (4 * twoReadingLimit))
     ∷ estimateRefused inBlocks ABC (pos (suc (8 * twoReadingLimit)))
     ∷ []
     ≡ 0 ∷ 0 ∷ 12 ∷ 12 ∷ 0 ∷ 12 ∷ 12 ∷ 12 ∷ []
-unfolding estimateRefused withPlan planRefused badLevels badFactors mostTwo mostThree badCounts badWords badWord badSign repeated dependent losesFactor factorWord any among beyond letters combined times someCombination combinesTo some bits Σℕ readingLimit twoReadingLimit threeReadingLimit
+unfolding estimateRefused withPlan planRefused badLevels badFactors mostTwo mostThree badCounts badWords badWord badSign repeated dependent losesFactor factorWord any among beyond letters combined times someCombination combinesTo some bits Σℕ isBeyond readingLimit twoReadingLimit threeReadingLimit
 at-limits = refl

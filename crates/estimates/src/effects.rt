@@ -1,31 +1,27 @@
 // The estimate call: the lowest number that applies, and else the mean, a difference, or lost to blocks.
 ghost use mathlib.Core.Path.{_≡_};
-ghost use Prim.Native.Nat.{_*_, _^_, _<_, _≤_};
-ghost use lib.Dec.{ltb};
+ghost use Prim.Native.Nat.{_^_, _<_};
 ghost use lib.IntN.{natAbs};
 use super::quotients::scaled;
 use super::types::Estimate;
 use plan::Plan;
 use plan::confounded;
 use plan::lowest;
+use sizes::is_beyond;
 use sizes::reading_limit;
 use words::has_beyond;
 use words::is_odd_word;
+ghost use Rattle.plan.specs.Check.{planRefused};
 ghost use Rattle.plan.specs.Outcome.{outcome, given};
 ghost use Rattle.estimates.specs.Quotient.{InDouble};
-ghost use Rattle.estimates.specs.Estimate.{printedTotal, valueBy, estimateRefused, estimateValue, estimateOutcome, ExactlyGiven};
+ghost use Rattle.estimates.specs.Estimate.{printedTotal, valueBy, totalLimit, estimateRefused, estimateValue, estimateOutcome, ExactlyGiven};
 
-// Refusal 12: whether a total lies beyond 2 to the power k times the limit of a reading, either way. Of a negative total the size less 1 is
-// compared, -1 minus the total, which is an i64 for every total.
-fn is_beyond(total: i64, k: usize, limit: u32) -> bool
-    requires { ⌜ k ≤ 10 ⌝ }
-    ensures { λ r. ⌜ r ≡ ltb (2 ^ k * limit) (natAbs total) ⌝ }
+// The limit of a total: 2 to the power k times that of a reading.
+fn total_limit(p: Plan) -> u32
+    requires { ⌜ (planRefused p ≡ 0) × (p .levels ≡ 2) ⌝ }
+    ensures { λ r. ⌜ r ≡ totalLimit p ⌝ }
 {
-    let most = (limit as u64) << k;
-    if total < 0 {
-        return most <= (-1 - total) as u64;
-    }
-    most < total as u64
+    reading_limit(p) << (p.k as u32)
 }
 
 // The lowest number that applies, and 0 where none does.
@@ -39,11 +35,10 @@ fn estimate_refused(p: Plan, effect: u16, total: i64) -> u8
     if p.levels == 3 {
         return 9;
     }
-    let k = p.k as usize;
-    if has_beyond(effect, k) {
+    if has_beyond(effect, p.k as usize) {
         return 10;
     }
-    if is_beyond(total, k, reading_limit(p)) {
+    if is_beyond(total, total_limit(p)) {
         return 12;
     }
     0

@@ -7,7 +7,8 @@
 --   Lowest         the number of a call is the lowest that applies
 --   Confounded     the confounded effects of an accepted plan
 --   Sizes          the factors and the runs of an accepted plan
---   Limits         what readings within the plan's limit come to
+--   Limits         the plan's limits, and that readings within theirs leave none
+--   Beyond         a number beside a limit
 --   Coefficients   the coefficients and totals of two levels, by letters
 --   Alike          places beyond the counts are ignored
 pub mod Combinations
@@ -18,5 +19,6 @@ pub mod Lowest
 pub mod Confounded
 pub mod Sizes
 pub mod Limits
+pub mod Beyond
 pub mod Coefficients
 pub mod Alike

@@ -1,7 +1,7 @@
 -- What the calls about plans promise, and laws that callers cite.
 --
 --   Plan       what a plan says: its words, factors, runs and confounded effects
---   Limits     the limits of its readings and numerators
+--   Limits     the limits of its readings and numerators, and what is beyond one
 --   Outcome    what every call answers, and the lowest number that applies
 --   Check      the refusals 2 to 8, and the check's answer
 --   Examples   the small inputs of refusals 2 to 8

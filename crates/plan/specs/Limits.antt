@@ -1,10 +1,13 @@
--- The limits that go by the plan's levels. A plan of other levels than two and three is refused before they are asked.
+-- The limits that go by the plan's levels, and what is beyond a limit. A plan of other levels than two and three is refused before its
+-- limits are asked.
 --
 --   readingLimit p      a reading's size
 --   numeratorLimit p    a numerator of the plan's table, or a sum of some of them
-use mathlib.Core.Bool.{cond}
+--   isBeyond limit z    refusal 12: a number beyond a limit
+use mathlib.Core.Bool.{Bool, cond}
 use Prim.Native.Nat.{ℕ}
-use lib.Dec.{eqb}
+use lib.Dec.{eqb, ltb}
+use lib.IntN.{ℤ, natAbs}
 use Rattle.contrasts.specs.Limits.{twoReadingLimit, threeReadingLimit, twoNumeratorLimit, threeNumeratorLimit}
 use Rattle.plan.specs.declared.types.Plan.{Plan}
 
@@ -12,6 +15,11 @@ use Rattle.plan.specs.declared.types.Plan.{Plan}
 unfoldable pub readingLimit : Plan → ℕ
 readingLimit p = cond (eqb (p .levels) 2) twoReadingLimit threeReadingLimit
 
--- T20: "No two-level numerator or sum of them exceeds 1,048,576,000,000,000,000."; none at three levels 340,122,240,000,000,000
+-- T20: "No two-level numerator or sum of them exceeds 1,048,576,000,000,000,000."; at three levels "No numerator, and no sum of them in one
+-- table, exceeds 340,122,240,000,000,000."
 unfoldable pub numeratorLimit : Plan → ℕ
 numeratorLimit p = cond (eqb (p .levels) 2) twoNumeratorLimit threeNumeratorLimit
+
+-- N12: "12 with these limits": a reading, a value of a pass or a step, or an estimate's total beyond its limit either way
+unfoldable pub isBeyond : ℕ → ℤ → Bool
+isBeyond limit z = ltb limit (natAbs z)

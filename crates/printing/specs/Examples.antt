@@ -20,9 +20,9 @@ use Rattle.contrasts.specs.Totals.{size, coef*, total, divisor*, denominator, w
 use Rattle.contrasts.specs.Checks.{checkWeight, round, rounds}
 use Rattle.words.specs.Words.{letters, beyond, times, combined, any, among, repeated}
 use Rattle.plan.specs.Check.{badLevels, badFactors, badCounts, badWord, badSign, badWords, dependent, factorWord, losesFactor, planRefused, withPlan}
-use Rattle.plan.specs.Limits.{readingLimit}
+use Rattle.plan.specs.Limits.{readingLimit, isBeyond}
 use Rattle.plan.specs.Plan.{factorsOf, someCombination, combinesTo}
-use Rattle.columns.specs.Refusals.{wrongLength, isBeyond, anyBeyond}
+use Rattle.columns.specs.Refusals.{wrongLength, anyBeyond}
 use Rattle.rows.specs.Kinds.{wrongRows, kindByMark, kindOf, badMark, badMarks}
 use Rattle.numerals.specs.Numbers.{big, twos}
 use Rattle.fields.specs.Fields.{parse, fieldsOf, bodies, bodyAt}

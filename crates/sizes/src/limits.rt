@@ -1,7 +1,7 @@
-// How large a reading of a plan may be.
+// How large a reading of a plan may be, and whether a number is beyond a limit.
 ghost use mathlib.Core.Path.{_≡_};
 use plan::Plan;
-ghost use Rattle.plan.specs.Limits.{readingLimit};
+ghost use Rattle.plan.specs.Limits.{readingLimit, isBeyond};
 
 const TWO_READING_LIMIT: u32 = 1_000_000;
 
@@ -16,4 +16,15 @@ pub fn reading_limit(p: Plan) -> u32
     } else {
         THREE_READING_LIMIT
     }
+}
+
+// Whether a number is beyond a limit either way.
+pub fn is_beyond(x: i64, limit: u32) -> bool
+    ensures { λ r. ⌜ r ≡ isBeyond limit x ⌝ }
+{
+    let most = limit as i64;
+    if most < x {
+        return true;
+    }
+    x < -most
 }

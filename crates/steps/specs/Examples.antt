@@ -3,6 +3,7 @@
 --   four-steps    readings 3, 5, 4, 8: two steps
 --   three-step    readings 2, 5, 3 at three levels
 --   small-inputs  refusals 11 and 12, of the column that is read and of the one that is written
+--   step-limits   the largest values that are admitted, and those one larger
 use mathlib.Core.Path.{_≡_, refl}
 use mathlib.Core.List.{List, [], _∷_}
 use Prim.Native.Nat.{suc}
@@ -23,7 +24,8 @@ use Rattle.plan.specs.declared.types.Plan.{Plan}
 use Rattle.plan.specs.Examples.{plan}
 use Rattle.plan.specs.Plan.{factorsOf, someCombination, combinesTo}
 use Rattle.plan.specs.Check.{badLevels, badFactors, badCounts, badWord, badSign, badWords, dependent, factorWord, losesFactor, planRefused, withPlan}
-use Rattle.columns.specs.Refusals.{wrongLength, isBeyond, anyBeyond, columnsRefused}
+use Rattle.plan.specs.Limits.{isBeyond}
+use Rattle.columns.specs.Refusals.{wrongLength, anyBeyond, columnsRefused}
 use Rattle.steps.specs.Step.{stepRefused, stepColumn}
 
 abbrev four : Plan
@@ -55,3 +57,13 @@ small-inputs : stepRefused four (pos 3 ∷ []) other
     ≡ 11 ∷ 11 ∷ 12 ∷ 11 ∷ []
 unfolding columnsRefused withPlan planRefused badLevels badFactors mostTwo mostThree badCounts badWords badWord badSign repeated dependent losesFactor factorWord any among beyond letters combined times someCombination combinesTo some bits Σℕ wrongLength anyBeyond isBeyond valueLimit factorsOf size two
 small-inputs = refl
+
+-- N12: a step "at either level count"
+step-limits : stepRefused (plan 2 1 [] [] []) (pos valueLimit ∷ neg valueLimit ∷ []) (pos 0 ∷ pos 0 ∷ [])
+    ∷ stepRefused (plan 2 1 [] [] []) (pos 0 ∷ neg (suc valueLimit) ∷ []) (pos 0 ∷ pos 0 ∷ [])
+    ∷ stepRefused (plan 3 1 [] [] []) (neg valueLimit ∷ pos 0 ∷ pos valueLimit ∷ []) (pos 0 ∷ pos 0 ∷ pos 0 ∷ [])
+    ∷ stepRefused (plan 3 1 [] [] []) (pos 0 ∷ pos (suc valueLimit) ∷ pos 0 ∷ []) (pos 0 ∷ pos 0 ∷ pos 0 ∷ [])
+    ∷ []
+    ≡ 0 ∷ 12 ∷ 0 ∷ 12 ∷ []
+unfolding columnsRefused withPlan planRefused badLevels badFactors mostTwo mostThree badCounts badWords badWord badSign repeated dependent losesFactor factorWord any among beyond letters combined times someCombination combinesTo some bits Σℕ wrongLength anyBeyond isBeyond valueLimit factorsOf size two three
+step-limits = refl

@@ -1,7 +1,7 @@
 -- Small texts, computed over the definitions.
 --
 --   row-AC, all-letters      letters of a row
---   nothing, hundred, most   numbers: 0, 100, and the largest limit of numerators
+--   nothing, hundred, most   numbers: 0, 100, and the largest u64
 --   below, zero-unsigned     values: below 0, and 0, which has no sign
 --   within, cut-short        bytes written in the middle of a buffer, and at its end
 use mathlib.Core.Path.{_≡_, refl}
@@ -26,7 +26,7 @@ hundred : decimal 100 ≡ ascii "100"
 unfolding decimalIn
 hundred = refl
 
-most : decimal 1_048_576_000_000_000_000 ≡ ascii "1048576000000000000"
+most : decimal 18_446_744_073_709_551_615 ≡ ascii "18446744073709551615"
 unfolding decimalIn
 most = refl
 

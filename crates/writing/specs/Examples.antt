@@ -19,10 +19,10 @@ use Rattle.contrasts.specs.Factors.{two, three}
 use Rattle.contrasts.specs.Totals.{size}
 use Rattle.words.specs.Words.{letters, beyond, times, combined, any, among, repeated}
 use Rattle.plan.specs.Check.{badLevels, badFactors, badCounts, badWord, badSign, badWords, dependent, factorWord, losesFactor, planRefused, withPlan}
-use Rattle.plan.specs.Limits.{readingLimit}
+use Rattle.plan.specs.Limits.{readingLimit, isBeyond}
 use Rattle.plan.specs.Examples.{AB, ABC, C, plan}
 use Rattle.plan.specs.Plan.{factorsOf, someCombination, combinesTo}
-use Rattle.columns.specs.Refusals.{wrongLength, isBeyond, anyBeyond}
+use Rattle.columns.specs.Refusals.{wrongLength, anyBeyond}
 use Rattle.rows.specs.Kinds.{wrongRows, badMark, badMarks}
 use Rattle.numerals.specs.Numbers.{big, twos}
 use Rattle.fields.specs.Fields.{parse, fieldsOf, bodies, bodyAt}

@@ -32,7 +32,7 @@ use Rattle.contrasts.specs.Laws.Order.{inOrder, in-order}
 use Rattle.contrasts.specs.Laws.Stretches.{passOver}
 use Rattle.plan.specs.declared.types.Plan.{Plan}
 use Rattle.plan.specs.Check.{spacingAt}
-use Rattle.plan.specs.Limits.{readingLimit, numeratorLimit}
+use Rattle.plan.specs.Limits.{readingLimit}
 use Rattle.plan.specs.Plan.{factorsOf}
 use Rattle.plan.specs.Laws.Accepted.{accepted}
 use Rattle.plan.specs.Laws.Limits.{plan-roomy}
@@ -84,8 +84,7 @@ module _ {p : Plan} {readings totals : List ℤ} (a : Columns (readingLimit p) p
       record {
         kind = plan-kind p (a .plan);
         limit = readingLimit p;
-        numerators = numeratorLimit p;
-        roomy = plan-roomy p (a .plan);
+        passable = plan-roomy p (a .plan) .passable;
         whole = as-power p (a .plan) (a .whole);
         within = a .within;
       }
@@ -119,7 +118,7 @@ module _ {l k : ℕ} {xs : List ℤ} (pre : PassReadings l k xs) where
     small =
         rw column
         (within-tab _ valueLimit _
-        (values-fit (pre .roomy) (read xs) (λ r _. pre .within r) (inOrder k) (λ j h. omega (arith, once j h)) f))
+        (values-fit (pre .passable) (read xs) (λ r _. pre .within r) (inOrder k) (λ j h. omega (arith, once j h)) f))
 
     pub all-done : k ≤ f → ys ≡ totalsOf (replicate k (ofLevels l)) xs
     all-done h =

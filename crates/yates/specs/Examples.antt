@@ -23,10 +23,10 @@ use Rattle.contrasts.specs.Passes.{passAt, passFrom}
 use Rattle.words.specs.Words.{letters, beyond, times, combined, any, among, repeated}
 use Rattle.plan.specs.declared.types.Plan.{Plan}
 use Rattle.plan.specs.Examples.{plan}
-use Rattle.plan.specs.Limits.{readingLimit}
+use Rattle.plan.specs.Limits.{readingLimit, isBeyond}
 use Rattle.plan.specs.Plan.{factorsOf, someCombination, combinesTo}
 use Rattle.plan.specs.Check.{badLevels, badFactors, badCounts, badWord, badSign, badWords, dependent, factorWord, losesFactor, planRefused, withPlan}
-use Rattle.columns.specs.Refusals.{wrongLength, isBeyond, anyBeyond, columnsRefused}
+use Rattle.columns.specs.Refusals.{wrongLength, anyBeyond, columnsRefused}
 use Rattle.yates.specs.Calls.{passRefused, passColumn, totalsRefused, totalsColumn}
 
 -- two factors of two levels, one of two, one of three

@@ -6,7 +6,7 @@
 --   Walkable ts effects d ds kinds rows    the walk stays within its slices, and its sums fit
 --   Sets n xs                              n sets of three that a round turns
 --   Rounds k xs                            the readings of k three-level factors, within a limit that leaves room for the rounds
---   Checkable levels k readings column     readings of an accepted plan, and a column for the rounds
+--   Checkable levels k readings column     readings within a limit that leaves room for the check, and a column for its rounds
 use mathlib.Core.Path.{_≡_}
 use mathlib.Core.List.{List}
 use Prim.Native.Nat.{ℕ, _-_, _*_, _/_, _^_, _<_, _≤_}

@@ -4,7 +4,7 @@
 --   table-admitted                             these, from the number
 --   table-admits                               and this is all that is asked, with readings within the limit and marks that are lawful
 --   rows-power                                 R is 2 to the power of the number of factors
---   within-limit                               the total, by the sum of squares, is within that limit
+--   within-limit                               the total, by the sum of squares, is within the plan's limit of numerators
 use mathlib.Core.Path.{_≡_, refl, _∙_, ap}
 use mathlib.Core.Bool.{false, _||_}
 use mathlib.Core.List.{List}

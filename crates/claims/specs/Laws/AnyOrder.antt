@@ -59,7 +59,7 @@ module _ (p : Plan) (ok : planRefused p ≡ 0) (xs : List ℤ) (start : Readings
   small n =
       rw (as-table n)
       (within-tab (runsOf p) valueLimit (passes (factorsOf p) (take n calls) (read xs))
-      (values-fit (plan-roomy p ok) (read xs) (λ r _. start .within r) calls
+      (values-fit (plan-roomy p ok .passable) (read xs) (λ r _. start .within r) calls
       (λ f h. omega (arith, once f (rw (length-replicate (p .k) (ofLevels (p .levels))) at h))) n))
 
   admitted : (n : ℕ) → call calls n < p .k → PassAdmitted p (call calls n) (passed n)

@@ -14,7 +14,7 @@ use Rattle.contrasts.specs.Limits.{valueLimit}
 use Rattle.contrasts.specs.Factors.{ofLevels}
 use Rattle.contrasts.specs.Totals.{size}
 use Rattle.contrasts.specs.Steps.{steps}
-use Rattle.contrasts.specs.Laws.Limits.{Roomy, steps-fit}
+use Rattle.contrasts.specs.Laws.Limits.{Passable, steps-fit}
 use Rattle.contrasts.specs.Laws.Lists.{steps-list, steps-alike, steps-more}
 use Rattle.contrasts.specs.Laws.Within.{within-tab}
 use Rattle.plan.specs.declared.types.Plan.{Plan}
@@ -30,7 +30,7 @@ use Rattle.claims.specs.AnyOrder.{Readings}
 use Rattle.claims.specs.Steps.{afterSteps, Lent, answer, Steps}
 
 -- a step needs a factor, so k is the number after another
-fits-each : (F : Factor) (k : ℕ) → 0 < k → {L M : ℕ} → Roomy (replicate k F) L M → (xs : List ℤ) → length xs ≡ size (replicate k F)
+fits-each : (F : Factor) (k : ℕ) → 0 < k → {L : ℕ} → Passable (replicate k F) L → (xs : List ℤ) → length xs ≡ size (replicate k F)
     → AllWithin L xs → (t : ℕ) → t ≤ k → AllWithin valueLimit (stepsOf (size (replicate k F)) (replicate t F) xs)
 fits-each F zero some ok xs whole within t h = absurd (omega arith)
 fits-each F (suc k) some ok xs whole within t h =
@@ -54,7 +54,7 @@ module _ (p : Plan) (ok : planRefused p ≡ 0) (xs : List ℤ) (start : Readings
         plan = ok;
         whole = as-long n h;
         same = room n;
-        within = fits-each (ofLevels (p .levels)) (p .k) (accepted p ok .factors .0) (plan-roomy p ok) xs (start .whole) (start .within) n h;
+        within = fits-each (ofLevels (p .levels)) (p .k) (accepted p ok .factors .0) (plan-roomy p ok .passable) xs (start .whole) (start .within) n h;
       }
 
   so-far : (n : ℕ) → n ≤ p .k → afterSteps p lent xs n ≡ stepped n

@@ -25,12 +25,12 @@ use Rattle.contrasts.specs.Checks.{checkWeight, round, rounds}
 use Rattle.words.specs.Words.{letters, beyond, times, combined, any, among, repeated}
 use Rattle.plan.specs.declared.types.Plan.{Plan}
 use Rattle.plan.specs.Check.{badLevels, badFactors, badCounts, badWord, badSign, badWords, dependent, factorWord, losesFactor, planRefused, withPlan}
-use Rattle.plan.specs.Limits.{readingLimit}
+use Rattle.plan.specs.Limits.{readingLimit, isBeyond}
 use Rattle.plan.specs.Outcome.{Outcome, given, refused}
 use Rattle.plan.specs.Plan.{factorsOf, someCombination, combinesTo}
 use Rattle.plan.specs.Laws.Answers.{refused-is, given-is, given-with, written-new}
 use Rattle.plan.specs.Laws.Limits.{reading-admitted}
-use Rattle.columns.specs.Refusals.{wrongLength, isBeyond, anyBeyond, columnsRefused}
+use Rattle.columns.specs.Refusals.{wrongLength, anyBeyond, columnsRefused}
 use Rattle.rows.specs.Kinds.{keptRow, wrongRows, kindByMark, kindOf, badMark, badMarks}
 use Rattle.yates.specs.Calls.{passRefused, passColumn, totalsColumn}
 use Rattle.yates.specs.Laws.Admitted.{pass-admits}
@@ -111,7 +111,7 @@ check-numbers = (refl, refl)
 
 -- the estimate of A, whose total is -6, is not lost
 A-estimated : estimateRefused four 1 (neg 6) ≡ 0
-unfolding estimateRefused withPlan planRefused badLevels badFactors mostTwo mostThree badCounts badWords badWord badSign repeated dependent losesFactor factorWord any among beyond letters combined times someCombination combinesTo some bits Σℕ readingLimit twoReadingLimit threeReadingLimit
+unfolding estimateRefused withPlan planRefused badLevels badFactors mostTwo mostThree badCounts badWords badWord badSign repeated dependent losesFactor factorWord any among beyond letters combined times someCombination combinesTo some bits Σℕ isBeyond readingLimit twoReadingLimit threeReadingLimit
 A-estimated = refl
 
 A-not-lost : estimateValue four 1 (neg 6) ≡ difference (differenceOf 2 1 (neg 6))

@@ -20,9 +20,10 @@ use Rattle.contrasts.specs.Laws.Within.{within-upto}
 use Rattle.plan.specs.declared.types.Plan.{Plan}
 use Rattle.plan.specs.Check.{planRefused}
 use Rattle.plan.specs.Plan.{runsOf}
+use Rattle.plan.specs.Limits.{isBeyond}
 use Rattle.plan.specs.Laws.Answers.{passed, plan-passed, after-plan}
 use Rattle.columns.specs.Copies.{copied}
-use Rattle.columns.specs.Refusals.{wrongLength, isBeyond, anyBeyond, columnsRefused}
+use Rattle.columns.specs.Refusals.{wrongLength, anyBeyond, columnsRefused}
 
 pub all-within : (limit : ℕ) (xs : List ℤ) → anyBeyond limit xs ≡ false → AllWithin limit xs
 unfolding anyBeyond isBeyond

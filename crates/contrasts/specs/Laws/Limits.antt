@@ -1,15 +1,19 @@
 -- From readings within a limit no plan leaves the others, whatever its factors.
 --
---   Roomy Fs L M    readings within L keep values and numerators of the factors Fs within their limits, M that of numerators
---   roomy           the test of it
+--   Passable Fs L   readings within L keep the values of passes and steps of the factors Fs within their limit
+--   Roomy Fs L M    and their numerators within M
+--   roomy           the test of both
 --   two-roomy       up to ten two-level factors have that room
 --   three-roomy     up to six three-level factors have it
---   sizes-fit       the denominator and the number of runs do not exceed the limit of numerators
+--   two-full        with ten two-level factors all of it is used,
+--   three-full      and with six three-level factors that of numerators
 --   values-fit      no value exceeds its limit after each of any calls that repeat no factor
 --   totals-fit      nor does a total
---   total-fits      the denominator times the sum of squared readings does not exceed the limit of numerators
+--   steps-fit       nor a value after each of k steps of factors that are alike
+--   sizes-fit       the denominator and the number of runs do not exceed the limit of numerators
+--   total-fits      nor does the denominator times the sum of squared readings
 --   numerators-fit  "No numerator, and no sum of them in one table, exceeds" it
---   steps-fit       no value exceeds its limit after each of k steps
+use mathlib.Core.Path.{_≡_, refl}
 use mathlib.Core.Bool.{Bool, cond, _&&_}
 use mathlib.Core.List.{List}
 use Prim.Native.Nat.{ℕ, suc, _*_, _^_, _<_, _≤_, max}
@@ -34,8 +38,11 @@ use Rattle.contrasts.specs.Laws.Digits.{size-pos}
 use Rattle.contrasts.specs.Laws.Divisors.{denominator-pos}
 use Rattle.contrasts.specs.Laws.Squares.{within}
 
-pub record Roomy (Fs : List Factor) (L M : ℕ) : Type 0 where
+pub record Passable (Fs : List Factor) (L : ℕ) : Type 0 where
   pub values : growth Fs * L ≤ valueLimit
+
+pub record Roomy (Fs : List Factor) (L M : ℕ) : Type 0 where
+  pub passable : Passable Fs L
   pub numerators : denominator Fs * (size Fs * (L * L)) ≤ M
 
 unfoldable pub roomy : List Factor → ℕ → ℕ → Bool
@@ -47,7 +54,12 @@ tested : (Fs : List Factor) (L M : ℕ) → T (roomy Fs L M) → Roomy Fs L M
 unfolding roomy
 tested Fs L M t =
     record {
-      values = leb→le (growth Fs * L) valueLimit (and-left (leb (growth Fs * L) valueLimit) (leb (denominator Fs * (size Fs * (L * L))) M) t);
+      passable =
+          record {
+            values =
+                leb→le (growth Fs * L) valueLimit
+                (and-left (leb (growth Fs * L) valueLimit) (leb (denominator Fs * (size Fs * (L * L))) M) t);
+          };
       numerators =
           leb→le (denominator Fs * (size Fs * (L * L))) M
           (and-right (leb (growth Fs * L) valueLimit) (leb (denominator Fs * (size Fs * (L * L))) M) t);
@@ -71,7 +83,41 @@ three-roomy k h =
     tested (replicate k three) threeReadingLimit threeNumeratorLimit
     (every-at (suc mostThree) (λ k. roomy (replicate k three) threeReadingLimit threeNumeratorLimit) all-three k (omega arith))
 
--- ---- what follows, of readings within L
+-- the limits are reached, so none is larger than the rules ask
+pub two-full : (growth (replicate mostTwo two) * twoReadingLimit ≡ valueLimit)
+    × (denominator (replicate mostTwo two) * (size (replicate mostTwo two) * (twoReadingLimit * twoReadingLimit)) ≡ twoNumeratorLimit)
+unfolding twoReadingLimit twoNumeratorLimit valueLimit mostTwo growth reach most Σℕ denominator size two
+two-full = (refl, refl)
+
+pub three-full : denominator (replicate mostThree three) * (size (replicate mostThree three) * (threeReadingLimit * threeReadingLimit))
+    ≡ threeNumeratorLimit
+unfolding threeReadingLimit threeNumeratorLimit mostThree denominator size three
+three-full = refl
+
+-- ---- values, of readings within L
+
+module _ {Fs : List Factor} {L : ℕ} (room : Passable Fs L) (x : Column) (h : Within (size Fs) L x) where
+  pub values-fit : (calls : List ℕ) → ((f : ℕ) → f < length Fs → count f calls ≤ 1)
+      → (n : ℕ) → Within (size Fs) valueLimit (passes Fs (take n calls) x)
+  values-fit calls once n i p = le-trans (bound-each Fs calls n x L once h i p) (room .values)
+
+  pub totals-fit : Within (size Fs) valueLimit (total Fs x)
+  totals-fit i p = le-trans (bound-total Fs x L h i p) (room .values)
+
+-- a step has less reach than all passes
+reach-le : (F : Factor) (t k : ℕ) → t ≤ k → reach F ^ t ≤ growth (replicate k F)
+reach-le F t k h =
+    rw (growth-alike k F)
+    (le-trans (pow-le-pow-left {n = reach F} {m = max 1 (reach F)} (omega arith) t) (pow-le-pow-right {n = max 1 (reach F)} (omega arith) h))
+
+pub steps-fit : (F : Factor) (k : ℕ) {L : ℕ} → Passable (replicate (suc k) F) L → (x : Column) → Within (size (replicate (suc k) F)) L x
+    → (t : ℕ) → t ≤ suc k → Within (size (replicate (suc k) F)) valueLimit (steps (size (replicate (suc k) F)) (replicate t F) x)
+unfolding size
+steps-fit F k {L} room x h t le i p =
+    le-trans (bound-steps F (size (replicate k F)) t x L (size-pos (replicate k F)) h i p)
+    (le-trans (mul-le-mul-right L (reach-le F t (suc k) le)) (room .values))
+
+-- ---- numerators
 
 -- a product of three numbers that are not 0
 factor-le : (a b c m : ℕ) → 0 < b → 0 < c → a * (b * c) ≤ m → a ≤ m
@@ -86,13 +132,6 @@ module _ {Fs : List Factor} {L M : ℕ} (room : Roomy Fs L M) where
   )
 
   module _ (x : Column) (h : Within (size Fs) L x) where
-    pub values-fit : (calls : List ℕ) → ((f : ℕ) → f < length Fs → count f calls ≤ 1)
-        → (n : ℕ) → Within (size Fs) valueLimit (passes Fs (take n calls) x)
-    values-fit calls once n i p = le-trans (bound-each Fs calls n x L once h i p) (room .values)
-
-    pub totals-fit : Within (size Fs) valueLimit (total Fs x)
-    totals-fit i p = le-trans (bound-total Fs x L h i p) (room .values)
-
     squared-bound : squared Fs x ≤ size Fs * (L * L)
     unfolding squared
     squared-bound = Σℕ-each (size Fs) (L * L) (λ r. natAbs (x r) * natAbs (x r)) (λ r k. mul-le-mul (h r k) (h r k))
@@ -102,18 +141,3 @@ module _ {Fs : List Factor} {L M : ℕ} (room : Roomy Fs L M) where
 
     pub numerators-fit : (n : ℕ) (p : ℕ → Bool) → n ≤ size Fs → Σℕ n (λ e. cond (p e) (numerator Fs x e) 0) ≤ M
     numerators-fit n p le = le-trans (within Fs x n p le) total-fits
-
--- ---- steps, of factors that are alike
-
--- a step has less reach than all passes
-reach-le : (F : Factor) (t k : ℕ) → t ≤ k → reach F ^ t ≤ growth (replicate k F)
-reach-le F t k h =
-    rw (growth-alike k F)
-    (le-trans (pow-le-pow-left {n = reach F} {m = max 1 (reach F)} (omega arith) t) (pow-le-pow-right {n = max 1 (reach F)} (omega arith) h))
-
-pub steps-fit : (F : Factor) (k : ℕ) {L M : ℕ} → Roomy (replicate (suc k) F) L M → (x : Column) → Within (size (replicate (suc k) F)) L x
-    → (t : ℕ) → t ≤ suc k → Within (size (replicate (suc k) F)) valueLimit (steps (size (replicate (suc k) F)) (replicate t F) x)
-unfolding size
-steps-fit F k {L} room x h t le i p =
-    le-trans (bound-steps F (size (replicate k F)) t x L (size-pos (replicate k F)) h i p)
-    (le-trans (mul-le-mul-right L (reach-le F t (suc k) le)) (room .values))

@@ -14,7 +14,7 @@ use native.Mathlib.Decide.{ℕ-discrete}
 use native.Mathlib.Nat.{mul-le-mul-right}
 use native.Mathlib.Omega.{arith}
 use borrow.Author.Tests.{eq-eqb, ne-eqb, eqb-false, le-ltb, ltb-false}
-use lib.Dec.{eqb, ltb}
+use lib.Dec.{eqb}
 use lib.IntN.{ℤ, natAbs}
 use lib.Pow.{pow-mono}
 use lib.Ieee.{Float}
@@ -23,7 +23,7 @@ use Rattle.plan.specs.declared.types.Plan.{Plan}
 use Rattle.plan.specs.Outcome.{Outcome, given, outcome}
 use Rattle.plan.specs.Plan.{confoundedIn}
 use Rattle.plan.specs.Check.{planRefused}
-use Rattle.plan.specs.Limits.{readingLimit}
+use Rattle.plan.specs.Limits.{readingLimit, isBeyond}
 use Rattle.plan.specs.Laws.Accepted.{accepted, sizes}
 use Rattle.plan.specs.Laws.Answers.{after-plan, passed, plan-passed, refused-with, given-with}
 use Rattle.plan.specs.Laws.Confounded.{not-empty}
@@ -37,7 +37,7 @@ use Rattle.estimates.specs.Laws.Differences.{printed-held}
 -- ---- the numbers
 
 pub estimate-two : (p : Plan) (e : ℕ) (t : ℤ) → planRefused p ≡ 0 → (p .levels ≡ 3 → ⊥)
-    → estimateRefused p e t ≡ cond (beyond (p .k) e) 10 (cond (ltb (totalLimit p) (natAbs t)) 12 0)
+    → estimateRefused p e t ≡ cond (beyond (p .k) e) 10 (cond (isBeyond (totalLimit p) t) 12 0)
 unfolding estimateRefused
 estimate-two p e t z h = after-plan p _ z ∙ rw (ne-eqb (p .levels) 3 h) refl
 
@@ -48,12 +48,12 @@ pub record Admitted (p : Plan) (e : ℕ) (t : ℤ) : Type 0 where
   pub within : natAbs t ≤ totalLimit p
 
 pub admitted : (p : Plan) (e : ℕ) (t : ℤ) → estimateRefused p e t ≡ 0 → Admitted p e t
-unfolding estimateRefused
+unfolding estimateRefused isBeyond
 admitted p e t n =
     let q = plan-passed p _ n in
     let l9 = passed (eqb (p .levels) 3) 9 _ (omega arith) (q .1) in
     let l10 = passed (beyond (p .k) e) 10 _ (omega arith) (l9 .1) in
-    let l12 = passed (ltb (totalLimit p) (natAbs t)) 12 _ (omega arith) (l10 .1) in
+    let l12 = passed (isBeyond (totalLimit p) t) 12 _ (omega arith) (l10 .1) in
     record {
       plan = q .0;
       levels = two-levels p (q .0) (eqb-false (p .levels) 3 (l9 .0));
@@ -63,6 +63,7 @@ admitted p e t n =
 
 module _ {p : Plan} {e : ℕ} {t : ℤ} (a : Admitted p e t) where
   pub admits : estimateRefused p e t ≡ 0
+  unfolding isBeyond
   admits =
       estimate-two p e t (a .plan) (λ h. omega (arith, h, a .levels))
       ∙ rw (a .letters, le-ltb (totalLimit p) (natAbs t) (a .within)) refl

@@ -1,7 +1,7 @@
--- The limits of an accepted plan.
+-- The limits of a plan.
 --
 --   limit-two, limit-three      the limit of readings, by the levels
---   plan-roomy                  from readings within their limit the plan's values and numerators do not leave theirs
+--   plan-roomy                  of an accepted plan: from readings within their limit values and numerators do not leave theirs
 --   some-reading, reading-fits  the limit of readings is not 0, and fits an i32
 --   reading-admitted            a reading is a value that a pass admits
 --   numerator-fits              the limit of numerators fits an i64

@@ -11,7 +11,7 @@ use lib.ListN.{length, replicate}
 use Rattle.contrasts.specs.Columns.{AllWithin}
 use Rattle.contrasts.specs.Limits.{valueLimit}
 use Rattle.contrasts.specs.Factors.{ofLevels}
-use Rattle.contrasts.specs.Laws.Limits.{Roomy}
+use Rattle.contrasts.specs.Laws.Limits.{Passable}
 
 pub record Stretch (levels h : ℕ) (xs : List ℤ) : Type 0 where
   pub kind : ofLevels levels .levels ≡ levels
@@ -30,7 +30,6 @@ pub record Stretches (levels h : ℕ) (xs : List ℤ) : Type 0 where
 pub record PassReadings (levels k : ℕ) (xs : List ℤ) : Type 0 where
   pub kind : ofLevels levels .levels ≡ levels
   pub limit : ℕ
-  pub numerators : ℕ
-  pub roomy : Roomy (replicate k (ofLevels levels)) limit numerators
+  pub passable : Passable (replicate k (ofLevels levels)) limit
   pub whole : length xs ≡ levels ^ k
   pub within : AllWithin limit xs

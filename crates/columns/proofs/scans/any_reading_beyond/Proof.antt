@@ -8,4 +8,4 @@ any-reading-beyond-spec =
     (tie.spec
     (λ c κs. tt)
     (λ c κs. rw (c .reading-limit .ensures) (reading-fits _))
-    (λ c. rw (← (c .before .reading-limit .ensures)) (c .look-at-all .ensures)))
+    (λ c. rw (← (c .before .reading-limit .ensures)) (c .any-beyond .ensures)))

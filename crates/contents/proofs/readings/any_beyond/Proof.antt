@@ -7,7 +7,8 @@ use Rattle.algebra.specs.Search.{some}
 use Rattle.algebra.specs.Laws.Machine.{widened, widened-fits}
 use Rattle.algebra.specs.Laws.Searching.{Seen, seen-none, seen-more, seen-all}
 use Rattle.contrasts.specs.Columns.{read}
-use Rattle.columns.specs.Refusals.{isBeyond, anyBeyond}
+use Rattle.plan.specs.Limits.{isBeyond}
+use Rattle.columns.specs.Refusals.{anyBeyond}
 use Rattle.contents.specs.Contents.{readingsOf}
 use Rattle.contents.specs.Laws.Readings.{readings-long, reading-is}
 use Rattle.contents.proofs.readings.any_beyond.Statement.{statement}

@@ -1,8 +1,8 @@
 use native.Mathlib.Omega.{arith}
 use borrow.Author.Needs.{needs}
-use Rattle.columns.proofs.Searched.{above, negated, not-above}
-use Rattle.columns.proofs.scans.is_beyond.Statement.{statement}
-use Rattle.columns.proofs.scans.is_beyond.Tie as tie
+use Rattle.sizes.proofs.Compared.{above, negated, not-above}
+use Rattle.sizes.proofs.limits.is_beyond.Statement.{statement}
+use Rattle.sizes.proofs.limits.is_beyond.Tie as tie
 
 pub is-beyond-spec : {M : Type 1} → statement M
 is-beyond-spec =

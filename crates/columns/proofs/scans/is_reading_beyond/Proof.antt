@@ -1,10 +1,10 @@
 use borrow.Author.Needs.{needs}
 use Rattle.columns.proofs.Searched.{turned-fits, either-way}
-use Rattle.columns.proofs.scans.is_either_way.Statement.{statement}
-use Rattle.columns.proofs.scans.is_either_way.Tie as tie
+use Rattle.columns.proofs.scans.is_reading_beyond.Statement.{statement}
+use Rattle.columns.proofs.scans.is_reading_beyond.Tie as tie
 
-pub is-either-way-spec : {M : Type 1} → statement M
-is-either-way-spec =
+pub is-reading-beyond-spec : {M : Type 1} → statement M
+is-reading-beyond-spec =
     tie.close
     (tie.spec
     (λ c. search needs)

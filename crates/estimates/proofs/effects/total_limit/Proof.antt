@@ -1,0 +1,15 @@
+use native.Mathlib.Omega.{arith}
+use borrow.Author.Needs.{needs}
+use Rattle.plan.specs.Laws.Accepted.{sizes}
+use Rattle.estimates.proofs.Limit.{shifted}
+use Rattle.estimates.proofs.effects.total_limit.Statement.{statement}
+use Rattle.estimates.proofs.effects.total_limit.Tie as tie
+
+pub total-limit-spec : {M : Type 1} → statement M
+total-limit-spec =
+    tie.close
+    (tie.spec
+    (λ c κs. tt)
+    (λ c. search needs)
+    (λ c. omega (arith, sizes _ (c .before .before .pre .0) .0))
+    (λ c. rw (c .before .reading-limit .ensures) (shifted _ (c .before .before .pre .1) (sizes _ (c .before .before .pre .0) .0))))
