@@ -11,5 +11,9 @@ total-limit-spec =
     (tie.spec
     (λ c κs. tt)
     (λ c. search needs)
-    (λ c. omega (arith, sizes _ (c .before .before .pre .0) .0))
-    (λ c. rw (c .before .reading-limit .ensures) (shifted _ (c .before .before .pre .1) (sizes _ (c .before .before .pre .0) .0))))
+    (λ c.
+    let start = c .before .before in
+    omega (arith, sizes (start .args .p) (start .pre .0) .0, start .pre .1))
+    (λ c.
+    let start = c .before .before in
+    rw (c .before .reading-limit .ensures) (shifted (start .args .p) (start .pre .1) (sizes (start .args .p) (start .pre .0) .0))))
