@@ -106,10 +106,10 @@ def stored():
 
 def limited(plan):
     """Runs on sheets of a plan: all readings at a limit; and one, in the first, a middle and the last run, at a limit of
-    either level count or one beyond its own, where the others are 0."""
+    either level count or one beyond it, where the others are 0."""
     top, runs = MOST_READING[plan.levels], run_count(plan.levels, plan.k)
     columns = [("all readings %d" % (sign * top), [sign * top] * runs) for _, sign in SIDES]
-    for size in (*MOST_READING.values(), top + 1):
+    for size in [limit + more for limit in MOST_READING.values() for more in (0, 1)]:
         columns += [("%s %d" % (name, sum(readings)), readings) for name, _, readings in about_limit([0] * runs, size)]
     return [of_sheet("%s, k = %d, %s" % (LEVELS_NAMED[plan.levels], plan.k, name),
                      sheet_bytes.write(plan, readings, [0] * row_count(plan.k))) for name, readings in columns]
@@ -236,7 +236,7 @@ def all_runs(program):
     longest = sheet_bytes.write(*contents)
     if text_rules.answer(longest) or len(longest) != MOST:
         sys.exit("the longest sheet is not lawful or not of %d bytes" % MOST)
-    plans = [Plan(levels, k) for levels, most in MOST_FACTORS.items() for k in (2, most)]
+    plans = [Plan(levels, k) for levels, most in MOST_FACTORS.items() for k in (1, most)]
     about_limits = [run for plan in plans for run in limited(plan)]
     for run in sized(contents) + stored() + about_limits + parted(numbers, longest) + failing():
         yield run.name, complaints_of(program, run)

@@ -176,7 +176,7 @@ def make(text):
 
 # ---- why a sheet is refused ----
 
-# By number. The table in docs/USING.md may print the same words, and so the limits of 12 as they come out here.
+# By number. docs/USING.md has the limits of 12 too.
 CAUSES = {
     2: "levels other than 2 or 3",
     3: "k out of range, which is 1 to 10 at two levels and 1 to 6 at three",

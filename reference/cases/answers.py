@@ -18,6 +18,7 @@
 # differences have the other sign where the effect has an odd number of letters; totals are the report's.
 #
 # Defined here:
+#   TOP              the limit of a reading, by levels; LEVELS_NAMED, SIDES: level counts and the two limits in words
 #   about_limit      readings with one of a size, either way, in the first, a middle and the last run
 #   ACCEPTED         accepted inputs of the table call: readings at the limits or, at two levels, beyond those of three
 #   REFUSALS         refused inputs of the table call: every refusal of the rules, and inputs to which several apply

@@ -15,7 +15,7 @@ from pathlib import Path
 ROOT = Path(__file__).resolve().parents[2]
 sys.path[:0] = [str(ROOT), str(ROOT / "tools")]
 
-from csv_sheet import CAUSES, NotUnderstood, field_causes, listing, make, text_of
+from csv_sheet import NotUnderstood, field_causes, listing, make, places, text_of
 from reference.cases import text_cases
 from reference.published import analyses
 from reference.rules import sheet_bytes
@@ -103,6 +103,8 @@ REFUSED = [
     (replaced(7, "error,mean"), 13),
 ]
 
+WORDS_OF_12 = "a reading beyond 1,000,000 either way at two levels, or beyond 100,000 at three"
+
 # Levels, the reading of run 0, and whether the command tells of 12. The others are those of the rules' two examples.
 ABOUT_LIMITS = [
     (2, MOST_READING[3] + 1, False),
@@ -161,16 +163,17 @@ def command_says(lines):
 
 
 def check_limits():
-    """Complaints about the command on readings about the limits: the sheet is written, and a message where it is refused;
-    and about the words of 12, which have both limits."""
+    """Complaints about the command on readings about the limits: the sheet is written, and a message where it is refused,
+    which names the readings beyond the limit of their level count and no others."""
     complaints = []
     for levels, reading, refused in ABOUT_LIMITS:
         lines, own_sheet = lines_and_sheet(levels, reading)
-        message = "factab will answer: refused 12 (%s; run 0 has %d)\n" % (CAUSES[12], reading) if refused else ""
+        message = "factab will answer: refused 12 (%s; run 0 has %d)\n" % (WORDS_OF_12, reading) if refused else ""
         if command_says(lines) != (own_sheet, message):
             complaints.append("%d levels, reading %d: sheet or message" % (levels, reading))
-    if any(format(limit, ",") not in CAUSES[12] for limit in MOST_READING.values()):
-        complaints.append("the words of 12")
+    if places(12, sheet_bytes.Contents(Plan(2, 1), [MOST_READING[2] + 1, MOST_READING[3] + 1], b"\0\0")) != [
+            "run 0 has %d" % (MOST_READING[2] + 1)]:
+        complaints.append("the readings that are named for 12")
     return complaints
 
 

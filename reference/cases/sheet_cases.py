@@ -12,13 +12,15 @@
 #
 # Defined here:
 #   Case                 a sheet with the room of its column; number is the answer that the rules give, None if not listed
+#   spread, LIMITS       readings that are all different; readings at the limits and of many sizes, by levels
+#   ABOUT_LIMITS         the sheets with a name whose readings are about the limits
 #   CASES                the sheets with a name
 #   Numbers              numbers that are spread out, from a seed
 #   DAMAGES              ways to damage the fields of a sheet
 #   made, MADE           a sheet that is made and, four times of five, damaged; the 600 of them
 #   near_contents        what a sheet holds whose readings are near the limits, and its number
 #   near, NEAR           such a sheet; the 300 of them
-#   check                list of complaints, empty if all is well
+#   check, check_near    lists of complaints, empty if all is well; the second of sheets near the limits
 #   counted              a number by which every value of a list counts
 #   expected_text        the expected text
 #   inputs               the input of the program (sheet_cases.py inputs)

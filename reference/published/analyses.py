@@ -17,7 +17,8 @@
 #
 # Defined here:
 #   TABLES                 the worked tables, numbered from 1 in this order
-#   FOUR_BLOCKS, SIX_ADDED, TEN, TEN_BLOCKED, TEN_ADDED   words and plans of ten factors
+#   FOUR_BLOCKS, SIX_ADDED, TEN, TEN_BLOCKED, TEN_ADDED, SIX
+#                          words and plans of ten factors, and the plan of six at three levels
 #   MENDS, OFF             damaged figures; figures further off than half a unit
 #   POOLED                 the report's columns in which rows of three levels are pooled, as far as they can be read
 #   KNOWN                  numerators of the extreme tables that are known without adding up

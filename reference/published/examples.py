@@ -1,4 +1,5 @@
-# Published worked examples: readings, step columns and totals, and the expected text of the program that works them.
+# Published worked examples: readings, step columns and totals; and the expected text of the program that works them, and
+# that tries steps, passes and totals at their limits.
 #
 # Sources:
 #   report   J. M. Cameron, Computing the analysis of variance of factorial experiments on automatic computers,
@@ -34,6 +35,7 @@
 #   whole_readings         the readings of an example as whole numbers in standard order
 #   plan                   the plan of an example
 #   check                  list of complaints about figures and mends, empty if all is well
+#   limit_lines            what the program writes of columns about the limits
 #   expected_text          the expected text
 
 import sys
@@ -709,27 +711,56 @@ def after(answer, made, kept):
     return " answer %d:%s" % (answer, values_text(kept if answer else made))
 
 
-def limit_lines(levels, place, value):
-    """Step and pass of one factor, over a column with the value at one place and 0 elsewhere."""
-    column = [value if own == place else 0 for own in range(levels)]
-    zeros = [0] * levels
+def with_one(levels, place, value):
+    """A column of one factor's runs with the value at one place and 0 elsewhere."""
+    return [value if own == place else 0 for own in range(levels)]
+
+
+def heading(levels, place, value):
+    """The line before what is tried on such a column."""
+    return "levels %d, place %d, value %d" % (levels, place, value)
+
+
+def value_lines(levels, place, value):
+    """Step and pass of one factor over such a column."""
+    column, zeros, one_factor = with_one(levels, place, value), [0] * levels, totals_rules.Plan(levels, 1)
     made = totals_rules.step(levels, column)
-    one_factor = totals_rules.Plan(levels, 1)
-    return ["levels %d, place %d, value %d" % (levels, place, value),
+    return [heading(levels, place, value),
             "step" + after(totals_rules.step_answer(one_factor, column, zeros), made, zeros),
             "pass" + after(totals_rules.pass_answer(one_factor, 0, column), made, column)]
 
 
+def reading_lines(levels, place, reading):
+    """The totals of readings that are such a column."""
+    readings, zeros = with_one(levels, place, reading), [0] * levels
+    answer = totals_rules.totals_answer(totals_rules.Plan(levels, 1), readings, zeros)
+    return [heading(levels, place, reading), "totals" + after(answer, totals_rules.totals(levels, 1, readings), zeros)]
+
+
+def about(limit):
+    """A limit and one beyond it, either way."""
+    return limit, limit + 1, -limit, -limit - 1
+
+
+def limit_lines(levels, place):
+    """The lines about the limits: of values, and of the readings of either level count."""
+    lines = []
+    for value in about(totals_rules.MOST_VALUE):
+        lines += value_lines(levels, place, value)
+    for limit in totals_rules.MOST_READING.values():
+        for reading in about(limit):
+            lines += reading_lines(levels, place, reading)
+    return lines
+
+
 def expected_text():
-    """What the program that works the examples must write."""
+    """What the program that works the examples and tries the limits must write."""
     lines = []
     for number, example in enumerate(EXAMPLES, 1):
         lines += example_lines(number, example)
-    most = totals_rules.MOST_VALUE
     for levels in (2, 3):
         for place in range(levels):
-            for value in (most, most + 1, -most, -most - 1):
-                lines += limit_lines(levels, place, value)
+            lines += limit_lines(levels, place)
     return "".join(line + "\n" for line in lines)
 
 

@@ -1,5 +1,5 @@
-// Tries the table call on plans, readings and marks that it refuses and on readings at the limits, the estimate call and the alias call, by the
-// records of its input. `reference/cases/answers.py` makes the input and the text that this program must write, and says how both are laid
+// Tries the table call on plans, readings and marks that it refuses and on large readings that it accepts, the estimate call and the alias call,
+// by the records of its input. `reference/cases/answers.py` makes the input and the text that this program must write, and says how both are laid
 // out.
 mod estimated;
 mod reduced;

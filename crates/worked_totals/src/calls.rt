@@ -26,8 +26,8 @@ pub fn step(levels: u8, k: u8, from: &[i64], to: &mut [i64]) -> u8 {
     number_of(yates::step(whole(levels, k), from, to))
 }
 
-pub fn totals(levels: u8, k: u8, readings: &[i32], column: &mut [i64]) {
-    yates::totals(whole(levels, k), readings, column);
+pub fn totals(levels: u8, k: u8, readings: &[i32], column: &mut [i64]) -> u8 {
+    number_of(yates::totals(whole(levels, k), readings, column))
 }
 
 pub fn pass(levels: u8, k: u8, factor: u8, column: &mut [i64]) -> u8 {
