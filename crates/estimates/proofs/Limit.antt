@@ -1,7 +1,7 @@
 -- The limit of a total, as code forms it: that of a reading, moved on by k bits.
 --
 --   shifted    it does not wrap
-use mathlib.Core.Path.{_≡_, refl, _∙_}
+use mathlib.Core.Path.{_≡_, _∙_}
 use Prim.Native.Nat.{_*_, _%_, _^_, _≤_}
 use native.Mathlib.Nat.{mul-comm, mod-eq-of-lt}
 use native.Mathlib.Omega.{arith}
