@@ -15,7 +15,7 @@ use lib.Dec.{T, eqb, eqb→eq, ltb}
 use lib.ListN.{getD}
 use lib.IntN.{ℤ, pos, negsuc, negℤ, _+ℤ_, _*ℤ_, _-ℤ_, +ℤ-idl, +ℤ-idr, +ℤ-assoc, zero-*ℤ, *ℤ-zero}
 use Rattle.algebra.specs.Laws.Ring.{ac*, *ℤ-+ℤ, +ℤ-*ℤ, *ℤ-assoc, +ℤ-left-comm, *ℤ-left-comm, one-*ℤ, ℤ-*one, neg-*ℤ}
-use Rattle.algebra.specs.Laws.Tests.{and-left, and-right, eqZ→eq}
+use Rattle.algebra.specs.Laws.Tests.{either, and-left, and-right, eqZ→eq}
 use Rattle.algebra.specs.Tests.{eqZ}
 
 infixl 6 _⊕_ _⊖_
@@ -84,10 +84,6 @@ norm (a ⊖ b) = addP (norm a) (mulT (negsuc 0) [] (norm b))
 norm (a ⊗ b) = mulP (norm a) (norm b)
 
 -- ---- the polynomial has the value of the expression
-
-either : {A : Type 0} (c : Bool) (x y : A) (P : A → Type 0) → (T c → P x) → (T (not c) → P y) → P (cond c x y)
-either true x y P f g = f tt
-either false x y P f g = g tt
 
 eqM→eq : (a b : List ℕ) → T (eqM a b) → a ≡ b
 eqM→eq [] [] t = refl

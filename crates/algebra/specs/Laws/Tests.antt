@@ -3,6 +3,7 @@
 --   tests                  a comparison of the code, as a test of a contract
 --   fails                  a test that cannot pass fails
 --   is                     a test has the value that the code found for it
+--   either                 what holds in both cases of a test holds by the test
 --   same-test              numbers below i + 1 other than i are those below i
 --   and-left, and-right    both sides of a test a && b pass
 --   neither, none          neither side of a test a || b passes
@@ -11,7 +12,7 @@
 --   cond-*, cond-*ℤ-cond   a product of two numbers, each under a test, is under both tests
 --   eqZ→eq                 integers that the test `eqZ` finds equal are equal
 use mathlib.Core.Path.{_≡_, refl, sym, _∙_, ap}
-use mathlib.Core.Bool.{Bool, true, false, cond, _&&_, _||_, true≢false}
+use mathlib.Core.Bool.{Bool, true, false, not, cond, _&&_, _||_, true≢false}
 use Prim.Native.Nat.{ℕ, zero, suc, _+_, _*_, _/_, _%_, _<_}
 use native.Mathlib.Nat.{div-add-mod', mul-zero, zero-mul}
 use native.Mathlib.Omega.{arith}
@@ -29,6 +30,10 @@ fails false h = refl
 
 pub is : {b t v : Bool} → b ≡ t → b ≡ v → t ≡ v
 is e f = sym e ∙ f
+
+pub either : {A : Type 0} (c : Bool) (x y : A) (P : A → Type 0) → (T c → P x) → (T (not c) → P y) → P (cond c x y)
+either true x y P f g = f tt
+either false x y P f g = g tt
 
 pub same-test : (j i : ℕ) → (j ≡ i → ⊥) → ltb j i ≡ ltb j (i + 1)
 same-test j i d = by (decLt j i)

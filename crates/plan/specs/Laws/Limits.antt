@@ -7,10 +7,10 @@
 --   numerator-fits              the limit of numerators fits an i64
 use mathlib.Core.Path.{_≡_, refl}
 use mathlib.Core.Logic.{_⊎_, inl, inr}
-use mathlib.Core.Bool.{Bool, true, false, cond}
 use Prim.Native.Nat.{ℕ, _^_, _<_, _≤_}
 use borrow.Author.Tests.{eq-eqb, ne-eqb}
 use lib.Dec.{eqb, lit<, lit≤}
+use Rattle.algebra.specs.Laws.Tests.{either}
 use Rattle.contrasts.specs.Limits.{twoReadingLimit, threeReadingLimit, twoNumeratorLimit, threeNumeratorLimit, valueLimit}
 use Rattle.contrasts.specs.Laws.Limits.{Roomy, two-roomy, three-roomy}
 use Rattle.plan.specs.declared.types.Plan.{Plan}
@@ -38,22 +38,18 @@ plan-roomy p z = by (accepted p z .levels)
 
 -- ---- of any plan
 
-either : (P : ℕ → Type 0) (b : Bool) {m n : ℕ} → P m → P n → P (cond b m n)
-either P true h g = h
-either P false h g = g
-
 pub some-reading : (p : Plan) → 0 < readingLimit p
 unfolding readingLimit twoReadingLimit threeReadingLimit
-some-reading p = either (λ n. 0 < n) (eqb (p .levels) 2) (lit< tt) (lit< tt)
+some-reading p = either (eqb (p .levels) 2) twoReadingLimit threeReadingLimit (λ n. 0 < n) (λ _. lit< tt) (λ _. lit< tt)
 
 pub reading-fits : (p : Plan) → readingLimit p < 2 ^ 31
 unfolding readingLimit twoReadingLimit threeReadingLimit
-reading-fits p = either (λ n. n < 2 ^ 31) (eqb (p .levels) 2) (lit< tt) (lit< tt)
+reading-fits p = either (eqb (p .levels) 2) twoReadingLimit threeReadingLimit (λ n. n < 2 ^ 31) (λ _. lit< tt) (λ _. lit< tt)
 
 pub reading-admitted : (p : Plan) → readingLimit p ≤ valueLimit
 unfolding readingLimit twoReadingLimit threeReadingLimit valueLimit
-reading-admitted p = either (λ n. n ≤ valueLimit) (eqb (p .levels) 2) (lit≤ tt) (lit≤ tt)
+reading-admitted p = either (eqb (p .levels) 2) twoReadingLimit threeReadingLimit (λ n. n ≤ valueLimit) (λ _. lit≤ tt) (λ _. lit≤ tt)
 
 pub numerator-fits : (p : Plan) → numeratorLimit p < 2 ^ 63
 unfolding numeratorLimit twoNumeratorLimit threeNumeratorLimit
-numerator-fits p = either (λ n. n < 2 ^ 63) (eqb (p .levels) 2) (lit< tt) (lit< tt)
+numerator-fits p = either (eqb (p .levels) 2) twoNumeratorLimit threeNumeratorLimit (λ n. n < 2 ^ 63) (λ _. lit< tt) (λ _. lit< tt)
