@@ -8,7 +8,7 @@
 --
 -- The two expressions are written out, since a goal cannot be quoted. For mere reordering `simp ac+` and `simp ac*` are shorter.
 use mathlib.Core.Path.{_≡_, refl, sym, _∙_, ap}
-use mathlib.Core.Bool.{Bool, true, false, not, cond, _&&_}
+use mathlib.Core.Bool.{Bool, true, false, cond, _&&_}
 use mathlib.Core.List.{List, [], _∷_}
 use Prim.Native.Nat.{ℕ}
 use lib.Dec.{T, eqb, eqb→eq, ltb}
