@@ -1,4 +1,4 @@
-// The sizes of a plan, for the crates above, for any plan.
+// The sizes and limits of a plan, for the crates above, for any plan.
 //
 //   runs(p)              how many runs there are
 //   spacing(p, factor)   how far apart the values of a factor lie
