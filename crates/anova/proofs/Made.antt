@@ -20,10 +20,9 @@ use lib.IntN.{ℤ}
 use lib.ListN.{length, getD, replicate}
 use Rattle.algebra.specs.Laws.Products.{mul-pow}
 use Rattle.algebra.specs.Laws.Machine.{wrap, back}
-use Rattle.algebra.specs.Laws.Tab.{getD-tab}
 use Rattle.contrasts.specs.Columns.{read}
 use Rattle.contrasts.specs.Factors.{ofLevels}
-use Rattle.contrasts.specs.Totals.{denominator, squared}
+use Rattle.contrasts.specs.Totals.{total, denominator, squared}
 use Rattle.contrasts.specs.Checks.{rounds}
 use Rattle.contrasts.specs.Laws.Divisors.{denominator-pos}
 use Rattle.contrasts.specs.Laws.Squares.{check-within}
@@ -37,16 +36,17 @@ use Rattle.plan.specs.Laws.Limits.{limit-three, reading-admitted, numerator-fit
 use Rattle.plan.specs.Laws.Sizes.{as-power, plan-kind, factors-two, factors-three, runs-few}
 use Rattle.contrasts.specs.Limits.{threeReadingLimit, valueLimit, mostThree}
 use Rattle.contrasts.specs.Laws.Levels.{the-three}
-use Rattle.rows.specs.Kinds.{rowsIn, Kind, meanRow, blocksRow, errorRow, keptRow, codeOf, kindIn}
-use Rattle.rows.specs.Laws.Kinds.{four-kinds, kind-in}
+use Rattle.rows.specs.Kinds.{rowsIn, Kind, meanRow, blocksRow, errorRow, keptRow, codeOf}
 use Rattle.rows.specs.Laws.Rows.{rows-few}
+use Rattle.walks.specs.declared.types.Sums.{Sums}
+use Rattle.walks.specs.After.{sumsAfter}
 use Rattle.anova.specs.declared.types.Source.{Source}
 use Rattle.anova.specs.declared.types.Figures.{Figures}
-use Rattle.anova.specs.declared.walks.Sums.{Sums}
 use Rattle.anova.specs.Laws.Admitted.{within-limit, TableReady}
+use Rattle.anova.specs.Laws.After.{numerator-after-all, degrees-after-all, totals-after-all}
 use Rattle.anova.specs.Inner.Ready.{SquaresFit, Checkable}
 use Rattle.anova.specs.Table.{sourceOf, totalSource, checksOf, tableFigures}
-use Rattle.anova.specs.Inner.Walk.{squaresOf, sumsOf}
+use Rattle.anova.specs.Inner.Readings.{squaresOf}
 
 -- of at most six rounds there are five before the last
 rounds-roomy : (k : ℕ) → k ≤ mostThree → 5 ^ (k - 1) * threeReadingLimit ≤ valueLimit
@@ -112,21 +112,19 @@ module _ {p : Plan} {readings : List ℤ} {marks : List ℕ} {totals : List ℤ}
 
     -- ---- the figures
 
-    module _ {sums : Sums} (made : sums ≡ sumsOf p readings marks) where
+    module _ {sums : Sums} (made : sums ≡ sumsAfter p (total (factorsOf p) (read readings)) marks (runsOf p)) where
       source-made : (c : Kind) (r : Source) → (r .degrees ≡ getD (sums .degrees) (codeOf c) 0) × (r .numerator ≡ getD (sums .numerators) (codeOf c) 0)
           → r ≡ sourceOf p readings marks c
-      unfolding sumsOf
       source-made c r e = λ i. record { degrees = degrees-are i; numerator = numerators-are i }
         where
           degrees-are : r .degrees ≡ sourceOf p readings marks c .degrees
-          degrees-are = e .0 ∙ rw (made, getD-tab 0 4 (λ n. sourceOf p readings marks (kindIn n) .degrees) (codeOf c) (four-kinds c), kind-in c) refl
+          degrees-are = e .0 ∙ rw made (degrees-after-all p readings marks c)
 
           numerators-are : r .numerator ≡ sourceOf p readings marks c .numerator
-          numerators-are = e .1 ∙ rw (made, getD-tab 0 4 (λ n. sourceOf p readings marks (kindIn n) .numerator) (codeOf c) (four-kinds c), kind-in c) refl
+          numerators-are = e .1 ∙ rw made (numerator-after-all p readings marks c)
 
       totals-are : sums .totals ≡ checksOf p readings .totals
-      unfolding sumsOf checksOf
-      totals-are = rw made refl
+      totals-are = rw made (totals-after-all p readings marks)
 
       pub sum-kept : wrap (sums .totals) ≡ sums .totals
       unfolding checksOf

@@ -29,7 +29,7 @@ use Rattle.contrasts.specs.Laws.Within.{within-tab}
 use Rattle.contrasts.specs.Laws.ThreeLevels.{round-three, round-bound, size-three}
 use Rattle.contrasts.specs.Laws.Small.{Small}
 use Rattle.anova.specs.Inner.Ready.{Sets, Rounds}
-use Rattle.anova.specs.Inner.Walk.{afterRound}
+use Rattle.anova.specs.Inner.Readings.{afterRound}
 
 -- ---- one round
 

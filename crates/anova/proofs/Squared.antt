@@ -13,8 +13,9 @@ use lib.ListN.{length}
 use Rattle.algebra.specs.Naturals.{Σℕ}
 use Rattle.algebra.specs.Laws.Naturals.{Σℕ-term, Σℕ-shorter}
 use Rattle.contrasts.specs.Columns.{read}
-use Rattle.anova.specs.Inner.Ready.{Squarable, SquaresFit}
-use Rattle.anova.specs.Inner.Walk.{squaresOf}
+use Rattle.walks.specs.Inner.Ready.{Squarable}
+use Rattle.anova.specs.Inner.Ready.{SquaresFit}
+use Rattle.anova.specs.Inner.Readings.{squaresOf}
 
 abbrev squareAt : List ℤ → ℕ → ℕ
 squareAt xs i = natAbs (read xs i) * natAbs (read xs i)

@@ -1,6 +1,6 @@
 -- What the inner functions ask of what they are handed, and what they leave; no promise of a call.
 --
---   Ready   what they ask
---   Walk    rows and sums after e totals
+--   Ready      what they ask
+--   Readings   what they form of the readings: the sum of squares, and a round of the check
 pub mod Ready
-pub mod Walk
+pub mod Readings

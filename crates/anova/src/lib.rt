@@ -8,7 +8,6 @@ mod rounds;
 mod squares;
 mod tables;
 mod types;
-mod walks;
 
 pub use estimates::Estimate;
 pub use estimates::estimate;

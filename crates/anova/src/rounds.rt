@@ -8,7 +8,7 @@ ghost use Rattle.contrasts.specs.Factors.{three, ofLevels};
 ghost use Rattle.contrasts.specs.Checks.{rounds};
 ghost use Rattle.contrasts.specs.Laws.Small.{Small};
 ghost use Rattle.anova.specs.Inner.Ready.{Sets, Rounds, Checkable};
-ghost use Rattle.anova.specs.Inner.Walk.{afterRound};
+ghost use Rattle.anova.specs.Inner.Readings.{afterRound};
 
 // 3 times first minus middle plus third.
 fn turned(first: i64, middle: i64, third: i64) -> i64

@@ -1,16 +1,8 @@
-// Squares, and the sum of squared readings.
+// The sum of squared readings.
 ghost use mathlib.Core.Path.{_≡_};
-ghost use Prim.Native.Nat.{_*_};
-ghost use lib.IntN.{natAbs};
-ghost use Rattle.anova.specs.Inner.Ready.{Squarable, SquaresFit};
-ghost use Rattle.anova.specs.Inner.Walk.{squaresOf};
-
-pub fn square(x: i64) -> u64
-    requires { ⌜ Squarable x ⌝ }
-    ensures { λ r. ⌜ r ≡ natAbs x * natAbs x ⌝ }
-{
-    (x * x) as u64
-}
+use walks::square;
+ghost use Rattle.anova.specs.Inner.Ready.{SquaresFit};
+ghost use Rattle.anova.specs.Inner.Readings.{squaresOf};
 
 pub fn sum_of_squares(readings: &[i32]) -> u64
     requires { ⌜ SquaresFit (now readings) ⌝ }

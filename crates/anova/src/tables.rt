@@ -11,20 +11,17 @@ use super::types::Checks;
 use super::types::Figures;
 use super::types::Source;
 use super::types::Table;
-use super::walks::Sums;
-use super::walks::clear;
-use super::walks::walk;
-use effects::divisors;
 use plan::Plan;
-use rows::kinds;
+use walks::Sums;
+use walks::walk;
 use yates::totals;
-ghost use Rattle.contrasts.specs.Columns.{totalsOf};
-ghost use Rattle.contrasts.specs.Totals.{denominator};
+ghost use Rattle.contrasts.specs.Columns.{read, totalsOf};
+ghost use Rattle.contrasts.specs.Totals.{total};
 ghost use Rattle.plan.specs.Outcome.{outcome};
-ghost use Rattle.plan.specs.Plan.{factorsOf};
+ghost use Rattle.plan.specs.Plan.{factorsOf, runsOf};
+ghost use Rattle.walks.specs.After.{sumsAfter};
 ghost use Rattle.anova.specs.Laws.Admitted.{TableReady};
 ghost use Rattle.anova.specs.Table.{tableRefused, tableFigures, tableTotals, tableRows, tableOutcome, rowsOf};
-ghost use Rattle.anova.specs.Inner.Walk.{sumsOf};
 
 const KEPT: usize = 0;
 
@@ -46,33 +43,15 @@ fn denominator(levels: u8, runs: usize, rows: usize) -> u32
     }
 }
 
-// Totals, rows and the sums of the four kinds, over the given denominator.
-fn form(
-    p: Plan,
-    over: u32,
-    readings: &[i32],
-    marks: &[u8],
-    column: &mut [i64],
-    rows: &mut [u64],
-) -> Sums
-    requires { ⌜ (over ≡ denominator (factorsOf p)) × TableReady p (now readings) (now marks) (now column) (now rows) ⌝ }
-    ensures { λ r. ⌜ r ≡ sumsOf p (now (readings .entry)) (now (marks .entry)) ⌝ }
+// Totals, rows and the sums of the four kinds.
+fn form(p: Plan, readings: &[i32], marks: &[u8], column: &mut [i64], rows: &mut [u64]) -> Sums
+    requires { ⌜ TableReady p (now readings) (now marks) (now column) (now rows) ⌝ }
+    ensures { λ r. ⌜ r ≡ sumsAfter p (total (factorsOf p) (read (now (readings .entry)))) (now (marks .entry)) (runsOf p) ⌝ }
     ensures { λ _. ⌜ now (column .exit) ≡ totalsOf (factorsOf p) (now (readings .entry)) ⌝ }
     ensures { λ _. ⌜ now (rows .exit) ≡ rowsOf p (now (readings .entry)) ⌝ }
 {
     totals(p, readings, column);
-    clear(rows);
-    let row_of_effects = effects::rows(p);
-    let divisor_of_effects = divisors(p);
-    let kind_of_rows = kinds(p, marks);
-    walk(
-        column,
-        &row_of_effects,
-        over,
-        &divisor_of_effects,
-        &kind_of_rows,
-        rows,
-    )
+    walk(p, column, marks, rows)
 }
 
 // The source of a kind.
@@ -95,7 +74,7 @@ fn make(p: Plan, readings: &[i32], marks: &[u8], column: &mut [i64], rows: &mut 
 {
     let from_readings = check_number(p.levels, p.k, readings, column);
     let over = denominator(p.levels, column.len(), rows.len());
-    let sums = form(p, over, readings, marks, column, rows);
+    let sums = form(p, readings, marks, column, rows);
     let total = (over as u64) * sum_of_squares(readings);
     let numerators = sums.numerators;
     let degrees = sums.degrees;

@@ -1,102 +1,61 @@
--- The loops that fill the rows of effects.
+-- The rows of effects.
 --
---   RowsTwo n e ys                          at two levels, rows are filled below effect e
---   two-none, two-more, two-all             before the first effect, after one more, after the last
---   RowsThree n e ys                        at three levels, likewise, each row from that of a lower effect
---   three-none, three-more, three-all       before the first effect, after one more, after the last
---   three-fits                              the next row fits
---   few-two, few-three                      how many effects there are
+--   RowsThree n q ys                        at three levels, rows are filled below effect 3 q, each from that of a lower effect
+--   three-none, three-more                  before the first three effects, after three more
+--   three-fits                              the row that is read fits
+--   in-threes                               how many effects there are at three levels
 --   effect-rows-two, effect-rows-three      the rows of a plan, by its levels
 use mathlib.Core.Path.{_≡_, refl, sym, _∙_, ap}
 use mathlib.Core.Bool.{cond}
 use mathlib.Core.List.{List}
 use mathlib.Core.Logic.{_⊎_, inl, inr}
-use native.Mathlib.Nat.{pow-le-pow-right}
 use Prim.Native.Nat.{ℕ, _+_, _-_, _*_, _/_, _%_, _^_, _<_, _≤_}
-use native.Mathlib.Decide.{decLt}
+use native.Mathlib.Decide.{decLt, ℕ-discrete}
 use native.Mathlib.Omega.{arith}
 use borrow.Author.Tests.{lt-ltb, le-ltb}
-use lib.Dec.{eqb, ltb}
-use lib.ListN.{getD, set, replicate, length-replicate, getD-replicate}
-use Rattle.algebra.specs.Laws.Fill.{Filled, filled-none, filled-old, filled-new, filled-more}
+use lib.Dec.{ltb}
+use lib.ListN.{getD, set, replicate}
+use Rattle.algebra.specs.Laws.Fill.{filled-blank}
 use Rattle.algebra.specs.Tab.{tab}
 use Rattle.algebra.specs.Laws.Tab.{tab-cong}
 use Rattle.contrasts.specs.Rows.{rowOf}
 use Rattle.contrasts.specs.Factors.{three}
 use Rattle.contrasts.specs.Totals.{size}
 use Rattle.contrasts.specs.Laws.Degrees.{row-lt}
-use Rattle.contrasts.specs.Laws.Rows.{row-none, row-again, row-fewer, row-two}
-use Rattle.contrasts.specs.Laws.ThreeLevels.{size-three}
+use Rattle.contrasts.specs.Laws.Rows.{row-none, row-fewer, row-two}
+use Rattle.contrasts.specs.Laws.ThreeLevels.{size-three, row-three}
 use Rattle.plan.specs.declared.types.Plan.{Plan}
 use Rattle.plan.specs.Check.{runCount}
 use Rattle.plan.specs.Plan.{factorsOf}
 use Rattle.plan.specs.Laws.Sizes.{RunsTwo, RunsThree, runs-known}
 use Rattle.effects.specs.Effects.{effectRows}
-
--- ---- two levels
-
-pub record RowsTwo (n e : ℕ) (ys : List ℕ) : Type 0 where
-  pub upto : e ≤ n
-  pub so : Filled 1024 (λ j. j) (λ j. 0) e ys
-
-pub two-none : (n : ℕ) → RowsTwo n 0 (replicate 1024 0)
-two-none n =
-    record {
-      upto = omega arith;
-      so = filled-none 0 1024 (λ j. j) (λ j. 0) (replicate 1024 0) (length-replicate {A = ℕ} 1024 0) (λ j h. getD-replicate {A = ℕ} 1024 j 0 0 h);
-    }
-
-module _ {n e : ℕ} {ys : List ℕ} (w : RowsTwo n e ys) where
-  pub two-more : e < n → n ≤ 1024 → RowsTwo n (e + 1) (set ys e e)
-  two-more h most = record { upto = omega arith; so = filled-more 0 (w .so) (omega arith) refl }
-
-  pub two-all : n ≤ e → ys ≡ tab 1024 (λ j. cond (ltb j n) j 0)
-  two-all h =
-      let d : e ≡ n = omega (arith, w .upto) in
-      w .so .so ∙ rw d refl
+use Rattle.effects.proofs.Counted.{threes-of, few-three, is-three}
+use Rattle.effects.proofs.Filling.{Threes, threes-none, threes-read, threes-more}
 
 -- ---- three levels
 
 abbrev row : ℕ → ℕ
 row e = rowOf (replicate 6 three) e
 
-pub record RowsThree (n e : ℕ) (ys : List ℕ) : Type 0 where
-  pub upto : e ≤ n
-  pub so : Filled 1024 (rowOf (replicate 6 three)) (λ j. 0) e ys
+-- at first all rows are 0, which is that of effect 0
+abbrev pub RowsThree : ℕ → ℕ → List ℕ → Type 0
+RowsThree n q ys = Threes (rowOf (replicate 6 three)) (λ j. 0) n q ys
 
 pub three-none : (n : ℕ) → RowsThree n 0 (replicate 1024 0)
-three-none n =
-    record {
-      upto = omega arith;
-      so = filled-none 0 1024 row (λ j. 0) (replicate 1024 0) (length-replicate {A = ℕ} 1024 0) (λ j h. getD-replicate {A = ℕ} 1024 j 0 0 h);
-    }
+three-none n = threes-none n (filled-blank 0 1024 row 0)
 
-module _ {n e : ℕ} {ys : List ℕ} (w : RowsThree n e ys) where
-  pub three-all : n ≤ e → ys ≡ tab 1024 (λ j. cond (ltb j n) (rowOf (replicate 6 three) j) 0)
-  three-all h =
-      let d : e ≡ n = omega (arith, w .upto) in
-      w .so .so ∙ rw d refl
+module _ {n q : ℕ} {ys : List ℕ} (w : RowsThree n q ys) (low : q < n / 3) (most : n ≤ 729) where
+  before : getD ys q 0 ≡ row q
+  before = threes-read w low (omega arith) (sym (row-none (replicate 6 three)))
 
-  module _ (low : e < n) (most : n ≤ 729) where
-    -- the effect without its lowest digit is lower, or is effect 0, whose row is 0
-    before : getD ys (e / 3) 0 ≡ row (e / 3)
-    before = by (decLt (e / 3) e)
-      where
-        by : Dec (e / 3 < e) → getD ys (e / 3) 0 ≡ row (e / 3)
-        by (yes h) = filled-new 0 (w .so) (e / 3) h
-        by (no h) =
-            let z : e / 3 ≡ 0 = omega arith in
-            filled-old 0 (w .so) (e / 3) (omega arith) (omega arith) ∙ sym (ap row z ∙ row-none (replicate 6 three))
+  pub three-fits : getD ys q 0 < 64
+  three-fits = rw before (row-lt (replicate 6 three) q)
 
-    pub three-fits : getD ys (e / 3) 0 < 64
-    three-fits = rw before (row-lt (replicate 6 three) (e / 3))
-
-    again : row e ≡ row (e / 3) * 2 + cond (eqb (e % 3) 0) 0 1
-    unfolding three size
-    again = row-again three 5 e (omega arith)
-
-    pub three-more : {u : ℕ} → u ≡ cond (eqb (e % 3) 0) 0 1 → RowsThree n (e + 1) (set ys e (getD ys (e / 3) 0 * 2 + u))
-    three-more {u} d = record { upto = omega arith; so = filled-more 0 (w .so) (omega arith) (ap (λ n. n * 2 + u) before ∙ rw d (sym again)) }
+  pub three-more : {a b c : ℕ} → a ≡ getD ys q 0 * 2 → b ≡ getD ys q 0 * 2 + 1 → c ≡ getD ys q 0 * 2 + 1
+      → RowsThree n (q + 1) (set (set (set ys (q * 3) a) (q * 3 + 1) b) (q * 3 + 2) c)
+  three-more d e f =
+      let r = row-three 5 q (omega arith) refl in
+      threes-more w low (omega arith) (omega (arith, before, r .0)) (omega (arith, before, r .1)) (omega (arith, before, r .2))
 
 -- ---- the rows of a plan
 
@@ -127,16 +86,6 @@ module _ (p : Plan) {n : ℕ} (count : n ≡ runCount p) where
           let six : 6 ≡ p .k + (6 - p .k) = omega (arith, a .most) in
           rw (a .factors) (ap (λ m. rowOf (replicate m three) e) six ∙ row-fewer three (p .k) (6 - p .k) e (below e h))
 
-  pub few-two : n ≤ 1024
-  few-two = by (runs-known p)
-    where
-      by : (runCount p ≡ 0) ⊎ (RunsTwo p ⊎ RunsThree p) → n ≤ 1024
-      by (inl z) = omega (arith, count)
-      by (inr (inl a)) = rw (count ∙ a .count) (pow-le-pow-right {n = 2} (omega arith) {i = p .k} {j = 10} (a .most))
-      by (inr (inr a)) =
-          let s : 3 ^ p .k ≤ 729 = pow-le-pow-right {n = 3} (omega arith) {i = p .k} {j = 6} (a .most) in
-          rw (count ∙ a .count) (omega (arith, s))
-
   pub effect-rows-two : p .levels ≡ 2 → {ys : List ℕ} → ys ≡ tab 1024 (λ e. cond (ltb e n) e 0) → ys ≡ effectRows p
   effect-rows-two l {ys} e = by (runs-known p)
     where
@@ -146,13 +95,14 @@ module _ (p : Plan) {n : ℕ} (count : n ≡ runCount p) where
       by (inr (inr a)) = absurd (omega (arith, l, a .levels))
 
   module _ (l : p .levels ≡ 2 → ⊥) where
-    pub few-three : n ≤ 729
-    few-three = by (runs-known p)
+    pub in-threes : (n % 3 ≡ 0) × (n ≤ 729)
+    in-threes = by (ℕ-discrete n 0)
       where
-        by : (runCount p ≡ 0) ⊎ (RunsTwo p ⊎ RunsThree p) → n ≤ 729
-        by (inl z) = omega (arith, count)
-        by (inr (inl a)) = absurd (l (a .levels))
-        by (inr (inr a)) = rw (count ∙ a .count) (pow-le-pow-right {n = 3} (omega arith) {i = p .k} {j = 6} (a .most))
+        by : Dec (n ≡ 0) → (n % 3 ≡ 0) × (n ≤ 729)
+        by (yes z) = (omega arith, omega arith)
+        by (no some) =
+            let known = is-three p count some l in
+            (rw (known .0) (threes-of (p .k) (known .1)), few-three (known .0) (known .2))
 
     pub effect-rows-three : {ys : List ℕ} → ys ≡ tab 1024 (λ e. cond (ltb e n) (rowOf (replicate 6 three) e) 0) → ys ≡ effectRows p
     effect-rows-three {ys} e = by (runs-known p)

@@ -1,8 +1,9 @@
--- Rows and divisors of effects, computed over the definitions.
+-- Rows, divisors and weights of effects, computed over the definitions.
 --
 --   nine           two three-level factors: the first nine entries, each divided by 3 for each of the four factors missing
 --   nine-rows      the rows of their effects, and of a number of no effect
 --   nine-divisors  the divisors, and of a number of no effect
+--   nine-weights   the weights, and of a number of no effect
 use mathlib.Core.Path.{_≡_, refl}
 use mathlib.Core.List.{[], _∷_}
 use lib.ListN.{take}
@@ -10,12 +11,12 @@ use Rattle.algebra.specs.Tab.{tabFrom}
 use Rattle.contrasts.specs.Limits.{mostTwo, mostThree}
 use Rattle.contrasts.specs.Rows.{rowOf}
 use Rattle.contrasts.specs.Factors.{two, three}
-use Rattle.contrasts.specs.Totals.{size, divisor*}
+use Rattle.contrasts.specs.Totals.{size, divisor*, denominator, weight*}
 use Rattle.plan.specs.Check.{badLevels, badFactors, runCount}
 use Rattle.plan.specs.Examples.{plan}
 use Rattle.plan.specs.Plan.{factorsOf}
 use Rattle.effects.specs.Inner.Divisors.{divisorsOf}
-use Rattle.effects.specs.Effects.{effectRows, effectDivisors}
+use Rattle.effects.specs.Effects.{effectRows, effectDivisors, effectWeights}
 
 -- X6: "Two three-level factors: divisors 9, 6, 18, 6, 4, 12, 18, 12, 36."
 nine : take 9 (divisorsOf 2) ≡ 9 ∷ 6 ∷ 18 ∷ 6 ∷ 4 ∷ 12 ∷ 18 ∷ 12 ∷ 36 ∷ []
@@ -30,3 +31,8 @@ nine-rows = refl
 nine-divisors : take 10 (effectDivisors (plan 3 2 [] [] [])) ≡ 9 ∷ 6 ∷ 18 ∷ 6 ∷ 4 ∷ 12 ∷ 18 ∷ 12 ∷ 36 ∷ 1 ∷ []
 unfolding effectDivisors runCount badLevels badFactors mostTwo mostThree factorsOf size divisor* two three tabFrom
 nine-divisors = refl
+
+-- 36 over each of them
+nine-weights : take 10 (effectWeights (plan 3 2 [] [] [])) ≡ 4 ∷ 6 ∷ 2 ∷ 6 ∷ 9 ∷ 3 ∷ 2 ∷ 3 ∷ 1 ∷ 0 ∷ []
+unfolding effectWeights runCount badLevels badFactors mostTwo mostThree factorsOf size divisor* denominator weight* two three tabFrom
+nine-weights = refl

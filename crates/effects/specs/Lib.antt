@@ -1,7 +1,7 @@
 -- What the calls on effects promise.
 --
---   Effects    the rows and the divisors of a plan's effects
---   Examples   rows and divisors of two factors, computed
+--   Effects    the rows, the divisors and the weights of a plan's effects
+--   Examples   rows, divisors and weights of two factors, computed
 --   Inner      what the inner functions ask and leave; no promise of a call
 pub mod Effects
 pub mod Examples

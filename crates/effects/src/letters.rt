@@ -2,7 +2,7 @@
 ghost use mathlib.Core.Path.{_≡_};
 ghost use mathlib.Core.Bool.{cond};
 ghost use Prim.Native.Nat.{_%_, _≤_};
-ghost use lib.Dec.{eqb, ltb};
+ghost use lib.Dec.{ltb};
 ghost use lib.ListN.{replicate};
 ghost use Rattle.algebra.specs.Tab.{tab};
 ghost use Rattle.contrasts.specs.Rows.{rowOf};
@@ -25,24 +25,23 @@ fn rows_of_two(n: usize) -> [u16; 1024]
     rows
 }
 
-// 1 where a three-level effect uses the first letter, and else 0.
-fn first_letter(e: usize) -> u16
-    ensures { λ r. ⌜ (r ≡ cond (eqb (e % 3) 0) 0 1) × (r ≤ 1) ⌝ }
-{
-    if e % 3 == 0 { 0 } else { 1 }
-}
-
-// At three levels an effect's row follows from that of the effect without its lowest digit. An effect of fewer factors than six has the same
-// row as one of six.
+// At three levels the effects 3 q, 3 q + 1 and 3 q + 2 have the letters of effect q, each moved on by one, and the last two the first letter
+// too. An effect of fewer factors than six has the same row as one of six.
 fn rows_of_three(n: usize) -> [u16; 1024]
-    requires { ⌜ n ≤ 729 ⌝ }
+    requires { ⌜ (n % 3 ≡ 0) × (n ≤ 729) ⌝ }
     ensures { λ r. ⌜ r ≡ tab 1024 (λ e. cond (ltb e n) (rowOf (replicate 6 three) e) 0) ⌝ }
 {
     let mut rows = [0u16; 1024];
-    let mut e = 0;
-    while e < n {
-        rows[e] = rows[e / 3] * 2 + first_letter(e);
-        e += 1;
+    let third = n / 3;
+    let mut q = 0;
+    while q < third {
+        let moved = 2 * rows[q];
+        let with_first = moved + 1;
+        let e = q * 3;
+        rows[e] = moved;
+        rows[e + 1] = with_first;
+        rows[e + 2] = with_first;
+        q += 1;
     }
     rows
 }

@@ -3,6 +3,8 @@
 --   Filled n new old i ys                   ys has the new values at its first i places, and the old ones after them
 --   filled-long                             its length
 --   filled-none, filled-more, filled-all    before the first place is written, after one more, after the last
+--   filled-blank                            before the first, where all places hold the same
+--   filled-three                            after three more places
 --   filled-old, filled-new                  what its places hold
 use mathlib.Core.Path.{_≡_, _∙_, ap}
 use mathlib.Core.Bool.{cond}
@@ -11,7 +13,7 @@ use Prim.Native.Nat.{ℕ, _+_, _<_, _≤_}
 use native.Mathlib.Omega.{arith}
 use borrow.Author.Tests.{lt-ltb, le-ltb}
 use lib.Dec.{ltb}
-use lib.ListN.{length, getD, set}
+use lib.ListN.{length, getD, set, replicate, length-replicate, getD-replicate}
 use Rattle.algebra.specs.Tab.{tab}
 use Rattle.algebra.specs.Laws.Tab.{length-tab, getD-tab, is-tab, tab-cong, tab-set}
 use Rattle.algebra.specs.Laws.Tests.{same-test}
@@ -28,6 +30,9 @@ module _ {A : Type 0} (z : A) where
   pub filled-none : (n : ℕ) (new old : ℕ → A) (ys : List A) → length ys ≡ n → ((j : ℕ) → j < n → getD ys j z ≡ old j) → Filled n new old 0 ys
   filled-none n new old ys e h =
       record { some = omega arith; so = is-tab z ys n (λ j. cond (ltb j 0) (new j) (old j)) e (λ j k. h j k ∙ rw (le-ltb j 0 (omega arith))) }
+
+  pub filled-blank : (n : ℕ) (new : ℕ → A) (v : A) → Filled n new (λ j. v) 0 (replicate n v)
+  filled-blank n new v = filled-none n new (λ j. v) (replicate n v) (length-replicate n v) (λ j h. getD-replicate n j v z h)
 
   module _ {n : ℕ} {new old : ℕ → A} {i : ℕ} {ys : List A} (w : Filled n new old i ys) where
     pub filled-long : length ys ≡ n
@@ -51,3 +56,10 @@ module _ {A : Type 0} (z : A) where
       where
         others : (j : ℕ) → j < n → (j ≡ i → ⊥) → upto new old i j ≡ upto new old (i + 1) j
         others j k d = ap (λ b. cond b (new j) (old j)) (same-test j i d)
+
+  pub filled-three : {n : ℕ} {new old : ℕ → A} {i : ℕ} {ys : List A} → Filled n new old i ys → i + 3 ≤ n
+      → {a b c : A} → a ≡ new i → b ≡ new (i + 1) → c ≡ new (i + 2) → Filled n new old (i + 3) (set (set (set ys i a) (i + 1) b) (i + 2) c)
+  filled-three {i = i} w h d e f =
+      let two : i + 1 + 1 ≡ i + 2 = omega arith in
+      let three : i + 2 + 1 ≡ i + 3 = omega arith in
+      rw three at (filled-more (rw two at (filled-more (filled-more w (omega arith) d) (omega arith) e)) (omega arith) f)

@@ -1,6 +1,8 @@
 -- Laws on terms sorted by a key, and the loop that adds the terms to their places one after the other.
 --
 --   sum-cong, sorted-cong  keys and terms that agree
+--   sum-own, sum-other     what the next term brings to its own place, and that it brings nothing to another
+--   sum-low                no term has this key yet
 --   sorted-none            no term is added yet
 --   sorted-more            the next term is added to its place
 --   sorted-at              what a place holds
@@ -29,6 +31,19 @@ module _ {n : ℕ} {key key′ f f′ : ℕ → ℕ} (keys : (i : ℕ) → i < n
   pub sorted-cong : (r : ℕ) → sorted r key f n ≡ sorted r key′ f′ n
   sorted-cong r = tab-cong 0 r (sumAt key f n) (sumAt key′ f′ n) (λ w _. sum-cong w)
 
+module _ (key f : ℕ → ℕ) where
+  pub sum-own : (n : ℕ) → sumAt key f n (key n) + f n ≡ sumAt key f (suc n) (key n)
+  unfolding sumAt Σℕ
+  sum-own n = rw (eq-eqb (key n) (key n) refl) refl
+
+  pub sum-other : (n w : ℕ) → (w ≡ key n → ⊥) → sumAt key f n w ≡ sumAt key f (suc n) w
+  unfolding sumAt Σℕ
+  sum-other n w h = rw (ne-eqb (key n) w (λ e. h (sym e))) (sym (add-zero (sumAt key f n w)))
+
+  pub sum-low : (n w : ℕ) → ((i : ℕ) → i < n → key i ≡ w → ⊥) → sumAt key f n w ≡ 0
+  unfolding sumAt
+  sum-low n w h = Σℕ-none n _ (λ i k. rw (ne-eqb (key i) w (h i k)) refl)
+
 module _ (r : ℕ) (key f : ℕ → ℕ) where
   pub sorted-none : (xs : List ℕ) → length xs ≡ r → ((w : ℕ) → w < r → getD xs w 0 ≡ 0) → xs ≡ sorted r key f 0
   unfolding sumAt Σℕ
@@ -37,28 +52,19 @@ module _ (r : ℕ) (key f : ℕ → ℕ) where
   pub sorted-at : {xs : List ℕ} (n : ℕ) → xs ≡ sorted r key f n → (w : ℕ) → w < r → getD xs w 0 ≡ sumAt key f n w
   sorted-at n e w h = rw e (getD-tab 0 r (sumAt key f n) w h)
 
-  -- the place of the next term, and another place
-  own : (n : ℕ) → sumAt key f n (key n) + f n ≡ sumAt key f (suc n) (key n)
-  unfolding sumAt Σℕ
-  own n = rw (eq-eqb (key n) (key n) refl) refl
-
-  other : (n w : ℕ) → (w ≡ key n → ⊥) → sumAt key f n w ≡ sumAt key f (suc n) w
-  unfolding sumAt Σℕ
-  other n w h = rw (ne-eqb (key n) w (λ e. h (sym e))) (sym (add-zero (sumAt key f n w)))
-
   pub sorted-more : (n : ℕ) {xs : List ℕ} → xs ≡ sorted r key f n → key n < r
       → set xs (key n) (getD xs (key n) 0 + f n) ≡ sorted r key f (n + 1)
   sorted-more n {xs} e h =
       rw (add-one n)
-      (tab-set 0 r (key n) (sumAt key f n) (sumAt key f (suc n)) _ xs e (ap (λ z. z + f n) (sorted-at n e (key n) h) ∙ own n)
-      (λ w k d. other n w d))
+      (tab-set 0 r (key n) (sumAt key f n) (sumAt key f (suc n)) _ xs e (ap (λ z. z + f n) (sorted-at n e (key n) h) ∙ sum-own key f n)
+      (λ w k d. sum-other key f n w d))
 
 pub sum-least : (key f : ℕ → ℕ) (n m w : ℕ) → n ≤ m → sumAt key f n w ≤ Σℕ m f
 unfolding sumAt
 sum-least key f n m w h = Σℕ-some n m (λ i. eqb (key i) w) f h
 
 pub sum-next : (key f : ℕ → ℕ) (n m : ℕ) → n < m → sumAt key f n (key n) + f n ≤ Σℕ m f
-sum-next key f n m h = rw (own 0 key f n) (sum-least key f (suc n) m (key n) h)
+sum-next key f n m h = rw (sum-own key f n) (sum-least key f (suc n) m (key n) h)
 
 -- ---- sums of sums
 

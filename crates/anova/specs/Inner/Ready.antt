@@ -1,44 +1,21 @@
 -- What the inner functions ask of what they are handed.
 --
---   Squarable x                            the square of x fits
 --   SquaresFit xs                          the sum of the squares of a column fits
---   Weighable t w                          a numerator fits
---   Walkable ts effects d ds kinds rows    the walk stays within its slices, and its sums fit
 --   Sets n xs                              n sets of three that a round turns
 --   Rounds k xs                            the readings of k three-level factors, within a limit that leaves room for the rounds
 --   Checkable levels k readings column     readings within a limit that leaves room for the check, and a column for its rounds
 use mathlib.Core.Path.{_≡_}
 use mathlib.Core.List.{List}
-use Prim.Native.Nat.{ℕ, _-_, _*_, _/_, _^_, _<_, _≤_}
-use lib.IntN.{ℤ, natAbs}
-use lib.ListN.{length, getD}
-use Rattle.algebra.specs.Naturals.{Σℕ}
+use Prim.Native.Nat.{ℕ, _-_, _*_, _^_, _<_, _≤_}
+use lib.IntN.{ℤ}
+use lib.ListN.{length}
 use Rattle.contrasts.specs.Columns.{AllWithin}
 use Rattle.contrasts.specs.Limits.{valueLimit}
 use Rattle.contrasts.specs.Factors.{ofLevels}
-use Rattle.anova.specs.Inner.Walk.{walkNumerator, walkRow, walkKind, zeros, squaresOf}
-
-pub record Squarable (x : ℤ) : Type 0 where
-  pub square-fits : natAbs x * natAbs x < 2 ^ 63
+use Rattle.anova.specs.Inner.Readings.{squaresOf}
 
 pub record SquaresFit (xs : List ℤ) : Type 0 where
   pub sum-fits : squaresOf xs < 2 ^ 63
-
-pub record Weighable (t : ℤ) (w : ℕ) : Type 0 where
-  pub square-fits : natAbs t * natAbs t < 2 ^ 63
-  pub product-fits : natAbs t * natAbs t * w < 2 ^ 63
-
-pub record Walkable (ts : List ℤ) (effects : List ℕ) (d : ℕ) (ds kinds rows : List ℕ) : Type 0 where
-  pub effects-long : length ts ≤ length effects
-  pub divisors-long : length ts ≤ length ds
-  pub divisors-some : (e : ℕ) → e < length ts → 0 < getD ds e 0
-  pub weights-some : (e : ℕ) → e < length ts → 0 < d / getD ds e 0
-  pub row-there : (e : ℕ) → e < length ts → walkRow effects e < length rows
-  pub kinds-long : length rows ≤ length kinds
-  pub four-kinds : (e : ℕ) → e < length ts → walkKind effects kinds e < 4
-  pub cleared : rows ≡ zeros (length rows)
-  -- the sum of all numerators, which is the bound of every sum of some of them
-  pub sum-fits : Σℕ (length ts) (walkNumerator ts d ds) < 2 ^ 63
 
 pub record Sets (n : ℕ) (xs : List ℤ) : Type 0 where
   pub whole : 3 * n ≤ length xs

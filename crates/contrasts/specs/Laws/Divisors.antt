@@ -4,12 +4,16 @@
 --   shares                       divisor times weight is the denominator, for every effect
 --   denominator-pos, weight-pos  neither the denominator nor a weight is 0
 --   weight-nil, weight-cons      the weight, by the lowest digit
---   divisor-more                 factors added behind: their first divisors are multiplied on
+--   weight-le                    a weight is at most the denominator
+--   ByDigit one all              all is the product of one number for each factor, by the effect's digit
+--   divisor-by, weight-by        so is the divisor, and so the weight
+--   by-digit                     such a product, by a lowest digit and the rest
+--   by-more                      factors added behind: their product for effect 0 is multiplied on
 use mathlib.Core.Path.{_≡_, refl, sym, _∙_, ap}
 use mathlib.Core.List.{List, [], _∷_, _++_}
-use Prim.Native.Nat.{ℕ, _*_, _/_, _%_, _<_}
-use native.Mathlib.Nat.{mul-comm, mod-lt, mul-mul-mul-comm, mul-pos, mul-assoc, one-mul, div-eq-of-eq-mul-right}
-use lib.Arith.{lt-one}
+use Prim.Native.Nat.{ℕ, _+_, _*_, _/_, _%_, _<_, _≤_}
+use native.Mathlib.Nat.{mul-comm, mod-lt, mul-mul-mul-comm, mul-pos, mul-assoc, one-mul, div-eq-of-eq-mul-right, div-le-self}
+use lib.Arith.{lt-one, digits-div, digits-mod}
 use lib.Dec.{lit<}
 use Rattle.algebra.specs.Laws.Products.{factor-pos}
 use Rattle.contrasts.specs.Factor.{Factor, weight}
@@ -62,9 +66,32 @@ pub weight-cons : (F : Factor) (Fs : List Factor) (e : ℕ)
     → weight* (F ∷ Fs) e ≡ weight F (e % F .levels) * weight* Fs (e / F .levels)
 weight-cons F Fs e = quotient F Fs e (shares Fs (e / F .levels))
 
-pub divisor-more : (Fs Gs : List Factor) (e : ℕ) → e < size Fs → divisor* (Fs ++ Gs) e ≡ divisor* Fs e * divisor* Gs 0
-unfolding divisor* size
-divisor-more [] Gs e h = rw (lt-one h) (sym (one-mul (divisor* Gs 0)))
-divisor-more (F ∷ Fs) Gs e h =
-    ap (λ z. F .divisor (e % F .levels) * z) (divisor-more Fs Gs (e / F .levels) (rest-lt (F .some-level) h))
-    ∙ sym (mul-assoc (F .divisor (e % F .levels)) (divisor* Fs (e / F .levels)) (divisor* Gs 0))
+pub weight-le : (Fs : List Factor) (e : ℕ) → weight* Fs e ≤ denominator Fs
+unfolding weight*
+weight-le Fs e = div-le-self (denominator Fs) (divisor* Fs e)
+
+-- ---- products by digit
+
+pub record ByDigit (one : Factor → ℕ → ℕ) (all : List Factor → ℕ → ℕ) : Type 0 where
+  pub none : (e : ℕ) → all [] e ≡ 1
+  pub first : (F : Factor) (Fs : List Factor) (e : ℕ) → all (F ∷ Fs) e ≡ one F (e % F .levels) * all Fs (e / F .levels)
+
+pub divisor-by : ByDigit (λ F d. F .divisor d) divisor*
+unfolding divisor*
+divisor-by = record { none = λ e. refl; first = λ F Fs e. refl }
+
+pub weight-by : ByDigit weight weight*
+weight-by = record { none = weight-nil; first = weight-cons }
+
+module _ {one : Factor → ℕ → ℕ} {all : List Factor → ℕ → ℕ} (by : ByDigit one all) where
+  pub by-digit : (F : Factor) (Fs : List Factor) (q d : ℕ) → d < F .levels → all (F ∷ Fs) (q * F .levels + d) ≡ one F d * all Fs q
+  by-digit F Fs q d h = by .first F Fs (q * F .levels + d) ∙ rw (digits-mod q h, digits-div q h)
+
+  pub by-more : (Fs Gs : List Factor) (e : ℕ) → e < size Fs → all (Fs ++ Gs) e ≡ all Fs e * all Gs 0
+  unfolding size
+  by-more [] Gs e h = rw (lt-one h, by .none 0) (sym (one-mul (all Gs 0)))
+  by-more (F ∷ Fs) Gs e h =
+      by .first F (Fs ++ Gs) e
+      ∙ ap (λ z. one F (e % F .levels) * z) (by-more Fs Gs (e / F .levels) (rest-lt (F .some-level) h))
+      ∙ sym (mul-assoc (one F (e % F .levels)) (all Fs (e / F .levels)) (all Gs 0))
+      ∙ ap (λ z. z * all Gs 0) (sym (by .first F Fs e))

@@ -4,18 +4,20 @@
 --   spacing-alike       the values of the factor at position f lie levels to the power f apart
 --   pass-alike          so its pass is the factor's at that spacing
 --   denominator-alike   the denominator is the factor's to the power k
---   divisor-fewer       j factors fewer: the divisor lacks the first row's divisor j times
+--   by-first            a product by digit, at effect 0: the number for digit 0 to the power k
+--   by-fewer            j factors fewer: the product lacks that number j times
 --   growth-alike        the growth of passes, by the reach of one
 use mathlib.Core.Path.{_≡_, refl, sym, _∙_, ap}
+use mathlib.Core.List.{List}
 use Prim.Native.Nat.{ℕ, zero, suc, _+_, _*_, _^_, _<_, _≤_, max}
 use native.Mathlib.Nat.{pow-zero, pow-succ', zero-mod, zero-div}
 use native.Mathlib.Omega.{arith}
 use lib.ListN.{take, replicate, length-replicate, getD-replicate, replicate-append-replicate}
 use Rattle.contrasts.specs.Factor.{Factor}
-use Rattle.contrasts.specs.Totals.{Column, size, divisor*, denominator}
+use Rattle.contrasts.specs.Totals.{Column, size, denominator}
 use Rattle.contrasts.specs.Passes.{passAt, pass, spacing}
 use Rattle.contrasts.specs.Laws.Bounds.{reach, growth}
-use Rattle.contrasts.specs.Laws.Divisors.{divisor-more}
+use Rattle.contrasts.specs.Laws.Divisors.{ByDigit, by-more}
 use Rattle.contrasts.specs.Laws.Stretches.{pass-is}
 
 pub size-alike : (k : ℕ) (F : Factor) → size (replicate k F) ≡ F .levels ^ k
@@ -41,17 +43,18 @@ unfolding denominator
 denominator-alike zero F = sym (pow-zero (F .common))
 denominator-alike (suc k) F = rw (denominator-alike k F) (sym (pow-succ' (F .common) k))
 
-divisor-first : (j : ℕ) (F : Factor) → divisor* (replicate j F) 0 ≡ F .divisor 0 ^ j
-unfolding divisor*
-divisor-first zero F = sym (pow-zero (F .divisor 0))
-divisor-first (suc j) F = rw (zero-mod (F .levels), zero-div (F .levels), divisor-first j F) (sym (pow-succ' (F .divisor 0) j))
+module _ {one : Factor → ℕ → ℕ} {all : List Factor → ℕ → ℕ} (by : ByDigit one all) where
+  pub by-first : (k : ℕ) (F : Factor) → all (replicate k F) 0 ≡ one F 0 ^ k
+  by-first zero F = by .none 0 ∙ sym (pow-zero (one F 0))
+  by-first (suc k) F =
+      by .first F (replicate k F) 0 ∙ rw (zero-mod (F .levels), zero-div (F .levels), by-first k F) (sym (pow-succ' (one F 0) k))
 
-pub divisor-fewer : (k j : ℕ) (F : Factor) (e : ℕ) → e < size (replicate k F)
-    → divisor* (replicate (k + j) F) e ≡ divisor* (replicate k F) e * F .divisor 0 ^ j
-divisor-fewer k j F e h =
-    ap (λ Fs. divisor* Fs e) (sym (replicate-append-replicate k j F))
-    ∙ divisor-more (replicate k F) (replicate j F) e h
-    ∙ rw (divisor-first j F)
+  pub by-fewer : (k j : ℕ) (F : Factor) (e : ℕ) → e < size (replicate k F)
+      → all (replicate (k + j) F) e ≡ all (replicate k F) e * one F 0 ^ j
+  by-fewer k j F e h =
+      ap (λ Fs. all Fs e) (sym (replicate-append-replicate k j F))
+      ∙ by-more by (replicate k F) (replicate j F) e h
+      ∙ rw (by-first j F)
 
 pub growth-alike : (k : ℕ) (F : Factor) → growth (replicate k F) ≡ max 1 (reach F) ^ k
 unfolding growth

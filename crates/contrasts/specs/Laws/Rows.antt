@@ -12,7 +12,7 @@ use mathlib.Core.List.{List, [], _∷_, _++_}
 use Prim.Native.Nat.{ℕ, zero, suc, _+_, _*_, _/_, _%_, _^_, _<_}
 use native.Mathlib.Nat.{zero-mod, zero-div, mod-lt, div-add-mod', div-lt-iff-lt-mul, pow-suc}
 use native.Mathlib.Numerals.{add-one}
-use lib.Arith.{lt-one}
+use lib.Arith.{lt-one, digits-div, digits-mod}
 use lib.Dec.{eqb, eqb→eq, lit<}
 use lib.ListN.{length, replicate, replicate-append-replicate}
 use Rattle.algebra.specs.Naturals.{Σℕ}
@@ -48,12 +48,12 @@ module _ (F : Factor) where
   pub row-fewer : (k j e : ℕ) → e < size (replicate k F) → rowOf (replicate (k + j) F) e ≡ rowOf (replicate k F) e
   row-fewer k j e h = ap (λ Fs. rowOf Fs e) (sym (replicate-append-replicate k j F)) ∙ row-more (replicate k F) (replicate j F) e h
 
-  pub row-again : (k e : ℕ) → e < F .levels * size (replicate k F)
-      → rowOf (replicate (suc k) F) e ≡ rowOf (replicate (suc k) F) (e / F .levels) * 2 + cond (eqb (e % F .levels) 0) 0 1
-  row-again k e h =
-      row-first F (replicate k F) e
-      ∙ ap (λ w. w * 2 + cond (eqb (e % F .levels) 0) 0 1)
-      (sym (row-fewer k 1 (e / F .levels) (rest-lt (F .some-level) h)) ∙ ap (λ n. rowOf (replicate n F) (e / F .levels)) (add-one k))
+  pub row-again : (k q d : ℕ) → q < size (replicate k F) → d < F .levels
+      → rowOf (replicate (suc k) F) (q * F .levels + d) ≡ rowOf (replicate (suc k) F) q * 2 + cond (eqb d 0) 0 1
+  row-again k q d h l =
+      row-first F (replicate k F) (q * F .levels + d)
+      ∙ rw (digits-mod q l, digits-div q l)
+      (ap (λ w. w * 2 + cond (eqb d 0) 0 1) (sym (row-fewer k 1 q h) ∙ ap (λ n. rowOf (replicate n F) q) (add-one k)))
 
 -- a digit of two levels is 0 or 1, as the letter is in the row
 digit-two : (d : ℕ) → d < 2 → cond (eqb d 0) 0 1 ≡ d

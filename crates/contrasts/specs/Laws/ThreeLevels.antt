@@ -6,12 +6,16 @@
 --   size-three                the number of runs
 --   divisor-three             the divisors of fewer factors
 --   denominator-three         the common denominator
+--   weight-first              the weight of effect 0
+--   weight-fits               a weight of six factors or fewer is small
+--   row-three, weight-three   the rows and the weights of three effects that differ in the lowest digit alone
 --   round-three               a round of the check
 --   round-bound               the growth of values in it
 use mathlib.Core.Path.{_≡_, refl, sym, _∙_, ap}
 use mathlib.Core.List.{[], _∷_}
-use Prim.Native.Nat.{ℕ, _+_, _*_, _^_, _/_, _<_, _≤_}
-use native.Mathlib.Nat.{mul-div-left, one-le-pow, add-zero}
+use Prim.Native.Nat.{ℕ, suc, _+_, _*_, _^_, _/_, _<_, _≤_}
+use native.Mathlib.Nat.{mul-div-left, one-le-pow, pow-le-pow-right, le-trans, add-zero}
+use native.Mathlib.Numerals.{add-one}
 use native.Mathlib.Omega.{arith}
 use lib.Dec.{lit<}
 use lib.IntN.{ℤ, pos, natAbs, _+ℤ_, _*ℤ_, _-ℤ_}
@@ -19,13 +23,17 @@ use lib.ListN.{replicate}
 use Rattle.algebra.specs.Laws.Solve.{solve, var, lit, _⊕_, _⊖_, _⊗_}
 use Rattle.algebra.specs.Laws.Size.{natAbs-+ℤ, natAbs-sub, natAbs-*ℤ}
 use Rattle.algebra.specs.Sum.{Σ}
+use Rattle.contrasts.specs.Factor.{weight}
 use Rattle.contrasts.specs.Factors.{three}
 use Rattle.contrasts.specs.Codings.{neg}
-use Rattle.contrasts.specs.Totals.{Column, size, divisor*, denominator}
+use Rattle.contrasts.specs.Totals.{Column, size, divisor*, denominator, weight*}
 use Rattle.contrasts.specs.Passes.{passAt}
 use Rattle.contrasts.specs.Steps.{step}
 use Rattle.contrasts.specs.Checks.{checkWeight, round}
-use Rattle.contrasts.specs.Laws.Replicated.{size-alike, denominator-alike, divisor-fewer}
+use Rattle.contrasts.specs.Rows.{rowOf}
+use Rattle.contrasts.specs.Laws.Divisors.{divisor-by, weight-by, weight-le, by-digit}
+use Rattle.contrasts.specs.Laws.Rows.{row-again}
+use Rattle.contrasts.specs.Laws.Replicated.{size-alike, denominator-alike, by-first, by-fewer}
 use Rattle.contrasts.specs.Laws.Steps.{step-value}
 use Rattle.contrasts.specs.Laws.Stretches.{pass-value}
 
@@ -107,12 +115,62 @@ size-three k = size-alike k three
 pub divisor-three : (k j e : ℕ) → e < 3 ^ k → divisor* (replicate k three) e ≡ divisor* (replicate (k + j) three) e / 3 ^ j
 unfolding three
 divisor-three k j e h =
-    sym (rw (divisor-fewer k j three e (rw (size-alike k three) h)) (mul-div-left (divisor* (replicate k three) e) (one-le-pow j 3 (lit< tt))))
+    sym (rw (by-fewer divisor-by k j three e (rw (size-alike k three) h)) (mul-div-left (divisor* (replicate k three) e) (one-le-pow j 3 (lit< tt))))
 
 -- "or 6 to the power k"
 pub denominator-three : (k : ℕ) → denominator (replicate k three) ≡ 6 ^ k
 unfolding three
 denominator-three k = denominator-alike k three
+
+-- ---- rows and weights
+
+-- A weight is the product of 2, 3 or 1 by digit: 6 over 3, over 2 and over 6. So effect 0 has a 2 for each factor.
+pub weight-first : (k : ℕ) → weight* (replicate k three) 0 ≡ 2 ^ k
+unfolding three
+weight-first k = by-first weight-by k three
+
+-- at most 6 to the power 6
+pub weight-fits : (k e : ℕ) → k ≤ 6 → weight* (replicate k three) e ≤ 46656
+weight-fits k e h =
+    le-trans (weight-le (replicate k three) e) (rw (denominator-three k) (pow-le-pow-right {n = 6} (omega arith) {i = k} {j = 6} h))
+
+-- Three effects that differ in the lowest digit alone, from the effect of their other digits. There are m factors, one more than k.
+module _ (k q : ℕ) (h : q < 3 ^ k) {m : ℕ} (more : m ≡ suc k) where
+  below : q < size (replicate k three)
+  below = rw (size-three k) h
+
+  pub row-three : (rowOf (replicate m three) (q * 3) ≡ rowOf (replicate m three) q * 2)
+      × (rowOf (replicate m three) (q * 3 + 1) ≡ rowOf (replicate m three) q * 2 + 1)
+      × (rowOf (replicate m three) (q * 3 + 2) ≡ rowOf (replicate m three) q * 2 + 1)
+  unfolding three
+  row-three =
+      rw more (
+        ap (rowOf (replicate (suc k) three)) (sym (add-zero (q * 3))) ∙ row-again three k q 0 below (lit< tt) ∙ add-zero _,
+        row-again three k q 1 below (lit< tt),
+        row-again three k q 2 below (lit< tt),
+      )
+
+  -- the last digit of q is 0, for which it has a 2
+  twice : weight* (replicate m three) q ≡ weight* (replicate k three) q * 2
+  unfolding three
+  twice = ap (λ n. weight* (replicate n three) q) (more ∙ sym (add-one k)) ∙ by-fewer weight-by k 1 three q below
+
+  half : weight* (replicate m three) q / 2 ≡ weight* (replicate k three) q
+  half = rw twice (mul-div-left (weight* (replicate k three) q) (lit< tt))
+
+  digit : (d : ℕ) → d < 3 → weight* (replicate m three) (q * 3 + d) ≡ weight three d * weight* (replicate k three) q
+  unfolding three
+  digit d l = rw more (by-digit weight-by three (replicate k three) q d l)
+
+  pub weight-three : (weight* (replicate m three) (q * 3) ≡ weight* (replicate m three) q)
+      × (weight* (replicate m three) (q * 3 + 1) ≡ 3 * (weight* (replicate m three) q / 2))
+      × (weight* (replicate m three) (q * 3 + 2) ≡ weight* (replicate m three) q / 2)
+  unfolding three
+  weight-three = (
+    ap (weight* (replicate m three)) (sym (add-zero (q * 3))) ∙ digit 0 (lit< tt) ∙ omega (arith, twice),
+    digit 1 (lit< tt) ∙ omega (arith, half),
+    digit 2 (lit< tt) ∙ omega (arith, half),
+  )
 
 -- ---- the check
 

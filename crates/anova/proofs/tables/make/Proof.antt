@@ -20,7 +20,7 @@ make-spec =
     (λ c κs.
     let pre = c .before .before .before .before .before .before .before .before .pre in
     let check-number-is = c .before .before .before .before .check-number .ensures in
-    ((denominator-is pre (check-number-is .1) (c .before .before .denominator .ensures)), form-ready pre (check-number-is .1)))
+    form-ready pre (check-number-is .1))
     (λ c. search needs)
     (λ c κs.
     let pre = c .before .before .before .before .before .before .before .before .before .before .before .before .pre in

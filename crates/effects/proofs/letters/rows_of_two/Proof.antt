@@ -1,11 +1,12 @@
+use mathlib.Core.Path.{refl}
 use Prim.Native.Nat.{_-_}
 use native.Mathlib.Omega.{arith}
-use Rattle.effects.proofs.Rowed.{RowsTwo, two-none, two-more, two-all}
+use Rattle.effects.proofs.Filling.{Singly, singly-none, singly-more, singly-all}
 use Rattle.effects.proofs.letters.rows_of_two.Statement.{statement}
 use Rattle.effects.proofs.letters.rows_of_two.Tie as tie
 
 abbrev Inv-loop : tie.InvT-loop
-Inv-loop n rows₀ e₀ rows e = RowsTwo n e rows
+Inv-loop n rows₀ e₀ rows e = Singly (λ j. j) (λ j. 0) n e rows
 
 abbrev μ-loop : tie.MeasureT-loop
 μ-loop n rows₀ e₀ rows e = n - e
@@ -16,11 +17,11 @@ rows-of-two-spec =
     (tie.spec
     Inv-loop
     μ-loop
-    (λ c. two-none _)
+    (λ c. singly-none (λ j. j) 0 _)
     (λ c. omega arith)
     (λ c. omega arith)
     (λ c. omega arith)
     (λ c. omega arith)
     (λ c. omega arith)
-    (λ c. two-more (c .before .loop .inv) (c .loop-test .taken) (omega arith))
-    (λ c. two-all (c .before .loop .inv) (c .loop-test .left)))
+    (λ c. singly-more (c .before .loop .inv) (c .loop-test .taken) (omega arith) refl)
+    (λ c. singly-all (c .before .loop .inv) (c .loop-test .left)))

@@ -1,11 +1,12 @@
+use mathlib.Core.Path.{refl}
 use Prim.Native.Nat.{_-_}
 use native.Mathlib.Omega.{arith}
-use Rattle.effects.proofs.Shared.{DivisorsTwo, two-none, two-more, two-all}
+use Rattle.effects.proofs.Filling.{Singly, singly-none, singly-more, singly-all}
 use Rattle.effects.proofs.shares.divisors_of_two.Statement.{statement}
 use Rattle.effects.proofs.shares.divisors_of_two.Tie as tie
 
 abbrev Inv-loop : tie.InvT-loop
-Inv-loop n divisors₀ e₀ divisors e = DivisorsTwo n e divisors
+Inv-loop n divisors₀ e₀ divisors e = Singly (λ j. n) (λ j. 1) n e divisors
 
 abbrev μ-loop : tie.MeasureT-loop
 μ-loop n divisors₀ e₀ divisors e = n - e
@@ -16,11 +17,11 @@ divisors-of-two-spec =
     (tie.spec
     Inv-loop
     μ-loop
-    (λ c. two-none _)
+    (λ c. singly-none _ 1 _)
     (λ c. omega arith)
     (λ c. omega arith)
     (λ c. omega arith)
     (λ c. omega arith)
     (λ c. omega arith)
-    (λ c. two-more (c .before .loop .inv) (c .loop-test .taken) (omega arith))
-    (λ c. two-all (c .before .loop .inv) (c .loop-test .left)))
+    (λ c. singly-more (c .before .loop .inv) (c .loop-test .taken) (omega arith) refl)
+    (λ c. singly-all (c .before .loop .inv) (c .loop-test .left)))

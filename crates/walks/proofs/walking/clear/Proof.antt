@@ -1,9 +1,9 @@
 use Prim.Native.Nat.{_-_}
 use lib.ListN.{length}
 use native.Mathlib.Omega.{arith}
-use Rattle.anova.proofs.Walked.{Clearing, clearing-none, clearing-long, clearing-more, clearing-all}
-use Rattle.anova.proofs.walks.clear.Statement.{statement}
-use Rattle.anova.proofs.walks.clear.Tie as tie
+use Rattle.walks.proofs.Walked.{Clearing, clearing-none, clearing-long, clearing-more, clearing-all}
+use Rattle.walks.proofs.walking.clear.Statement.{statement}
+use Rattle.walks.proofs.walking.clear.Tie as tie
 
 abbrev Inv-loop : tie.InvT-loop
 Inv-loop rows₀ row₀ rows row = Clearing rows₀ row rows

@@ -1,9 +1,9 @@
 use mathlib.Core.Path.{refl, _∙_}
 use native.Mathlib.Omega.{arith}
 use Rattle.algebra.specs.Laws.Machine.{kept}
-use Rattle.anova.proofs.Walked.{product-fits, product-is}
-use Rattle.anova.proofs.walks.numerator.Statement.{statement}
-use Rattle.anova.proofs.walks.numerator.Tie as tie
+use Rattle.walks.proofs.Walked.{product-fits, product-is}
+use Rattle.walks.proofs.squares.numerator.Statement.{statement}
+use Rattle.walks.proofs.squares.numerator.Tie as tie
 
 pub numerator-spec : {M : Type 1} → statement M
 numerator-spec =

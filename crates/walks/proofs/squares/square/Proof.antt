@@ -1,6 +1,6 @@
 use Rattle.algebra.specs.Laws.Machine.{square-fits, square-held, square-is}
-use Rattle.anova.proofs.squares.square.Statement.{statement}
-use Rattle.anova.proofs.squares.square.Tie as tie
+use Rattle.walks.proofs.squares.square.Statement.{statement}
+use Rattle.walks.proofs.squares.square.Tie as tie
 
 pub square-spec : {M : Type 1} → statement M
 square-spec =

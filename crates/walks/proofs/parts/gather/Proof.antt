@@ -1,0 +1,17 @@
+use mathlib.Core.Path.{refl}
+use lib.Dec.{lit<}
+use Rattle.algebra.specs.Laws.Machine.{kept}
+use Rattle.walks.specs.Inner.Parts.{heldIn}
+use Rattle.walks.proofs.parts.gather.Statement.{statement}
+use Rattle.walks.proofs.parts.gather.Tie as tie
+
+pub gather-spec : {M : Type 1} → statement M
+unfolding heldIn
+gather-spec =
+    tie.close
+    (tie.spec
+    (λ c κs. (c .before .pre, lit< tt))
+    (λ c κs. (c .before .before .pre, lit< tt))
+    (λ c.
+    let start = c .before .before .before in
+    rw (c .before .join .ensures, c .join2 .ensures, kept _ (start .fits .totals .sfits)) refl))
