@@ -1,26 +1,27 @@
--- What the table call hands to the walk, and what the walk makes of it.
+-- What the table call hands to the passes and to the walk, and what they make of it.
 --
---   totals-made           the totals, as the totals call leaves them
+--   readings-ready        the readings can be passed over
+--   totals-made           the totals, as the passes leave them
 --   walk-ready            the walk stays within its slices, and no sum wraps
 --   sums-made, rows-made  what it leaves are the sums of the table, and its rows
-use mathlib.Core.Path.{_≡_, refl, sym, _∙_, ap}
+use mathlib.Core.Path.{_≡_, _∙_, ap}
 use mathlib.Core.List.{List}
 use Prim.Native.Nat.{ℕ, _*_, _<_}
 use native.Mathlib.Omega.{arith}
 use lib.IntN.{ℤ, pos}
-use lib.ListN.{length}
+use lib.ListN.{length, replicate}
 use Rattle.algebra.specs.Laws.Naturals.{Σℕ-cong}
 use Rattle.algebra.specs.Laws.Tab.{length-tab, getD-tab}
 use Rattle.algebra.specs.Naturals.{Σℕ}
 use Rattle.contrasts.specs.Columns.{read, totalsOf}
+use Rattle.contrasts.specs.Factors.{ofLevels}
 use Rattle.contrasts.specs.Laws.Squares.{numerators}
 use Rattle.contrasts.specs.Totals.{total, denominator, numeratorOf, squared}
 use Rattle.plan.specs.declared.types.Plan.{Plan}
-use Rattle.plan.specs.Laws.Answers.{written-new}
 use Rattle.plan.specs.Laws.Limits.{numerator-fits}
 use Rattle.plan.specs.Plan.{factorsOf, runsOf}
-use Rattle.columns.specs.Laws.Admitted.{admits}
-use Rattle.yates.specs.Calls.{totalsRefused, totalsColumn}
+use Rattle.passes.specs.Laws.Plans.{plan-readings}
+use Rattle.passes.specs.Ready.{PassReadings}
 use Rattle.rows.specs.Kinds.{rowsIn}
 use Rattle.walks.specs.declared.types.Sums.{Sums}
 use Rattle.walks.specs.After.{numeratorAt, rowsAfter, sumsAfter}
@@ -31,12 +32,12 @@ use Rattle.anova.specs.Laws.After.{rows-after-all}
 use Rattle.anova.specs.Table.{rowsOf}
 
 module _ {p : Plan} {readings : List ℤ} {marks : List ℕ} {totals : List ℤ} {rows : List ℕ} (a : TableReady p readings marks totals rows) where
-  pub totals-made : {ts : List ℤ} → ts ≡ totalsColumn p readings totals → ts ≡ totalsOf (factorsOf p) readings
-  unfolding totalsColumn
-  totals-made e =
-      e
-      ∙ sym (written-new (totalsRefused p readings totals) (totalsOf (factorsOf p) readings) totals
-      (admits (record { plan = a .plan; whole = a .whole; same = a .same; within = a .within })))
+  pub readings-ready : PassReadings (p .levels) (p .k) readings × (length totals ≡ length readings)
+  readings-ready = plan-readings {totals = totals} (record { plan = a .plan; whole = a .whole; same = a .same; within = a .within })
+
+  pub totals-made : {ts : List ℤ} → ts ≡ totalsOf (replicate (p .k) (ofLevels (p .levels))) readings → ts ≡ totalsOf (factorsOf p) readings
+  unfolding factorsOf
+  totals-made e = e
 
   module _ {ts : List ℤ} (made : ts ≡ totalsOf (factorsOf p) readings) where
     total-is : (i : ℕ) → i < runsOf p → read ts i ≡ total (factorsOf p) (read readings) i

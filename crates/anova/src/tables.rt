@@ -11,10 +11,10 @@ use super::types::Checks;
 use super::types::Figures;
 use super::types::Source;
 use super::types::Table;
+use passes::form_totals;
 use plan::Plan;
 use walks::Sums;
 use walks::walk;
-use yates::totals;
 ghost use Rattle.contrasts.specs.Columns.{read, totalsOf};
 ghost use Rattle.contrasts.specs.Totals.{total};
 ghost use Rattle.plan.specs.Outcome.{outcome};
@@ -50,7 +50,7 @@ fn form(p: Plan, readings: &[i32], marks: &[u8], column: &mut [i64], rows: &mut 
     ensures { λ _. ⌜ now (column .exit) ≡ totalsOf (factorsOf p) (now (readings .entry)) ⌝ }
     ensures { λ _. ⌜ now (rows .exit) ≡ rowsOf p (now (readings .entry)) ⌝ }
 {
-    totals(p, readings, column);
+    form_totals(p.levels as usize, p.k as usize, readings, column);
     walk(p, column, marks, rows)
 }
 

@@ -23,6 +23,7 @@
 --   Small          values that a pass or a step admits fit an i64
 --   Sets           a turn of a loop over sets of values: its sums fit, and it writes what the rows say
 --   Rounds         a turn of the loop that makes a round of the check
+--   Both           two factors alike, passed in one go
 pub mod Digits
 pub mod Order
 pub mod Steps
@@ -46,3 +47,4 @@ pub mod Signed
 pub mod Small
 pub mod Sets
 pub mod Rounds
+pub mod Both

@@ -2,7 +2,7 @@
 --
 --   Stepped                  the column after some turns
 --   step-begun, step-ended   before the first turn, and after the last
---   small-from               the values that are read are small
+--   mild-from                the values that are read are mild
 --   step-two, step-three     a turn
 use mathlib.Core.Path.{_≡_, refl, _∙_, ap}
 use mathlib.Core.List.{List}
@@ -17,7 +17,7 @@ use Rattle.contrasts.specs.Columns.{read, stepOf}
 use Rattle.contrasts.specs.Factors.{two, three, ofLevels}
 use Rattle.contrasts.specs.Steps.{step}
 use Rattle.contrasts.specs.Laws.Steps.{step-value}
-use Rattle.contrasts.specs.Laws.Small.{Small}
+use Rattle.contrasts.specs.Laws.Small.{Mild, mild-small}
 use Rattle.contrasts.specs.Laws.Sets.{turn-two, turn-three}
 use Rattle.steps.specs.Inner.Ready.{Sets}
 
@@ -33,8 +33,8 @@ module _ {levels n : ℕ} {from to : List ℤ} (pre : Sets levels n from to) whe
     unfolding stepOf
     step-ended k = let e : i ≡ n = omega (arith, w .some) in ended (pos 0) w (pre .some) e
 
-  pub small-from : (m : ℕ) → Small (read from m)
-  small-from m = record { small = pre .within m }
+  pub mild-from : (m : ℕ) → Mild (read from m)
+  mild-from m = mild-small (record { small = pre .within m })
 
 module _ {n : ℕ} {from to : List ℤ} (pre : Sets 2 n from to) {i : ℕ} {ys : List ℤ} (w : Stepped 2 n from to i ys) (low : i < n) where
   pub step-two : Stepped 2 n from to (i + 1)
@@ -43,7 +43,7 @@ module _ {n : ℕ} {from to : List ℤ} (pre : Sets 2 n from to) {i : ℕ} {ys :
   step-two =
       turn-two w low (λ j. read from (i * 2 + j))
       (λ d k. ap (step (2 * n) two (read from)) (add-comm i (d * n)) ∙ step-value two n (read from) d i low)
-      (ap (read from) (omega arith)) (ap (read from) (omega arith)) (small-from pre (2 * i)) (small-from pre (2 * i + 1))
+      (ap (read from) (omega arith)) (ap (read from) (omega arith)) (mild-from pre (2 * i)) (mild-from pre (2 * i + 1))
 
 module _ {n : ℕ} {from to : List ℤ} (pre : Sets 3 n from to) {i : ℕ} {ys : List ℤ} (w : Stepped 3 n from to i ys) (low : i < n) where
   pub step-three : Stepped 3 n from to (i + 1)
@@ -55,4 +55,4 @@ module _ {n : ℕ} {from to : List ℤ} (pre : Sets 3 n from to) {i : ℕ} {ys :
       turn-three w low (λ j. read from (i * 3 + j))
       (λ d k. ap (step (3 * n) three (read from)) (add-comm i (d * n)) ∙ step-value three n (read from) d i low)
       (ap (read from) (omega arith)) (ap (read from) (omega arith)) (ap (read from) (omega arith))
-      (small-from pre (3 * i)) (small-from pre (3 * i + 1)) (small-from pre (3 * i + 2))
+      (mild-from pre (3 * i)) (mild-from pre (3 * i + 1)) (mild-from pre (3 * i + 2))

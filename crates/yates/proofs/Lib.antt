@@ -1,8 +1,4 @@
--- Laws of the loops and of the calls.
+-- Laws of the calls.
 --
---   Worked   the turns of a stretch
---   Passed   the loop over the stretches of a column
---   Called   what the calls hand to the inner functions
-pub mod Worked
-pub mod Passed
+--   Called   what the calls hand to the passes
 pub mod Called

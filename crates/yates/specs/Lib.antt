@@ -3,8 +3,6 @@
 --   Calls      the calls' numbers and columns
 --   Examples   small columns, computed
 --   Laws       laws on the calls
---   Inner      what the inner functions ask and leave; no promise of a call
 pub mod Calls
 pub mod Examples
 pub mod Laws
-pub mod Inner

@@ -4,11 +4,9 @@
 //   step(p, from, to)             the report's own step, from one column to another: of the crate `steps`
 //   totals(p, readings, totals)   the totals of all effects
 //   Answer                        what they answer: of the crate `columns`
-mod passes;
-mod readings;
-mod stretches;
+mod calls;
 
+pub use calls::pass;
+pub use calls::totals;
 pub use columns::Answer;
-pub use passes::pass;
-pub use readings::totals;
 pub use steps::step;

@@ -25,16 +25,16 @@ use Rattle.contrasts.specs.Limits.{valueLimit}
 use Rattle.contrasts.specs.Factors.{two, three}
 use Rattle.contrasts.specs.Laws.TwoLevels as twice
 use Rattle.contrasts.specs.Laws.ThreeLevels as thrice
-use Rattle.contrasts.specs.Laws.Small.{Small, room, held}
+use Rattle.contrasts.specs.Laws.Small.{Mild, room, held}
 
 -- ---- two levels
 
-module _ {a b : ℤ} (sa : Small a) (sb : Small b) where
+module _ {a b : ℤ} (sa : Mild a) (sb : Mild b) where
   sum-size : natAbs (a +ℤ b) < 2 ^ 63
-  sum-size = omega (arith, room, sa .small, sb .small, natAbs-+ℤ a b)
+  sum-size = omega (arith, room, sa .mild, sb .mild, natAbs-+ℤ a b)
 
-  less-size : natAbs (a -ℤ b) < 2 ^ 63
-  less-size = omega (arith, room, sa .small, sb .small, natAbs-sub a b)
+  pub less-size : natAbs (a -ℤ b) < 2 ^ 63
+  less-size = omega (arith, room, sa .mild, sb .mild, natAbs-sub a b)
 
   pub sum-fits : SFits w64 (wrap a +ℤ wrap b)
   sum-fits = rw (held sa, held sb) (fits (a +ℤ b) sum-size)
@@ -42,15 +42,15 @@ module _ {a b : ℤ} (sa : Small a) (sb : Small b) where
   pub less-fits : SFits w64 (wrap a -ℤ wrap b)
   less-fits = rw (held sa, held sb) (fits (a -ℤ b) less-size)
 
-  sum-is : wrap (wrap a +ℤ wrap b) ≡ a +ℤ b
+  pub sum-is : wrap (wrap a +ℤ wrap b) ≡ a +ℤ b
   sum-is = rw (held sa, held sb) (back (a +ℤ b) sum-size)
 
-  less-is : wrap (wrap a -ℤ wrap b) ≡ a -ℤ b
+  pub less-is : wrap (wrap a -ℤ wrap b) ≡ a -ℤ b
   less-is = rw (held sa, held sb) (back (a -ℤ b) less-size)
 
 module _ {h i : ℕ} {f g : ℕ → ℤ} {ys : List ℤ} (w : Turned 2 h f g i ys) (low : i < h)
     (y : ℕ → ℤ) (row : (d : ℕ) → d < 2 → f (i + d * h) ≡ Σ 2 (λ j. two .coef d j *ℤ y j)) where
-  pub turn-two : {a b : ℤ} → y 0 ≡ a → y 1 ≡ b → Small a → Small b
+  pub turn-two : {a b : ℤ} → y 0 ≡ a → y 1 ≡ b → Mild a → Mild b
       → Turned 2 h f g (i + 1) (set (set ys i (wrap (wrap a +ℤ wrap b))) (i + h) (wrap (wrap a -ℤ wrap b)))
   turn-two {a} {b} first second sa sb =
       let t = closed (pos 0) low (put (pos 0) low 1 (lit< tt) (put (pos 0) low 0 (lit< tt) (opened (pos 0) w) (wrap (wrap a +ℤ wrap b)) sums) (wrap (wrap a -ℤ wrap b)) differences) in
@@ -72,18 +72,18 @@ module _ {h i : ℕ} {f g : ℕ → ℤ} {ys : List ℤ} (w : Turned 2 h f g i y
 
 -- of a middle that is counted up to twice, "twice middle" being the case that the turn has
 module _ (m : ℕ) (le : m ≤ 2) where
-  scaled-size : {b : ℤ} → Small b → natAbs (pos m *ℤ b) ≤ 2 * valueLimit
-  scaled-size {b} sb = rw (natAbs-*ℤ (pos m) b) (mul-le-mul le (sb .small))
+  scaled-size : {b : ℤ} → Mild b → natAbs (pos m *ℤ b) ≤ 2 * (4 * valueLimit)
+  scaled-size {b} sb = rw (natAbs-*ℤ (pos m) b) (mul-le-mul le (sb .mild))
 
-  pub scaled-fits : {b : ℤ} → Small b → SFits w64 (pos m *ℤ wrap b)
+  pub scaled-fits : {b : ℤ} → Mild b → SFits w64 (pos m *ℤ wrap b)
   scaled-fits {b} sb = rw (held sb) (fits (pos m *ℤ b) (omega (arith, room, scaled-size sb)))
 
-  scaled-is : {b : ℤ} → Small b → wrap (pos m *ℤ wrap b) ≡ pos m *ℤ b
+  scaled-is : {b : ℤ} → Mild b → wrap (pos m *ℤ wrap b) ≡ pos m *ℤ b
   scaled-is {b} sb = rw (held sb) (back (pos m *ℤ b) (omega (arith, room, scaled-size sb)))
 
-  module _ {a b : ℤ} (sa : Small a) (sb : Small b) where
+  module _ {a b : ℤ} (sa : Mild a) (sb : Mild b) where
     without-size : natAbs (a -ℤ pos m *ℤ b) < 2 ^ 63
-    without-size = omega (arith, room, sa .small, scaled-size sb, natAbs-sub a (pos m *ℤ b))
+    without-size = omega (arith, room, sa .mild, scaled-size sb, natAbs-sub a (pos m *ℤ b))
 
     pub without-fits : SFits w64 (wrap a -ℤ wrap (pos m *ℤ wrap b))
     without-fits = rw (held sa, scaled-is sb) (fits (a -ℤ pos m *ℤ b) without-size)
@@ -91,30 +91,30 @@ module _ (m : ℕ) (le : m ≤ 2) where
     without-is : wrap (wrap a -ℤ wrap (pos m *ℤ wrap b)) ≡ a -ℤ pos m *ℤ b
     without-is = rw (held sa, scaled-is sb) (back (a -ℤ pos m *ℤ b) without-size)
 
-  module _ {a b c : ℤ} (sa : Small a) (sb : Small b) (sc : Small c) where
-    third-size : natAbs (a -ℤ pos m *ℤ b +ℤ c) < 2 ^ 63
+  module _ {a b c : ℤ} (sa : Mild a) (sb : Mild b) (sc : Mild c) where
+    pub third-size : natAbs (a -ℤ pos m *ℤ b +ℤ c) < 2 ^ 63
     third-size =
-        omega (arith, room, sa .small, scaled-size sb, sc .small, natAbs-sub a (pos m *ℤ b), natAbs-+ℤ (a -ℤ pos m *ℤ b) c)
+        omega (arith, room, sa .mild, scaled-size sb, sc .mild, natAbs-sub a (pos m *ℤ b), natAbs-+ℤ (a -ℤ pos m *ℤ b) c)
 
     pub third-fits : SFits w64 (wrap (wrap a -ℤ wrap (pos m *ℤ wrap b)) +ℤ wrap c)
     third-fits = rw (without-is sa sb, held sc) (fits (a -ℤ pos m *ℤ b +ℤ c) third-size)
 
-    third-is : wrap (wrap (wrap a -ℤ wrap (pos m *ℤ wrap b)) +ℤ wrap c) ≡ a -ℤ pos m *ℤ b +ℤ c
+    pub third-is : wrap (wrap (wrap a -ℤ wrap (pos m *ℤ wrap b)) +ℤ wrap c) ≡ a -ℤ pos m *ℤ b +ℤ c
     third-is = rw (without-is sa sb, held sc) (back (a -ℤ pos m *ℤ b +ℤ c) third-size)
 
-module _ {a b c : ℤ} (sa : Small a) (sb : Small b) (sc : Small c) where
-  all-size : natAbs (a +ℤ b +ℤ c) < 2 ^ 63
-  all-size = omega (arith, room, sa .small, sb .small, sc .small, natAbs-+ℤ a b, natAbs-+ℤ (a +ℤ b) c)
+module _ {a b c : ℤ} (sa : Mild a) (sb : Mild b) (sc : Mild c) where
+  pub all-size : natAbs (a +ℤ b +ℤ c) < 2 ^ 63
+  all-size = omega (arith, room, sa .mild, sb .mild, sc .mild, natAbs-+ℤ a b, natAbs-+ℤ (a +ℤ b) c)
 
   pub all-fits : SFits w64 (wrap (wrap a +ℤ wrap b) +ℤ wrap c)
   all-fits = rw (sum-is sa sb, held sc) (fits (a +ℤ b +ℤ c) all-size)
 
-  all-is : wrap (wrap (wrap a +ℤ wrap b) +ℤ wrap c) ≡ a +ℤ b +ℤ c
+  pub all-is : wrap (wrap (wrap a +ℤ wrap b) +ℤ wrap c) ≡ a +ℤ b +ℤ c
   all-is = rw (sum-is sa sb, held sc) (back (a +ℤ b +ℤ c) all-size)
 
 module _ {h i : ℕ} {f g : ℕ → ℤ} {ys : List ℤ} (w : Turned 3 h f g i ys) (low : i < h)
     (y : ℕ → ℤ) (row : (d : ℕ) → d < 3 → f (i + d * h) ≡ Σ 3 (λ j. three .coef d j *ℤ y j)) where
-  pub turn-three : {a b c : ℤ} → y 0 ≡ a → y 1 ≡ b → y 2 ≡ c → Small a → Small b → Small c
+  pub turn-three : {a b c : ℤ} → y 0 ≡ a → y 1 ≡ b → y 2 ≡ c → Mild a → Mild b → Mild c
       → Turned 3 h f g (i + 1)
       (set (set (set ys i (wrap (wrap (wrap a +ℤ wrap b) +ℤ wrap c))) (i + h) (wrap (wrap a -ℤ wrap c)))
       (i + 2 * h) (wrap (wrap (wrap a -ℤ wrap (pos 2 *ℤ wrap b)) +ℤ wrap c)))

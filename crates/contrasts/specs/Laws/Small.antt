@@ -1,23 +1,54 @@
--- Values that a pass or a step admits fit an i64, and so do some of them added up.
+-- Values that a pass or a step admits fit an i64, and so do those that one pass or two make of them.
 --
---   Small z    a value that a pass or a step admits
---   room       five such values fit
---   held       and such a value is what the code holds
+--   Small z       a value that a pass or a step admits
+--   Mild z        a value of up to four times that size: what one pass makes of small ones
+--   mild-small    a small value is mild
+--   sum-mild, less-mild, all-mild, third-mild
+--                 what one pass makes: at two levels the sum, and first minus second; at three levels the sum, and first minus twice middle
+--                 plus third
+--   room          four mild values fit
+--   held          and such a value is what the code holds
 use mathlib.Core.Path.{_≡_}
 use Prim.Native.Nat.{_*_, _^_, _<_, _≤_}
 use native.Mathlib.Omega.{arith}
 use lib.Dec.{lit<}
-use lib.IntN.{ℤ, natAbs}
+use lib.IntN.{ℤ, pos, _+ℤ_, _-ℤ_, _*ℤ_, natAbs}
+use Rattle.algebra.specs.Laws.Size.{natAbs-+ℤ, natAbs-sub, natAbs-*ℤ}
 use Rattle.algebra.specs.Laws.Machine.{wrap, back}
 use Rattle.contrasts.specs.Limits.{valueLimit}
 
 pub record Small (z : ℤ) : Type 0 where
   pub small : natAbs z ≤ valueLimit
 
--- the one fact on the limit: five such values fit
-pub room : valueLimit * 5 < 2 ^ 63
+pub record Mild (z : ℤ) : Type 0 where
+  pub mild : natAbs z ≤ 4 * valueLimit
+
+pub mild-small : {z : ℤ} → Small z → Mild z
+mild-small s = record { mild = omega (arith, s .small) }
+
+module _ {a b : ℤ} (sa : Small a) (sb : Small b) where
+  pub sum-mild : Mild (a +ℤ b)
+  sum-mild = record { mild = omega (arith, sa .small, sb .small, natAbs-+ℤ a b) }
+
+  pub less-mild : Mild (a -ℤ b)
+  less-mild = record { mild = omega (arith, sa .small, sb .small, natAbs-sub a b) }
+
+module _ {a b c : ℤ} (sa : Small a) (sb : Small b) (sc : Small c) where
+  pub all-mild : Mild (a +ℤ b +ℤ c)
+  all-mild = record { mild = omega (arith, sa .small, sb .small, sc .small, natAbs-+ℤ a b, natAbs-+ℤ (a +ℤ b) c) }
+
+  pub third-mild : Mild (a -ℤ pos 2 *ℤ b +ℤ c)
+  third-mild =
+      record {
+        mild =
+            omega
+            (arith, sa .small, sb .small, sc .small, natAbs-*ℤ (pos 2) b, natAbs-sub a (pos 2 *ℤ b), natAbs-+ℤ (a -ℤ pos 2 *ℤ b) c);
+      }
+
+-- the one fact on the limit: four mild values fit, which is one pass more
+pub room : 4 * valueLimit * 4 < 2 ^ 63
 unfolding valueLimit
 room = lit< tt
 
-pub held : {z : ℤ} → Small z → wrap z ≡ z
-held {z} s = back z (omega (arith, room, s .small))
+pub held : {z : ℤ} → Mild z → wrap z ≡ z
+held {z} s = back z (omega (arith, room, s .mild))

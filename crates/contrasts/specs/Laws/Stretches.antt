@@ -4,11 +4,12 @@
 --   pass-value         what the pass writes at the place p + d s, where p is the place of stretch q at the offset i
 --   passOver s F xs    the pass of F at the spacing s over a whole list; length-over is its length
 --   stretch-value      what the pass of one stretch writes at the place i + d s
---   stretch-alone      the pass of a stretch by itself is that stretch of the pass of the column
+--   several-alone      the pass of several stretches by themselves is those stretches of the pass of the column
+--   stretch-alone      and so of one
 use mathlib.Core.Path.{_≡_, refl, sym, _∙_, ap}
 use mathlib.Core.List.{List, [], _∷_}
 use Prim.Native.Nat.{ℕ, zero, suc, _+_, _*_, _-_, _/_, _%_, _<_, _≤_}
-use native.Mathlib.Nat.{mul-assoc, mul-one, one-mul, add-comm, add-assoc, mod-lt, div-add-mod', div-lt-iff-lt-mul}
+use native.Mathlib.Nat.{mul-assoc, mul-one, one-mul, mul-pos, mod-lt, div-add-mod', div-lt-iff-lt-mul}
 use native.Mathlib.Omega.{arith}
 use lib.Arith.{digits-div, digits-mod, digits-lt}
 use lib.IntN.{ℤ, pos, _*ℤ_}
@@ -60,43 +61,52 @@ pub stretch-value : (s : ℕ) (F : Factor) (x : Column) (d i : ℕ) → d < F .l
     → passAt s F x (i + d * s) ≡ Σ (F .levels) (λ j. F .coef d j *ℤ x (i + j * s))
 stretch-value s F x d i hd hi = pass-value s F x 0 i i (omega arith) hi d hd
 
-module _ (s : ℕ) (F : Factor) (k : ℕ) (xs : List ℤ) (some : 0 < s) (room : k * (F .levels * s) + F .levels * s ≤ length xs) where
-  stretch : List ℤ
-  stretch = part (F .levels * s) (k * (F .levels * s)) xs
-
-  -- at the digit d and the offset i of the stretch
-  place-value : (d i : ℕ) → d < F .levels → i < s
-      → passAt s F (read xs) (k * (F .levels * s) + (i + d * s)) ≡ passAt s F (read stretch) (i + d * s)
-  unfolding stretch
-  place-value d i hd hi =
-      ap (passAt s F (read xs)) (sym (add-assoc from i (d * s)))
-      ∙ pass-value s F (read xs) k i (from + i) refl hi d hd
+module _ (s : ℕ) (F : Factor) (k m : ℕ) (xs : List ℤ) (some : 0 < s) (room : k * (F .levels * s) + m * (F .levels * s) ≤ length xs) where
+  -- at the digit d and the offset i of the stretch t of these
+  place-value : (t d i : ℕ) → t < m → d < F .levels → i < s
+      → passAt s F (read xs) (k * (F .levels * s) + (t * (F .levels * s) + i + d * s))
+      ≡ passAt s F (read (part (m * (F .levels * s)) (k * (F .levels * s)) xs)) (t * (F .levels * s) + i + d * s)
+  place-value t d i ht hd hi =
+      ap (passAt s F (read xs)) (along (F .levels) d)
+      ∙ pass-value s F (read xs) (k + t) i ((k + t) * (F .levels * s) + i) refl hi d hd
       ∙ Σ-cong (F .levels) (λ j hj. ap (λ z. F .coef d j *ℤ z)
-      (ap (read xs) (add-assoc from i (j * s))
-      ∙ sym (getD-part (F .levels * s) from xs (pos 0) (i + j * s) (inside j hj))))
-      ∙ sym (stretch-value s F (read stretch) d i hd hi)
+      (ap (read xs) (sym (along (F .levels) j))
+      ∙ sym (getD-part (m * (F .levels * s)) (k * (F .levels * s)) xs (pos 0) (t * (F .levels * s) + i + j * s) (inside j hj))))
+      ∙ sym (pass-value s F (read (part (m * (F .levels * s)) (k * (F .levels * s)) xs)) t i (t * (F .levels * s) + i) refl hi d hd)
     where
-      from : ℕ
-      from = k * (F .levels * s)
+      along : (l j : ℕ) → k * (l * s) + (t * (l * s) + i + j * s) ≡ (k + t) * (l * s) + i + j * s
+      along l j = omega arith
 
-      inside : (j : ℕ) → j < F .levels → i + j * s < F .levels * s
-      inside j hj = rw (add-comm i (j * s)) (digits-lt hj hi)
+      inside : (j : ℕ) → j < F .levels → t * (F .levels * s) + i + j * s < m * (F .levels * s)
+      inside j hj =
+          let a : j * s + i < F .levels * s = digits-lt hj hi in
+          let b : t * (F .levels * s) + (j * s + i) < m * (F .levels * s) = digits-lt ht a in
+          omega (arith, b)
 
-  pub stretch-alone : passOver s F (part (F .levels * s) (k * (F .levels * s)) xs) ≡ part (F .levels * s) (k * (F .levels * s)) (passOver s F xs)
-  unfolding passOver stretch
-  stretch-alone =
+  pub several-alone : passOver s F (part (m * (F .levels * s)) (k * (F .levels * s)) xs)
+      ≡ part (m * (F .levels * s)) (k * (F .levels * s)) (passOver s F xs)
+  unfolding passOver
+  several-alone =
       sym (is-tab (pos 0) (part w from (tab (length xs) (passAt s F (read xs)))) (length (part w from xs)) (passAt s F (read (part w from xs)))
       (length-part w from (tab (length xs) (passAt s F (read xs))) (rw (length-tab (length xs) (passAt s F (read xs))) room) ∙ sym (length-part w from xs room))
       (λ j h. let h′ : j < w = rw (length-part w from xs room) at h in
       getD-part w from (tab (length xs) (passAt s F (read xs))) (pos 0) j h′
-      ∙ getD-tab (pos 0) (length xs) (passAt s F (read xs)) (from + j) (omega arith)
-      ∙ rw (← (there j)) (place-value (j / s) (j % s) (div-lt-iff-lt-mul some .1 h′) (mod-lt j some))))
+      ∙ getD-tab (pos 0) (length xs) (passAt s F (read xs)) (from + j) (omega (arith, room, h′))
+      ∙ rw (← (there j)) (place-value (j / (F .levels * s)) (j % (F .levels * s) / s) (j % (F .levels * s) % s) (div-lt-iff-lt-mul wide .1 h′)
+      (div-lt-iff-lt-mul some .1 (mod-lt j wide)) (mod-lt (j % (F .levels * s)) some))))
     where
       w : ℕ
-      w = F .levels * s
+      w = m * (F .levels * s)
 
       from : ℕ
       from = k * (F .levels * s)
 
-      there : (j : ℕ) → j % s + j / s * s ≡ j
-      there j = add-comm (j % s) (j / s * s) ∙ div-add-mod' j s
+      wide : 0 < F .levels * s
+      wide = mul-pos (F .some-level) some
+
+      there : (j : ℕ) → j / (F .levels * s) * (F .levels * s) + j % (F .levels * s) % s + j % (F .levels * s) / s * s ≡ j
+      there j = omega (arith, div-add-mod' j (F .levels * s), div-add-mod' (j % (F .levels * s)) s)
+
+pub stretch-alone : (s : ℕ) (F : Factor) (k : ℕ) (xs : List ℤ) → 0 < s → k * (F .levels * s) + F .levels * s ≤ length xs
+    → passOver s F (part (F .levels * s) (k * (F .levels * s)) xs) ≡ part (F .levels * s) (k * (F .levels * s)) (passOver s F xs)
+stretch-alone s F k xs some room = rw (one-mul (F .levels * s)) at (several-alone s F k 1 xs some (rw (one-mul (F .levels * s)) room))

@@ -6,7 +6,7 @@ use lib.ListN.{length-set}
 use Rattle.algebra.specs.Laws.Spread.{as-long}
 use lib.IntN.{pos}
 use Rattle.contrasts.specs.Laws.Sets.{sum-fits, less-fits, all-fits, scaled-fits, without-fits, third-fits}
-use Rattle.steps.proofs.Worked.{Stepped, step-begun, step-ended, small-from, step-three}
+use Rattle.steps.proofs.Worked.{Stepped, step-begun, step-ended, mild-from, step-three}
 use Rattle.steps.proofs.sets.step_three.Statement.{statement}
 use Rattle.steps.proofs.sets.step_three.Tie as tie
 
@@ -37,24 +37,24 @@ step-three-spec =
     (λ c. omega (arith, c .before .before .before .before .before .pre))
     (λ c.
     let pre = c .before .before .before .before .before .pre in
-    sum-fits (small-from pre _) (small-from pre _))
+    sum-fits (mild-from pre _) (mild-from pre _))
     (λ c.
     let pre = c .before .before .before .before .before .pre in
-    all-fits (small-from pre _) (small-from pre _) (small-from pre _))
+    all-fits (mild-from pre _) (mild-from pre _) (mild-from pre _))
     (λ c. omega (arith, c .before .before .before .before .before .pre))
     (λ c. omega (arith, as-long (pos 0) (c .before .before .before .before .loop .inv)))
     (λ c.
     let pre = c .before .before .before .before .before .pre in
-    less-fits (small-from pre _) (small-from pre _))
+    less-fits (mild-from pre _) (mild-from pre _))
     (λ c. omega (arith, c .before .before .before .before .before .pre))
     (λ c. simp length-set (omega (arith, as-long (pos 0) (c .before .before .before .before .loop .inv))))
-    (λ c. scaled-fits _ (lit≤ tt) (small-from (c .before .before .before .before .before .pre) _))
+    (λ c. scaled-fits _ (lit≤ tt) (mild-from (c .before .before .before .before .before .pre) _))
     (λ c.
     let pre = c .before .before .before .before .before .pre in
-    without-fits _ (lit≤ tt) (small-from pre _) (small-from pre _))
+    without-fits _ (lit≤ tt) (mild-from pre _) (mild-from pre _))
     (λ c.
     let pre = c .before .before .before .before .before .pre in
-    third-fits _ (lit≤ tt) (small-from pre _) (small-from pre _) (small-from pre _))
+    third-fits _ (lit≤ tt) (mild-from pre _) (mild-from pre _) (mild-from pre _))
     (λ c. omega (arith, c .before .before .before .before .before .pre))
     (λ c. simp length-set (omega (arith, as-long (pos 0) (c .before .before .before .before .loop .inv))))
     (λ c. omega arith)

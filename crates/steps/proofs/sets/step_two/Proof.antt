@@ -5,7 +5,7 @@ use lib.ListN.{length-set}
 use Rattle.algebra.specs.Laws.Spread.{as-long}
 use lib.IntN.{pos}
 use Rattle.contrasts.specs.Laws.Sets.{sum-fits, less-fits}
-use Rattle.steps.proofs.Worked.{Stepped, step-begun, step-ended, small-from, step-two}
+use Rattle.steps.proofs.Worked.{Stepped, step-begun, step-ended, mild-from, step-two}
 use Rattle.steps.proofs.sets.step_two.Statement.{statement}
 use Rattle.steps.proofs.sets.step_two.Tie as tie
 
@@ -31,12 +31,12 @@ step-two-spec =
     (λ c. omega (arith, c .before .before .before .before .pre))
     (λ c.
     let pre = c .before .before .before .before .pre in
-    sum-fits (small-from pre _) (small-from pre _))
+    sum-fits (mild-from pre _) (mild-from pre _))
     (λ c. omega (arith, c .before .before .before .before .pre))
     (λ c. omega (arith, as-long (pos 0) (c .before .before .before .loop .inv)))
     (λ c.
     let pre = c .before .before .before .before .pre in
-    less-fits (small-from pre _) (small-from pre _))
+    less-fits (mild-from pre _) (mild-from pre _))
     (λ c. omega (arith, c .before .before .before .before .pre))
     (λ c. simp length-set (omega (arith, as-long (pos 0) (c .before .before .before .loop .inv))))
     (λ c. omega arith)

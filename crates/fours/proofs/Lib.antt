@@ -1,0 +1,4 @@
+-- Laws of the loops.
+--
+--   Worked   the turns of a stretch
+pub mod Worked

@@ -1,0 +1,37 @@
+// The passes of the first two factors, from the readings to a column: the copy and both passes in one go.
+ghost use mathlib.Core.Path.{_≡_};
+ghost use Rattle.contrasts.specs.Factors.{two};
+ghost use Rattle.contrasts.specs.Laws.Both.{bothOver};
+ghost use Rattle.fours.specs.Ready.{FirstFours};
+ghost use Rattle.fours.specs.Inner.Stretch.{FirstFour};
+
+// Four readings, to the same stretch of the column.
+fn put_four(readings: &[i32], part: &mut [i64])
+    requires { ⌜ FirstFour (now readings) (now part) ⌝ }
+    ensures { λ _. ⌜ now (part .exit) ≡ bothOver 1 two (now (readings .entry)) ⌝ }
+{
+    let first = readings[0] as i64;
+    let second = readings[1] as i64;
+    let third = readings[2] as i64;
+    let fourth = readings[3] as i64;
+    let low_sum = first + second;
+    let high_sum = third + fourth;
+    let low_gap = first - second;
+    let high_gap = third - fourth;
+    part[0] = low_sum + high_sum;
+    part[1] = low_gap + high_gap;
+    part[2] = low_sum - high_sum;
+    part[3] = low_gap - high_gap;
+}
+
+// All stretches of four.
+pub fn put_fours(readings: &[i32], column: &mut [i64])
+    requires { ⌜ FirstFours (now readings) (now column) ⌝ }
+    ensures { λ _. ⌜ now (column .exit) ≡ bothOver 1 two (now (readings .entry)) ⌝ }
+{
+    let mut start = 0;
+    while start < column.len() {
+        put_four(&readings[start..start + 4], &mut column[start..start + 4]);
+        start += 4;
+    }
+}

@@ -1,0 +1,8 @@
+-- Laws of the loops.
+--
+--   Worked   the turns of a stretch
+--   Passed   the loop over the stretches of a column
+--   Formed   the passes of all factors
+pub mod Worked
+pub mod Passed
+pub mod Formed

@@ -1,0 +1,28 @@
+-- What the passes ask of the columns that they are lent. What they leave is `passOver` and `totalsOf` of `contrasts`.
+--
+--   Stretches levels h xs       a column of one or more stretches of a factor whose values lie h apart
+--   PassReadings levels k xs    readings of a plan of k factors, within a limit that leaves room for all passes
+use mathlib.Core.Path.{_≡_}
+use mathlib.Core.List.{List}
+use Prim.Native.Nat.{ℕ, _*_, _<_, _^_}
+use lib.IntN.{ℤ}
+use lib.ListN.{length, replicate}
+use Rattle.contrasts.specs.Columns.{AllWithin}
+use Rattle.contrasts.specs.Limits.{valueLimit}
+use Rattle.contrasts.specs.Factors.{ofLevels}
+use Rattle.contrasts.specs.Laws.Limits.{Passable}
+
+pub record Stretches (levels h : ℕ) (xs : List ℤ) : Type 0 where
+  pub kind : ofLevels levels .levels ≡ levels
+  pub some : 0 < h
+  pub count : ℕ
+  pub more : 0 < count
+  pub whole : length xs ≡ count * (levels * h)
+  pub within : AllWithin valueLimit xs
+
+pub record PassReadings (levels k : ℕ) (xs : List ℤ) : Type 0 where
+  pub kind : ofLevels levels .levels ≡ levels
+  pub limit : ℕ
+  pub passable : Passable (replicate k (ofLevels levels)) limit
+  pub whole : length xs ≡ levels ^ k
+  pub within : AllWithin limit xs

@@ -1,0 +1,78 @@
+// The passes of all factors, from the readings to the totals of all effects: two factors in one go, where there are two.
+ghost use mathlib.Core.Path.{_≡_};
+ghost use lib.ListN.{length, replicate};
+use super::stretches::pass_over;
+use columns::copy;
+use fours::both_over;
+use fours::put_fours;
+use nines::both_three_over;
+use nines::put_nines;
+ghost use Rattle.contrasts.specs.Columns.{totalsOf};
+ghost use Rattle.contrasts.specs.Factors.{ofLevels};
+ghost use Rattle.passes.specs.Ready.{PassReadings};
+ghost use Rattle.passes.specs.Inner.Lent.{SeveralFactors};
+
+// One factor after the other, A first, in place.
+fn all_passes(levels: usize, k: usize, column: &mut [i64])
+    requires { ⌜ PassReadings levels k (now column) ⌝ }
+    ensures { λ _. ⌜ now (column .exit) ≡ totalsOf (replicate k (ofLevels levels)) (now (column .entry)) ⌝ }
+{
+    let mut spacing = 1;
+    let mut f = 0;
+    while f < k {
+        pass_over(levels, spacing, column);
+        spacing *= levels;
+        f += 1;
+    }
+}
+
+// At two levels: A and B from the readings, then two factors at a time while two are left, and the last by itself where k is odd.
+fn two_level_passes(k: usize, readings: &[i32], column: &mut [i64])
+    requires { ⌜ SeveralFactors 2 k (now readings) (now column) ⌝ }
+    ensures { λ _. ⌜ now (column .exit) ≡ totalsOf (replicate k (ofLevels 2)) (now (readings .entry)) ⌝ }
+{
+    put_fours(readings, column);
+    let mut spacing = 4;
+    let mut done = 2;
+    while 1 < k - done {
+        both_over(spacing, column);
+        spacing *= 4;
+        done += 2;
+    }
+    if done < k {
+        pass_over(2, spacing, column);
+    }
+}
+
+// And at three levels.
+fn three_level_passes(k: usize, readings: &[i32], column: &mut [i64])
+    requires { ⌜ SeveralFactors 3 k (now readings) (now column) ⌝ }
+    ensures { λ _. ⌜ now (column .exit) ≡ totalsOf (replicate k (ofLevels 3)) (now (readings .entry)) ⌝ }
+{
+    put_nines(readings, column);
+    let mut spacing = 9;
+    let mut done = 2;
+    while 1 < k - done {
+        both_three_over(spacing, column);
+        spacing *= 9;
+        done += 2;
+    }
+    if done < k {
+        pass_over(3, spacing, column);
+    }
+}
+
+// The totals of readings that are not refused.
+pub fn form_totals(levels: usize, k: usize, readings: &[i32], column: &mut [i64])
+    requires { ⌜ PassReadings levels k (now readings) × (length (now column) ≡ length (now readings)) ⌝ }
+    ensures { λ _. ⌜ now (column .exit) ≡ totalsOf (replicate k (ofLevels levels)) (now (readings .entry)) ⌝ }
+{
+    if k < 2 {
+        copy(readings, column);
+        all_passes(levels, k, column);
+    } else if levels == 2 {
+        two_level_passes(k, readings, column);
+    } else {
+        three_level_passes(k, readings, column);
+    }
+}

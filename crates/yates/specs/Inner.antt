@@ -1,4 +1,0 @@
--- What the inner functions ask of what they are handed, and what they leave; no promise of a call.
---
---   Ready   what they ask
-pub mod Ready
