@@ -9,6 +9,7 @@
 --   Steps          k steps give the totals
 --   SumOfSquares   demand 3: the exact sum of squares
 --   TableAddsUp    demand 3: mean, kept, blocks and error
+--   OneWalk        rows and sums after every total
 --   Starred        the starred runs, as one fact
 --   WrongPrograms  the programs that have to break their statements
 --   Examples       worked examples
@@ -22,6 +23,7 @@ pub mod AnyOrder
 pub mod Steps
 pub mod SumOfSquares
 pub mod TableAddsUp
+pub mod OneWalk
 pub mod Starred
 pub mod WrongPrograms
 pub mod Examples

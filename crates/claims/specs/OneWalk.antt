@@ -1,0 +1,70 @@
+-- V14, V15: "form row numerators and the four sums in one walk over the totals that reads each once. Prove for every e up to N: after e
+-- totals, rows and sums hold exactly what effects 0 to e - 1 bring."
+--
+--   totalIn p readings                      the total of each effect
+--   Holds p readings marks e rows parts s   rows and sums, as a loop holds them, are those after e totals
+--   EveryTotal p readings marks             so it is of the state of the table call's loop, for every e
+--   sourceIn s c                            what the sums s have of the kind c
+--   AtEnd p readings marks totals rows      after N totals they are the table's rows and figures
+--   OneWalk                                 THE CLAIM
+--
+-- The state is that of the loop itself: `InPairs`, with `WalkingTwo`, and `WalkingThree` are the invariants in the proofs of `walk_two` and
+-- `walk_three` of `walks`, and the lists below are those that these are handed. At two levels a turn is two effects, and between them the
+-- state is `WalkingTwo` too (`two-more`). That e is at most N is in the state, `upto`.
+use mathlib.Core.Path.{_≡_}
+use mathlib.Core.List.{List}
+use Prim.Native.Nat.{ℕ}
+use lib.IntN.{ℤ}
+use lib.ListN.{getD}
+use mir.Syntax.{w64}
+use mir.Val.{toZ}
+use Rattle.contrasts.specs.Columns.{read, totalsOf}
+use Rattle.contrasts.specs.Totals.{Column, total}
+use Rattle.effects.specs.Effects.{effectRows, effectWeights}
+use Rattle.plan.specs.declared.types.Plan.{Plan}
+use Rattle.plan.specs.Plan.{factorsOf, runsOf}
+use Rattle.rows.specs.Kinds.{rowsIn, Kind, meanRow, blocksRow, errorRow, keptRow, codeOf, kindsOf}
+use Rattle.walks.specs.declared.types.Sums.{Sums}
+use Rattle.walks.specs.After.{rowsAfter, sumsAfter}
+use Rattle.walks.specs.Inner.Parts.{heldIn}
+use Rattle.walks.specs.Inner.Walk.{WalkingTwo, WalkingThree}
+use Rattle.anova.specs.declared.types.Source.{Source}
+use Rattle.anova.specs.Table.{tableRefused, tableFigures, tableTotals, tableRows}
+
+-- T8
+abbrev pub totalIn : Plan → List ℤ → Column
+totalIn p readings = total (factorsOf p) (read readings)
+
+-- "after e totals, rows and sums hold exactly what effects 0 to e - 1 bring"
+pub record Holds (p : Plan) (readings : List ℤ) (marks : List ℕ) (e : ℕ) (rows parts : List ℕ) (s : ℕ) : Type 0 where
+  pub rows-are : rows ≡ rowsAfter p (totalIn p readings) e
+  -- four sums of numerators, four of degrees, each in two parts, and the sum of the totals, of which the loop holds the bits
+  pub sums-are : heldIn parts (toZ w64 s) ≡ sumsAfter p (totalIn p readings) marks e
+
+-- "for every e up to N"
+pub record EveryTotal (p : Plan) (readings : List ℤ) (marks : List ℕ) : Type 0 where
+  pub two-levels : p .levels ≡ 2 → (e : ℕ) (rows parts : List ℕ) (s : ℕ)
+      → WalkingTwo (totalsOf (factorsOf p) readings) (kindsOf p marks) (rowsIn p) e rows parts s
+      → Holds p readings marks e rows parts s
+  pub three-levels : p .levels ≡ 3 → (e : ℕ) (rows parts : List ℕ) (s : ℕ)
+      → WalkingThree (totalsOf (factorsOf p) readings) (effectRows p) (effectWeights p) (kindsOf p marks) (rowsIn p) e rows parts s
+      → Holds p readings marks e rows parts s
+
+-- V10
+abbrev pub sourceIn : Sums → Kind → Source
+sourceIn s c = record { degrees = getD (s .degrees) (codeOf c) 0; numerator = getD (s .numerators) (codeOf c) 0 }
+
+-- V12, V13: what the call writes, and the figures that come from the walk
+pub record AtEnd (p : Plan) (readings : List ℤ) (marks : List ℕ) (totals : List ℤ) (rows : List ℕ) : Type 0 where
+  pub rows-written : tableRows p readings marks totals rows ≡ rowsAfter p (totalIn p readings) (runsOf p)
+  pub mean : tableFigures p readings marks .mean ≡ sourceIn (sumsAfter p (totalIn p readings) marks (runsOf p)) meanRow
+  pub kept : tableFigures p readings marks .kept ≡ sourceIn (sumsAfter p (totalIn p readings) marks (runsOf p)) keptRow
+  pub blocks : tableFigures p readings marks .blocks ≡ sourceIn (sumsAfter p (totalIn p readings) marks (runsOf p)) blocksRow
+  pub error : tableFigures p readings marks .error ≡ sourceIn (sumsAfter p (totalIn p readings) marks (runsOf p)) errorRow
+  pub check : tableFigures p readings marks .checks .totals ≡ sumsAfter p (totalIn p readings) marks (runsOf p) .totals
+
+abbrev pub OneWalk : Type 0
+OneWalk =
+    (p : Plan) (readings : List ℤ) (marks : List ℕ) (totals : List ℤ) (rows : List ℕ)
+    → tableRefused p readings marks totals rows ≡ 0
+    → EveryTotal p readings marks × AtEnd p readings marks totals rows
