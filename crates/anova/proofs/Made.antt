@@ -128,7 +128,7 @@ module _ {p : Plan} {readings : List ℤ} {marks : List ℕ} {totals : List ℤ}
 
       pub sum-kept : wrap (sums .totals) ≡ sums .totals
       unfolding checksOf
-      sum-kept = back (sums .totals) (rw totals-are (omega (arith, check-within (factorsOf p) (read readings), within-limit a, numerator-fits p)))
+      sum-kept = back (sums .totals) (rw totals-are (omega (arith, check-within (factorsOf p) (read readings) (runsOf p) (omega arith), within-limit a, numerator-fits p)))
 
       pub figures-made : (mean kept blocks error : Source) (n : ℕ) (sum from : ℤ)
           → (mean .degrees ≡ getD (sums .degrees) (codeOf meanRow) 0) × (mean .numerator ≡ getD (sums .numerators) (codeOf meanRow) 0)

@@ -1,4 +1,6 @@
--- Laws of the loops.
+-- Laws of the rows and of the loops.
 --
+--   Rowed    the rows of two values
 --   Worked   the turns of a stretch
+pub mod Rowed
 pub mod Worked

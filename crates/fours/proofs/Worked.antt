@@ -1,38 +1,37 @@
 -- The turns of a stretch of two passes in one go.
 --
---   Four f h i a b c d          what f has at the places of turn i: both passes of a, b, c and d
---   four-rows                   so has the column after both passes
---   sum-ready, gap-ready        what the first pass makes, as code holds it, is mild
---   turn-four                   a turn
---   Worked h xs i ys            ys is the stretch xs after i turns
---   four-small                  the values of the next turn are small
---   fours-more                  a turn of a stretch
---   reading-small               so are readings
---   four-made                   the one turn of four readings
---   four-places                 four is the square of two levels
+--   four-places              four is the square of two levels
+--   TwoAt f p q r            f has the rows r at the places p and q
+--   Four f h i l u           what f has at the places of turn i: the second pass of the rows l and u that the first makes
+--   four-rows                so has the column after both passes
+--   turn-four                a turn
+--   Worked h xs i ys         ys is the stretch xs after i turns
+--   value-small              the values of the next turn are small
+--   four-ready, fours-more   the four places of a turn of a stretch, and the turn
+--   two-readings             four readings, two of them
+--   first-ready, four-made   their four places, and their one turn
 use mathlib.Core.Path.{_≡_, refl, sym, _∙_, ap}
 use mathlib.Core.List.{List}
-use Prim.Native.Nat.{ℕ, _+_, _*_, _^_, _<_, _≤_}
+use Prim.Native.Nat.{ℕ, _+_, _*_, _<_}
 use native.Mathlib.Omega.{arith}
 use lib.Dec.{lit<}
-use lib.IntN.{ℤ, pos, _+ℤ_, _-ℤ_}
-use lib.ListN.{length, set}
-use lib.Signed.{mag}
-use mir.Syntax.{w32}
-use mir.Val.{toZ, ofZ}
-use Rattle.algebra.specs.Laws.Machine.{wrap, held-half}
-use Rattle.algebra.specs.Laws.Spread.{Turned, opened, put, closed}
+use lib.IntN.{ℤ, pos}
+use lib.ListN.{length}
+use Rattle.algebra.specs.Laws.Machine.{wrap}
+use Rattle.algebra.specs.Laws.Spread.{Turned, opened, put, closed, as-long}
 use Rattle.algebra.specs.Laws.Tab.{getD-tab}
 use Rattle.contrasts.specs.Columns.{read}
 use Rattle.contrasts.specs.Factors.{two}
 use Rattle.contrasts.specs.Passes.{passAt}
 use Rattle.contrasts.specs.Totals.{Column}
-use Rattle.contrasts.specs.Laws.Sets.{sum-is, less-is}
-use Rattle.contrasts.specs.Laws.Small.{Small, Mild, mild-small, sum-mild, less-mild, held}
 use Rattle.contrasts.specs.Laws.Both.{bothOver, bothAt, both-still, both-small, first-begun, first-ended}
+use Rattle.contrasts.specs.Laws.Small.{Small, mild-small}
 use Rattle.contrasts.specs.Laws.Stretches.{passOver}
 use Rattle.contrasts.specs.Laws.TwoLevels.{pass-two}
+use Rattle.fours.specs.declared.rows.Rows.{Rows}
+use Rattle.fours.specs.Inner.Rows.{rowsOf, rowsFrom, sumsOf, gapsOf, putRows, TwoReadings, MildRows, FourPlaces}
 use Rattle.fours.specs.Inner.Stretch.{FirstFour, Fours}
+use Rattle.fours.proofs.Rowed.{rows-held, rows-mild}
 
 pub four-places : 4 ≡ two .levels * two .levels
 unfolding two
@@ -40,94 +39,60 @@ four-places = refl
 
 -- ---- what both passes write
 
-pub record Four (f : Column) (h i : ℕ) (a b c d : ℤ) : Type 0 where
-  pub sums : f i ≡ (a +ℤ b) +ℤ (c +ℤ d)
-  pub gaps : f (i + h) ≡ (a -ℤ b) +ℤ (c -ℤ d)
-  pub sums-apart : f (i + 2 * h) ≡ (a +ℤ b) -ℤ (c +ℤ d)
-  pub gaps-apart : f (i + 3 * h) ≡ (a -ℤ b) -ℤ (c -ℤ d)
+pub record TwoAt (f : Column) (p q : ℕ) (r : Rows) : Type 0 where
+  pub first : f p ≡ r .sum
+  pub second : f q ≡ r .gap
+
+-- of a pair in stretch k, at the offset i
+two-rows : (s : ℕ) (x : Column) (k i : ℕ) {p q : ℕ} → p ≡ k * (2 * s) + i → i < s → p + s ≡ q
+    → {a b : ℤ} → x p ≡ a → x q ≡ b → TwoAt (passAt s two x) p q (rowsOf a b)
+two-rows s x k i {p} place low e ea eb =
+    let r = pass-two s x k i p place low in
+    record { first = rw (e, ea, eb) at (r .0); second = rw (e, ea, eb) at (r .1) }
+
+pub record Four (f : Column) (h i : ℕ) (l u : Rows) : Type 0 where
+  pub sums : TwoAt f i (i + 2 * h) (sumsOf l u)
+  pub gaps : TwoAt f (i + h) (i + 3 * h) (gapsOf l u)
 
 -- y is what the first pass makes of x
 four-values : (h i : ℕ) (x y : Column) → ((n : ℕ) → n < 4 * h → y n ≡ passAt h two x n) → i < h
-    → Four (passAt (2 * h) two y) h i (x i) (x (i + h)) (x (i + 2 * h)) (x (i + 3 * h))
+    → Four (passAt (2 * h) two y) h i (rowsOf (x i) (x (i + h))) (rowsOf (x (i + 2 * h)) (x (i + 3 * h)))
 four-values h i x y same low =
     record {
-      sums = first .0 ∙ rw (y0, y2) refl;
-      gaps = second .0 ∙ rw (there, y1, y3) refl;
-      sums-apart = first .1 ∙ rw (y0, y2) refl;
-      gaps-apart = ap (passAt (2 * h) two y) (sym there) ∙ second .1 ∙ rw (there, y1, y3) refl;
+      sums =
+          two-rows (2 * h) y 0 i (omega arith) (omega arith) refl
+          (same i (omega arith) ∙ l .first) (same (i + 2 * h) (omega arith) ∙ u .first);
+      gaps =
+          two-rows (2 * h) y 0 (i + h) (omega arith) (omega arith) (omega arith)
+          (same (i + h) (omega arith) ∙ l .second) (same (i + 3 * h) (omega arith) ∙ u .second);
     }
   where
-    there : i + h + 2 * h ≡ i + 3 * h
-    there = omega arith
+    l : TwoAt (passAt h two x) i (i + h) (rowsOf (x i) (x (i + h)))
+    l = two-rows h x 0 i (omega arith) low refl refl refl
 
-    here : i + 2 * h + h ≡ i + 3 * h
-    here = omega arith
-
-    first : (passAt (2 * h) two y i ≡ y i +ℤ y (i + 2 * h)) × (passAt (2 * h) two y (i + 2 * h) ≡ y i -ℤ y (i + 2 * h))
-    first = pass-two (2 * h) y 0 i i (omega arith) (omega arith)
-
-    second : (passAt (2 * h) two y (i + h) ≡ y (i + h) +ℤ y (i + h + 2 * h))
-        × (passAt (2 * h) two y (i + h + 2 * h) ≡ y (i + h) -ℤ y (i + h + 2 * h))
-    second = pass-two (2 * h) y 0 (i + h) (i + h) (omega arith) (omega arith)
-
-    front : (passAt h two x i ≡ x i +ℤ x (i + h)) × (passAt h two x (i + h) ≡ x i -ℤ x (i + h))
-    front = pass-two h x 0 i i (omega arith) low
-
-    behind : (passAt h two x (i + 2 * h) ≡ x (i + 2 * h) +ℤ x (i + 2 * h + h))
-        × (passAt h two x (i + 2 * h + h) ≡ x (i + 2 * h) -ℤ x (i + 2 * h + h))
-    behind = pass-two h x 1 i (i + 2 * h) (omega arith) low
-
-    y0 : y i ≡ x i +ℤ x (i + h)
-    y0 = same i (omega arith) ∙ front .0
-
-    y1 : y (i + h) ≡ x i -ℤ x (i + h)
-    y1 = same (i + h) (omega arith) ∙ front .1
-
-    y2 : y (i + 2 * h) ≡ x (i + 2 * h) +ℤ x (i + 3 * h)
-    y2 = same (i + 2 * h) (omega arith) ∙ (rw here at (behind .0))
-
-    y3 : y (i + 3 * h) ≡ x (i + 2 * h) -ℤ x (i + 3 * h)
-    y3 = same (i + 3 * h) (omega arith) ∙ (rw here at (behind .1))
+    u : TwoAt (passAt h two x) (i + 2 * h) (i + 3 * h) (rowsOf (x (i + 2 * h)) (x (i + 3 * h)))
+    u = two-rows h x 1 i (omega arith) low (omega arith) refl refl
 
 four-rows : (h i : ℕ) (xs : List ℤ) → length xs ≡ 4 * h → i < h
-    → Four (bothAt h two xs) h i (read xs i) (read xs (i + h)) (read xs (i + 2 * h)) (read xs (i + 3 * h))
+    → Four (bothAt h two xs) h i (rowsOf (read xs i) (read xs (i + h))) (rowsOf (read xs (i + 2 * h)) (read xs (i + 3 * h)))
 unfolding passOver two
 four-rows h i xs whole low =
     four-values h i (read xs) _ (λ n k. getD-tab (pos 0) (length xs) (passAt h two (read xs)) n (rw whole k)) low
 
 -- ---- a turn
 
-module _ {a b : ℤ} (sa : Small a) (sb : Small b) where
-  sum-held : wrap a +ℤ wrap b ≡ a +ℤ b
-  sum-held = rw (held (mild-small sa), held (mild-small sb)) refl
-
-  gap-held : wrap a -ℤ wrap b ≡ a -ℤ b
-  gap-held = rw (held (mild-small sa), held (mild-small sb)) refl
-
-  pub sum-ready : Mild (wrap a +ℤ wrap b)
-  sum-ready = rw sum-held (sum-mild sa sb)
-
-  pub gap-ready : Mild (wrap a -ℤ wrap b)
-  gap-ready = rw gap-held (less-mild sa sb)
-
-module _ {a b c d : ℤ} (sa : Small a) (sb : Small b) (sc : Small c) (sd : Small d)
-    {h i : ℕ} {f g : Column} {ys : List ℤ} (w : Turned 4 h f g i ys) (low : i < h) (row : Four f h i a b c d) where
-  pub turn-four : Turned 4 h f g (i + 1)
-      (set (set (set (set ys
-      i (wrap (wrap (wrap a +ℤ wrap b) +ℤ wrap (wrap c +ℤ wrap d))))
-      (i + h) (wrap (wrap (wrap a -ℤ wrap b) +ℤ wrap (wrap c -ℤ wrap d))))
-      (i + 2 * h) (wrap (wrap (wrap a +ℤ wrap b) -ℤ wrap (wrap c +ℤ wrap d))))
-      (i + 3 * h) (wrap (wrap (wrap a -ℤ wrap b) -ℤ wrap (wrap c -ℤ wrap d))))
+module _ {l u : Rows} {h i : ℕ} {f g : Column} {ys : List ℤ} (w : Turned 4 h f g i ys) (low : i < h) (n : Four f h i l u) where
+  pub turn-four : Turned 4 h f g (i + 1) (putRows ys i h l u)
   turn-four =
       rw (place0, place1) at
       (closed (pos 0) low
       (put (pos 0) low 3 (lit< tt)
       (put (pos 0) low 2 (lit< tt)
       (put (pos 0) low 1 (lit< tt)
-      (put (pos 0) low 0 (lit< tt) (opened (pos 0) w) _ (sums ∙ sym (row .sums) ∙ ap f (sym place0)))
-      _ (gaps ∙ sym (row .gaps) ∙ ap f (sym place1)))
-      _ (sums-apart ∙ sym (row .sums-apart)))
-      _ (gaps-apart ∙ sym (row .gaps-apart))))
+      (put (pos 0) low 0 (lit< tt) (opened (pos 0) w) _ (sym (n .sums .first) ∙ ap f (sym place0)))
+      _ (sym (n .gaps .first) ∙ ap f (sym place1)))
+      _ (sym (n .sums .second)))
+      _ (sym (n .gaps .second))))
     where
       place0 : i + 0 * h ≡ i
       place0 = omega arith
@@ -135,70 +100,72 @@ module _ {a b c d : ℤ} (sa : Small a) (sb : Small b) (sc : Small c) (sd : Smal
       place1 : i + 1 * h ≡ i + h
       place1 = omega arith
 
-      sums : wrap (wrap (wrap a +ℤ wrap b) +ℤ wrap (wrap c +ℤ wrap d)) ≡ (a +ℤ b) +ℤ (c +ℤ d)
-      sums = sum-is (sum-ready sa sb) (sum-ready sc sd) ∙ rw (sum-held sa sb, sum-held sc sd) refl
-
-      gaps : wrap (wrap (wrap a -ℤ wrap b) +ℤ wrap (wrap c -ℤ wrap d)) ≡ (a -ℤ b) +ℤ (c -ℤ d)
-      gaps = sum-is (gap-ready sa sb) (gap-ready sc sd) ∙ rw (gap-held sa sb, gap-held sc sd) refl
-
-      sums-apart : wrap (wrap (wrap a +ℤ wrap b) -ℤ wrap (wrap c +ℤ wrap d)) ≡ (a +ℤ b) -ℤ (c +ℤ d)
-      sums-apart = less-is (sum-ready sa sb) (sum-ready sc sd) ∙ rw (sum-held sa sb, sum-held sc sd) refl
-
-      gaps-apart : wrap (wrap (wrap a -ℤ wrap b) -ℤ wrap (wrap c -ℤ wrap d)) ≡ (a -ℤ b) -ℤ (c -ℤ d)
-      gaps-apart = less-is (gap-ready sa sb) (gap-ready sc sd) ∙ rw (gap-held sa sb, gap-held sc sd) refl
-
 -- ---- the turns of a stretch
 
 abbrev pub Worked : ℕ → List ℤ → ℕ → List ℤ → Type 0
 Worked h xs i ys = Turned 4 h (bothAt h two xs) (read xs) i ys
 
 module _ {h : ℕ} {xs : List ℤ} (pre : Fours h xs) {i : ℕ} {ys : List ℤ} (w : Worked h xs i ys) (low : i < h) where
-  place0 : i + 0 * h ≡ i
-  place0 = omega arith
+  still : (d : ℕ) → d < 4 → (p : ℕ) → i + d * h ≡ p → read xs p ≡ read ys p
+  still = both-still two pre w low
 
-  place1 : i + 1 * h ≡ i + h
-  place1 = omega arith
+  -- the value of turn i with number d
+  pub value-small : (d : ℕ) → d < 4 → (p : ℕ) → i + d * h ≡ p → Small (read ys p)
+  value-small = both-small two pre w low
 
-  pub four-small : Small (read ys i) × Small (read ys (i + h)) × Small (read ys (i + 2 * h)) × Small (read ys (i + 3 * h))
-  four-small = (
-    both-small two pre w low 0 (lit< tt) i place0,
-    both-small two pre w low 1 (lit< tt) (i + h) place1,
-    both-small two pre w low 2 (lit< tt) (i + 2 * h) refl,
-    both-small two pre w low 3 (lit< tt) (i + 3 * h) refl,
-  )
+  module _ {l u : Rows} (el : l ≡ rowsOf (wrap (read ys i)) (wrap (read ys (i + h))))
+      (eu : u ≡ rowsOf (wrap (read ys (i + 2 * h))) (wrap (read ys (i + 3 * h)))) where
+    s0 : Small (read ys i)
+    s0 = value-small 0 (lit< tt) i (omega arith)
 
-  rows-now : Four (bothAt h two xs) h i (read ys i) (read ys (i + h)) (read ys (i + 2 * h)) (read ys (i + 3 * h))
-  rows-now =
-      rw (
-        both-still two pre w low 0 (lit< tt) i place0,
-        both-still two pre w low 1 (lit< tt) (i + h) place1,
-        both-still two pre w low 2 (lit< tt) (i + 2 * h) refl,
-        both-still two pre w low 3 (lit< tt) (i + 3 * h) refl,
-      )
-      at (four-rows h i xs (pre .whole) low)
+    s1 : Small (read ys (i + h))
+    s1 = value-small 1 (lit< tt) (i + h) (omega arith)
 
-  pub fours-more : Worked h xs (i + 1)
-      (set (set (set (set ys
-      i (wrap (wrap (wrap (read ys i) +ℤ wrap (read ys (i + h))) +ℤ wrap (wrap (read ys (i + 2 * h)) +ℤ wrap (read ys (i + 3 * h))))))
-      (i + h) (wrap (wrap (wrap (read ys i) -ℤ wrap (read ys (i + h))) +ℤ wrap (wrap (read ys (i + 2 * h)) -ℤ wrap (read ys (i + 3 * h))))))
-      (i + 2 * h) (wrap (wrap (wrap (read ys i) +ℤ wrap (read ys (i + h))) -ℤ wrap (wrap (read ys (i + 2 * h)) +ℤ wrap (read ys (i + 3 * h))))))
-      (i + 3 * h) (wrap (wrap (wrap (read ys i) -ℤ wrap (read ys (i + h))) -ℤ wrap (wrap (read ys (i + 2 * h)) -ℤ wrap (read ys (i + 3 * h))))))
-  fours-more = turn-four (four-small .0) (four-small .1) (four-small .2) (four-small .3) w low rows-now
+    s2 : Small (read ys (i + 2 * h))
+    s2 = value-small 2 (lit< tt) (i + 2 * h) refl
 
--- ---- four readings, as code holds them
+    s3 : Small (read ys (i + 3 * h))
+    s3 = value-small 3 (lit< tt) (i + 3 * h) refl
+
+    low-is : l ≡ rowsOf (read ys i) (read ys (i + h))
+    low-is = el ∙ rows-held (mild-small s0) (mild-small s1)
+
+    high-is : u ≡ rowsOf (read ys (i + 2 * h)) (read ys (i + 3 * h))
+    high-is = eu ∙ rows-held (mild-small s2) (mild-small s3)
+
+    pub four-ready : FourPlaces ys i h l u
+    four-ready =
+        record { inside = omega (arith, as-long (pos 0) w, low); low = rw low-is (rows-mild s0 s1); high = rw high-is (rows-mild s2 s3) }
+
+    rows-now : Four (bothAt h two xs) h i l u
+    rows-now =
+        rw (low-is, high-is)
+        (rw (
+          still 0 (lit< tt) i (omega arith),
+          still 1 (lit< tt) (i + h) (omega arith),
+          still 2 (lit< tt) (i + 2 * h) refl,
+          still 3 (lit< tt) (i + 3 * h) refl,
+        )
+        at (four-rows h i xs (pre .whole) low))
+
+    pub fours-more : {zs : List ℤ} → zs ≡ putRows ys i h l u → Worked h xs (i + 1) zs
+    fours-more e = rw e (turn-four w low rows-now)
+
+-- ---- four readings
 
 module _ {xs old : List ℤ} (pre : FirstFour xs old) where
-  pub reading-small : (n : ℕ) → mag (read xs n) < 2 ^ 31 → Small (toZ w32 (ofZ w32 (read xs n)))
-  reading-small n fits = record { small = rw (held-half (read xs n) fits) (pre .within n) }
+  pub two-readings : (i : ℕ) → i + 1 < 4 → TwoReadings xs i
+  two-readings i k = record { inside = omega (arith, pre .read); within = pre .within }
 
-  pub four-made : {a b c d : ℤ} → Small a → Small b → Small c → Small d
-      → a ≡ read xs 0 → b ≡ read xs 1 → c ≡ read xs 2 → d ≡ read xs 3
-      → set (set (set (set old
-      0 (wrap (wrap (wrap a +ℤ wrap b) +ℤ wrap (wrap c +ℤ wrap d))))
-      1 (wrap (wrap (wrap a -ℤ wrap b) +ℤ wrap (wrap c -ℤ wrap d))))
-      2 (wrap (wrap (wrap a +ℤ wrap b) -ℤ wrap (wrap c +ℤ wrap d))))
-      3 (wrap (wrap (wrap a -ℤ wrap b) -ℤ wrap (wrap c -ℤ wrap d)))
-      ≡ bothOver 1 two xs
-  four-made sa sb sc sd ea eb ec ed =
-      first-ended two pre
-      (turn-four sa sb sc sd (first-begun two pre) (lit< tt) (rw (ea, eb, ec, ed) (four-rows 1 0 xs (pre .read) (lit< tt))))
+  module _ {l u : Rows} (el : l ≡ rowsFrom xs 0) (eu : u ≡ rowsFrom xs 2) where
+    pub first-ready : FourPlaces old 0 1 l u
+    first-ready = record { inside = omega (arith, pre .written); low = rw el (mild-at 0); high = rw eu (mild-at 2) }
+      where
+        small : (n : ℕ) → Small (read xs n)
+        small n = record { small = pre .within n }
+
+        mild-at : (i : ℕ) → MildRows (rowsFrom xs i)
+        mild-at i = rows-mild (small i) (small (i + 1))
+
+    pub four-made : {zs : List ℤ} → zs ≡ putRows old 0 1 l u → zs ≡ bothOver 1 two xs
+    four-made e = e ∙ rw (el, eu) (first-ended two pre (turn-four (first-begun two pre) (lit< tt) (four-rows 1 0 xs (pre .read) (lit< tt))))

@@ -1,5 +1,7 @@
 // The passes of the first two factors, from the readings to a column: the copy and both passes in one go.
 ghost use mathlib.Core.Path.{_≡_};
+use super::rows::put_rows;
+use super::rows::rows_from;
 ghost use Rattle.contrasts.specs.Factors.{two};
 ghost use Rattle.contrasts.specs.Laws.Both.{bothOver};
 ghost use Rattle.fours.specs.Ready.{FirstFours};
@@ -10,18 +12,9 @@ fn put_four(readings: &[i32], part: &mut [i64])
     requires { ⌜ FirstFour (now readings) (now part) ⌝ }
     ensures { λ _. ⌜ now (part .exit) ≡ bothOver 1 two (now (readings .entry)) ⌝ }
 {
-    let first = readings[0] as i64;
-    let second = readings[1] as i64;
-    let third = readings[2] as i64;
-    let fourth = readings[3] as i64;
-    let low_sum = first + second;
-    let high_sum = third + fourth;
-    let low_gap = first - second;
-    let high_gap = third - fourth;
-    part[0] = low_sum + high_sum;
-    part[1] = low_gap + high_gap;
-    part[2] = low_sum - high_sum;
-    part[3] = low_gap - high_gap;
+    let low = rows_from(readings, 0);
+    let high = rows_from(readings, 2);
+    put_rows(part, 0, 1, low, high);
 }
 
 // All stretches of four.

@@ -1,24 +1,19 @@
 -- The rows of three values, as code forms and holds them.
 --
 --   same-rows                          rows that agree in each value are the same
---   mild-held, rows-held               mild values that code holds, and their rows
+--   rows-held                          the rows of values that code holds
 --   sum-back, gap-back, curve-back     what code reads of such rows
---   reading-mild, reading-held         readings that code holds
 --   rows-mild                          the rows of small values are mild
 --   put-made                           the nine values that code writes
 use mathlib.Core.Path.{_≡_, refl, _∙_}
 use mathlib.Core.List.{List}
-use Prim.Native.Nat.{ℕ, _+_, _*_, _^_, _<_, _≤_}
+use Prim.Native.Nat.{ℕ, _+_, _*_}
 use lib.Dec.{lit≤}
-use lib.IntN.{ℤ, pos, _+ℤ_, _-ℤ_, _*ℤ_, natAbs}
+use lib.IntN.{ℤ, pos, _+ℤ_, _-ℤ_, _*ℤ_}
 use lib.ListN.{set}
-use lib.Signed.{mag}
-use mir.Syntax.{w32}
-use mir.Val.{toZ, ofZ}
-use Rattle.algebra.specs.Laws.Machine.{wrap, back, widened}
-use Rattle.contrasts.specs.Limits.{valueLimit}
+use Rattle.algebra.specs.Laws.Machine.{wrap, back}
 use Rattle.contrasts.specs.Laws.Sets.{less-size, all-size, third-size}
-use Rattle.contrasts.specs.Laws.Small.{Small, Mild, mild-small, less-mild, all-mild, third-mild, held}
+use Rattle.contrasts.specs.Laws.Small.{Small, Mild, less-mild, all-mild, third-mild, held}
 use Rattle.nines.specs.declared.rows.Rows.{Rows}
 use Rattle.nines.specs.Inner.Rows.{rowsOf, putRows, MildRows, NinePlaces}
 
@@ -27,9 +22,6 @@ pub same-rows : {a b c d e f : ℤ} → a ≡ d → b ≡ e → c ≡ f
 same-rows p q r = rw (p, q, r) refl
 
 -- ---- values that code holds
-
-pub mild-held : {z : ℤ} → Mild z → Mild (wrap z)
-mild-held s = rw (held s) s
 
 module _ {a b c : ℤ} (sa : Mild a) (sb : Mild b) (sc : Mild c) where
   pub rows-held : rowsOf (wrap a) (wrap b) (wrap c) ≡ rowsOf a b c
@@ -44,10 +36,6 @@ module _ {a b c : ℤ} (sa : Mild a) (sb : Mild b) (sc : Mild c) where
 
     pub curve-back : wrap (r .curve) ≡ a -ℤ pos 2 *ℤ b +ℤ c
     curve-back = rw (e ∙ rows-held) (back (a -ℤ pos 2 *ℤ b +ℤ c) (third-size 2 (lit≤ tt) sa sb sc))
-
-module _ (z : ℤ) (fits : mag z < 2 ^ 31) where
-  pub reading-mild : natAbs z ≤ valueLimit → Mild (wrap (toZ w32 (ofZ w32 z)))
-  reading-mild h = rw (widened z fits) (mild-small (record { small = h }))
 
 -- ---- one pass, and the next
 

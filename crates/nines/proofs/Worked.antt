@@ -6,7 +6,7 @@
 --   nine-rows                so has the column after both passes
 --   turn-nine                a turn
 --   Worked h xs i ys         ys is the stretch xs after i turns
---   three-places             the values of the next turn are small
+--   value-small              the values of the next turn are small
 --   nine-ready, nines-more   the nine places of a turn of a stretch, and the turn
 --   three-readings           nine readings, three of them
 --   first-ready, nine-made   their nine places, and their one turn
@@ -17,20 +17,21 @@ use native.Mathlib.Omega.{arith}
 use lib.Dec.{lit<}
 use lib.IntN.{ℤ, pos}
 use lib.ListN.{length}
-use Rattle.algebra.specs.Laws.Spread.{Turned, opened, put, closed, within, as-long}
+use Rattle.algebra.specs.Laws.Machine.{wrap}
+use Rattle.algebra.specs.Laws.Spread.{Turned, opened, put, closed, as-long}
 use Rattle.algebra.specs.Laws.Tab.{getD-tab}
 use Rattle.contrasts.specs.Columns.{read}
 use Rattle.contrasts.specs.Factors.{three}
 use Rattle.contrasts.specs.Passes.{passAt}
 use Rattle.contrasts.specs.Totals.{Column}
 use Rattle.contrasts.specs.Laws.Both.{bothOver, bothAt, both-still, both-small, first-begun, first-ended}
-use Rattle.contrasts.specs.Laws.Small.{Small}
+use Rattle.contrasts.specs.Laws.Small.{Small, mild-small}
 use Rattle.contrasts.specs.Laws.Stretches.{passOver}
 use Rattle.contrasts.specs.Laws.ThreeLevels.{pass-three}
 use Rattle.nines.specs.declared.rows.Rows.{Rows}
-use Rattle.nines.specs.Inner.Rows.{rowsOf, rowsAt, sumsOf, gapsOf, curvesOf, putRows, ThreePlaces, ThreeReadings, MildRows, NinePlaces}
+use Rattle.nines.specs.Inner.Rows.{rowsOf, rowsFrom, sumsOf, gapsOf, curvesOf, putRows, ThreeReadings, MildRows, NinePlaces}
 use Rattle.nines.specs.Inner.Stretch.{FirstNine, Nines}
-use Rattle.nines.proofs.Rowed.{rows-mild}
+use Rattle.nines.proofs.Rowed.{rows-held, rows-mild}
 
 pub nine-places : 9 ≡ three .levels * three .levels
 unfolding three
@@ -63,8 +64,8 @@ pub record Nine (f : Column) (h i : ℕ) (l m u : Rows) : Type 0 where
 nine-values : (h i : ℕ) (x y : Column) → ((n : ℕ) → n < 9 * h → y n ≡ passAt h three x n) → i < h
     → Nine (passAt (3 * h) three y) h i
     (rowsOf (x i) (x (i + h)) (x (i + 2 * h)))
-    (rowsOf (x (i + 3 * h)) (x (i + 3 * h + h)) (x (i + 3 * h + 2 * h)))
-    (rowsOf (x (i + 6 * h)) (x (i + 6 * h + h)) (x (i + 6 * h + 2 * h)))
+    (rowsOf (x (i + 3 * h)) (x (i + 4 * h)) (x (i + 5 * h)))
+    (rowsOf (x (i + 6 * h)) (x (i + 7 * h)) (x (i + 8 * h)))
 nine-values h i x y same low =
     record {
       sums =
@@ -78,29 +79,20 @@ nine-values h i x y same low =
           (same (i + 2 * h) (omega arith) ∙ l .third) (same (i + 5 * h) (omega arith) ∙ m .third) (same (i + 8 * h) (omega arith) ∙ u .third);
     }
   where
-    place4 : i + 3 * h + h ≡ i + 4 * h
-    place4 = omega arith
-
-    place5 : i + 3 * h + 2 * h ≡ i + 5 * h
-    place5 = omega arith
-
-    place7 : i + 6 * h + h ≡ i + 7 * h
-    place7 = omega arith
-
-    place8 : i + 6 * h + 2 * h ≡ i + 8 * h
-    place8 = omega arith
-
     l : ThreeAt (passAt h three x) i (i + h) (i + 2 * h) (rowsOf (x i) (x (i + h)) (x (i + 2 * h)))
     l = three-rows h x 0 i (omega arith) low refl refl refl refl refl
 
-    m : ThreeAt (passAt h three x) (i + 3 * h) (i + 4 * h) (i + 5 * h) (rowsOf (x (i + 3 * h)) (x (i + 3 * h + h)) (x (i + 3 * h + 2 * h)))
-    m = three-rows h x 1 i (omega arith) low place4 place5 refl (ap x (sym place4)) (ap x (sym place5))
+    m : ThreeAt (passAt h three x) (i + 3 * h) (i + 4 * h) (i + 5 * h) (rowsOf (x (i + 3 * h)) (x (i + 4 * h)) (x (i + 5 * h)))
+    m = three-rows h x 1 i (omega arith) low (omega arith) (omega arith) refl refl refl
 
-    u : ThreeAt (passAt h three x) (i + 6 * h) (i + 7 * h) (i + 8 * h) (rowsOf (x (i + 6 * h)) (x (i + 6 * h + h)) (x (i + 6 * h + 2 * h)))
-    u = three-rows h x 2 i (omega arith) low place7 place8 refl (ap x (sym place7)) (ap x (sym place8))
+    u : ThreeAt (passAt h three x) (i + 6 * h) (i + 7 * h) (i + 8 * h) (rowsOf (x (i + 6 * h)) (x (i + 7 * h)) (x (i + 8 * h)))
+    u = three-rows h x 2 i (omega arith) low (omega arith) (omega arith) refl refl refl
 
 nine-rows : (h i : ℕ) (xs : List ℤ) → length xs ≡ 9 * h → i < h
-    → Nine (bothAt h three xs) h i (rowsAt xs i h) (rowsAt xs (i + 3 * h) h) (rowsAt xs (i + 6 * h) h)
+    → Nine (bothAt h three xs) h i
+    (rowsOf (read xs i) (read xs (i + h)) (read xs (i + 2 * h)))
+    (rowsOf (read xs (i + 3 * h)) (read xs (i + 4 * h)) (read xs (i + 5 * h)))
+    (rowsOf (read xs (i + 6 * h)) (read xs (i + 7 * h)) (read xs (i + 8 * h)))
 unfolding passOver three
 nine-rows h i xs whole low =
     nine-values h i (read xs) _ (λ n k. getD-tab (pos 0) (length xs) (passAt h three (read xs)) n (rw whole k)) low
@@ -145,49 +137,59 @@ module _ {h : ℕ} {xs : List ℤ} (pre : Nines h xs) {i : ℕ} {ys : List ℤ} 
   still : (d : ℕ) → d < 9 → (p : ℕ) → i + d * h ≡ p → read xs p ≡ read ys p
   still = both-still three pre w low
 
-  small : (d : ℕ) → d < 9 → (p : ℕ) → i + d * h ≡ p → Small (read ys p)
-  small = both-small three pre w low
+  -- the value of turn i with number d, as code holds it
+  pub value-small : (d : ℕ) → d < 9 → (p : ℕ) → i + d * h ≡ p → Small (read ys p)
+  value-small = both-small three pre w low
 
-  -- a set of three, from the place with number d on
-  pub three-places : (d : ℕ) → d + 2 < 9 → (p : ℕ) → i + d * h ≡ p → ThreePlaces ys p h
-  three-places d k p e =
-      record {
-        inside = omega (arith, as-long (pos 0) w, within {l = 9} {d = d + 2} low k);
-        first = small d (omega arith) p e;
-        middle = small (d + 1) (omega arith) (p + h) (omega arith);
-        third = small (d + 2) k (p + 2 * h) (omega arith);
-      }
+  module _ {l m u : Rows}
+      (el : l ≡ rowsOf (wrap (read ys i)) (wrap (read ys (i + h))) (wrap (read ys (i + 2 * h))))
+      (em : m ≡ rowsOf (wrap (read ys (i + 3 * h))) (wrap (read ys (i + 4 * h))) (wrap (read ys (i + 5 * h))))
+      (eu : u ≡ rowsOf (wrap (read ys (i + 6 * h))) (wrap (read ys (i + 7 * h))) (wrap (read ys (i + 8 * h)))) where
+    s0 : Small (read ys i)
+    s0 = value-small 0 (lit< tt) i (omega arith)
 
-  module _ {l m u : Rows} (el : l ≡ rowsAt ys i h) (em : m ≡ rowsAt ys (i + 3 * h) h) (eu : u ≡ rowsAt ys (i + 6 * h) h) where
+    s1 : Small (read ys (i + h))
+    s1 = value-small 1 (lit< tt) (i + h) (omega arith)
+
+    at : (d : ℕ) → d < 9 → Small (read ys (i + d * h))
+    at d k = value-small d k (i + d * h) refl
+
+    low-is : l ≡ rowsOf (read ys i) (read ys (i + h)) (read ys (i + 2 * h))
+    low-is = el ∙ rows-held (mild-small s0) (mild-small s1) (mild-small (at 2 (lit< tt)))
+
+    middle-is : m ≡ rowsOf (read ys (i + 3 * h)) (read ys (i + 4 * h)) (read ys (i + 5 * h))
+    middle-is = em ∙ rows-held (mild-small (at 3 (lit< tt))) (mild-small (at 4 (lit< tt))) (mild-small (at 5 (lit< tt)))
+
+    high-is : u ≡ rowsOf (read ys (i + 6 * h)) (read ys (i + 7 * h)) (read ys (i + 8 * h))
+    high-is = eu ∙ rows-held (mild-small (at 6 (lit< tt))) (mild-small (at 7 (lit< tt))) (mild-small (at 8 (lit< tt)))
+
     pub nine-ready : NinePlaces ys i h l m u
     nine-ready =
         record {
           inside = omega (arith, as-long (pos 0) w, low);
-          low = rw el (mild-at 0 (lit< tt) i (omega arith));
-          middle = rw em (mild-at 3 (lit< tt) (i + 3 * h) refl);
-          high = rw eu (mild-at 6 (lit< tt) (i + 6 * h) refl);
+          low = rw low-is (rows-mild s0 s1 (at 2 (lit< tt)));
+          middle = rw middle-is (rows-mild (at 3 (lit< tt)) (at 4 (lit< tt)) (at 5 (lit< tt)));
+          high = rw high-is (rows-mild (at 6 (lit< tt)) (at 7 (lit< tt)) (at 8 (lit< tt)));
         }
-      where
-        mild-at : (d : ℕ) → d + 2 < 9 → (p : ℕ) → i + d * h ≡ p → MildRows (rowsAt ys p h)
-        mild-at d k p e = let t = three-places d k p e in rows-mild (t .first) (t .middle) (t .third)
 
-    rows-now : Nine (bothAt h three xs) h i (rowsAt ys i h) (rowsAt ys (i + 3 * h) h) (rowsAt ys (i + 6 * h) h)
+    rows-now : Nine (bothAt h three xs) h i l m u
     rows-now =
-        rw (
+        rw (low-is, middle-is, high-is)
+        (rw (
           still 0 (lit< tt) i (omega arith),
           still 1 (lit< tt) (i + h) (omega arith),
           still 2 (lit< tt) (i + 2 * h) refl,
           still 3 (lit< tt) (i + 3 * h) refl,
-          still 4 (lit< tt) (i + 3 * h + h) (omega arith),
-          still 5 (lit< tt) (i + 3 * h + 2 * h) (omega arith),
+          still 4 (lit< tt) (i + 4 * h) refl,
+          still 5 (lit< tt) (i + 5 * h) refl,
           still 6 (lit< tt) (i + 6 * h) refl,
-          still 7 (lit< tt) (i + 6 * h + h) (omega arith),
-          still 8 (lit< tt) (i + 6 * h + 2 * h) (omega arith),
+          still 7 (lit< tt) (i + 7 * h) refl,
+          still 8 (lit< tt) (i + 8 * h) refl,
         )
-        at (nine-rows h i xs (pre .whole) low)
+        at (nine-rows h i xs (pre .whole) low))
 
     pub nines-more : {zs : List ℤ} → zs ≡ putRows ys i h l m u → Worked h xs (i + 1) zs
-    nines-more e = rw (e, el, em, eu) (turn-nine w low rows-now)
+    nines-more e = rw e (turn-nine w low rows-now)
 
 -- ---- nine readings
 
@@ -195,7 +197,7 @@ module _ {xs old : List ℤ} (pre : FirstNine xs old) where
   pub three-readings : (i : ℕ) → i + 2 < 9 → ThreeReadings xs i
   three-readings i k = record { inside = omega (arith, pre .read); within = pre .within }
 
-  module _ {l m u : Rows} (el : l ≡ rowsAt xs 0 1) (em : m ≡ rowsAt xs 3 1) (eu : u ≡ rowsAt xs 6 1) where
+  module _ {l m u : Rows} (el : l ≡ rowsFrom xs 0) (em : m ≡ rowsFrom xs 3) (eu : u ≡ rowsFrom xs 6) where
     pub first-ready : NinePlaces old 0 1 l m u
     first-ready =
         record { inside = omega (arith, pre .written); low = rw el (mild-at 0); middle = rw em (mild-at 3); high = rw eu (mild-at 6) }
@@ -203,7 +205,7 @@ module _ {xs old : List ℤ} (pre : FirstNine xs old) where
         small : (n : ℕ) → Small (read xs n)
         small n = record { small = pre .within n }
 
-        mild-at : (i : ℕ) → MildRows (rowsAt xs i 1)
+        mild-at : (i : ℕ) → MildRows (rowsFrom xs i)
         mild-at i = rows-mild (small i) (small (i + 1)) (small (i + 2))
 
     pub nine-made : {zs : List ℤ} → zs ≡ putRows old 0 1 l m u → zs ≡ bothOver 1 three xs

@@ -1,7 +1,7 @@
 // The three rows of three values: of one set of three at the first pass, and of three of these at the second.
 ghost use mathlib.Core.Path.{_≡_};
 ghost use Rattle.contrasts.specs.Laws.Small.{Mild};
-ghost use Rattle.nines.specs.Inner.Rows.{rowsOf, rowsAt, putRows, ThreePlaces, ThreeReadings, NinePlaces};
+ghost use Rattle.nines.specs.Inner.Rows.{rowsOf, rowsFrom, putRows, ThreeReadings, NinePlaces};
 
 // The sum, first minus third, and first minus twice middle plus third.
 pub struct Rows {
@@ -10,7 +10,7 @@ pub struct Rows {
     pub curve: i64,
 }
 
-fn rows_of(first: i64, middle: i64, third: i64) -> Rows
+pub fn rows_of(first: i64, middle: i64, third: i64) -> Rows
     requires { ⌜ Mild first × Mild middle × Mild third ⌝ }
     ensures { λ r. ⌜ r ≡ rowsOf first middle third ⌝ }
 {
@@ -21,18 +21,10 @@ fn rows_of(first: i64, middle: i64, third: i64) -> Rows
     }
 }
 
-// The rows of the values at i and once and twice the spacing after it.
-pub fn rows_at(part: &[i64], i: usize, spacing: usize) -> Rows
-    requires { ⌜ ThreePlaces (now part) i spacing ⌝ }
-    ensures { λ r. ⌜ r ≡ rowsAt (now (part .entry)) i spacing ⌝ }
-{
-    rows_of(part[i], part[i + spacing], part[i + 2 * spacing])
-}
-
 // The rows of three readings, from the place i on.
 pub fn rows_from(readings: &[i32], i: usize) -> Rows
     requires { ⌜ ThreeReadings (now readings) i ⌝ }
-    ensures { λ r. ⌜ r ≡ rowsAt (now (readings .entry)) i 1 ⌝ }
+    ensures { λ r. ⌜ r ≡ rowsFrom (now (readings .entry)) i ⌝ }
 {
     rows_of(
         readings[i] as i64,

@@ -2,22 +2,31 @@
 // first, and each stretch is worked by itself.
 ghost use mathlib.Core.Path.{_≡_};
 use super::rows::put_rows;
-use super::rows::rows_at;
+use super::rows::rows_of;
 ghost use Rattle.contrasts.specs.Factors.{three};
 ghost use Rattle.contrasts.specs.Laws.Both.{bothOver};
 ghost use Rattle.nines.specs.Ready.{AllNines};
 ghost use Rattle.nines.specs.Inner.Stretch.{Nines};
 
-// The sets of nine of a stretch: the rows of each three values, and then the rows of these.
+// The sets of nine of a stretch: the rows of each three values, and then the rows of these. The nine places stand here as they are, and not in a
+// function that reads three: the compiler then sees that those of the shortest stretches do not overlap.
 fn work_nines(part: &mut [i64], spacing: usize)
     requires { ⌜ Nines spacing (now part) ⌝ }
     ensures { λ _. ⌜ now (part .exit) ≡ bothOver spacing three (now (part .entry)) ⌝ }
 {
     let mut i = 0;
     while i < spacing {
-        let low = rows_at(part, i, spacing);
-        let middle = rows_at(part, i + 3 * spacing, spacing);
-        let high = rows_at(part, i + 6 * spacing, spacing);
+        let low = rows_of(part[i], part[i + spacing], part[i + 2 * spacing]);
+        let middle = rows_of(
+            part[i + 3 * spacing],
+            part[i + 4 * spacing],
+            part[i + 5 * spacing],
+        );
+        let high = rows_of(
+            part[i + 6 * spacing],
+            part[i + 7 * spacing],
+            part[i + 8 * spacing],
+        );
         put_rows(part, i, spacing, low, middle, high);
         i += 1;
     }

@@ -80,8 +80,8 @@ module _ {p : Plan} {readings : List ℤ} {marks : List ℕ} {totals : List ℤ}
   total-within-limit e h = le-trans (total-within (factorsOf p) (read readings) e h) (within-limit a)
 
   pub check-small : natAbs (rounds (factorsOf p) (read readings)) ≤ numeratorLimit p
-  check-small = rw (← (check-rounds (factorsOf p) (read readings))) (le-trans (check-within (factorsOf p) (read readings)) (within-limit a))
+  check-small = rw (← (check-rounds (factorsOf p) (read readings))) (le-trans (check-within (factorsOf p) (read readings) (runsOf p) (omega arith)) (within-limit a))
 
   pub checks-within : (natAbs (checksOf p readings .totals) ≤ numeratorLimit p) × (natAbs (checksOf p readings .readings) ≤ numeratorLimit p)
   unfolding checksOf
-  checks-within = (le-trans (check-within (factorsOf p) (read readings)) (within-limit a), check-small)
+  checks-within = (le-trans (check-within (factorsOf p) (read readings) (runsOf p) (omega arith)) (within-limit a), check-small)

@@ -30,7 +30,7 @@ use Rattle.contrasts.specs.Laws.Small.{Mild, room, held}
 -- ---- two levels
 
 module _ {a b : ℤ} (sa : Mild a) (sb : Mild b) where
-  sum-size : natAbs (a +ℤ b) < 2 ^ 63
+  pub sum-size : natAbs (a +ℤ b) < 2 ^ 63
   sum-size = omega (arith, room, sa .mild, sb .mild, natAbs-+ℤ a b)
 
   pub less-size : natAbs (a -ℤ b) < 2 ^ 63

@@ -8,13 +8,18 @@
 --                 plus third
 --   room          four mild values fit
 --   held          and such a value is what the code holds
+--   mild-held, reading-mild
+--                 a mild value, and a reading that is small, as code holds them, are mild
 use mathlib.Core.Path.{_≡_}
 use Prim.Native.Nat.{_*_, _^_, _<_, _≤_}
 use native.Mathlib.Omega.{arith}
 use lib.Dec.{lit<}
 use lib.IntN.{ℤ, pos, _+ℤ_, _-ℤ_, _*ℤ_, natAbs}
+use lib.Signed.{mag}
+use mir.Syntax.{w32}
+use mir.Val.{toZ, ofZ}
 use Rattle.algebra.specs.Laws.Size.{natAbs-+ℤ, natAbs-sub, natAbs-*ℤ}
-use Rattle.algebra.specs.Laws.Machine.{wrap, back}
+use Rattle.algebra.specs.Laws.Machine.{wrap, back, widened}
 use Rattle.contrasts.specs.Limits.{valueLimit}
 
 pub record Small (z : ℤ) : Type 0 where
@@ -52,3 +57,9 @@ room = lit< tt
 
 pub held : {z : ℤ} → Mild z → wrap z ≡ z
 held {z} s = back z (omega (arith, room, s .mild))
+
+pub mild-held : {z : ℤ} → Mild z → Mild (wrap z)
+mild-held s = rw (held s) s
+
+pub reading-mild : (z : ℤ) → mag z < 2 ^ 31 → natAbs z ≤ valueLimit → Mild (wrap (toZ w32 (ofZ w32 z)))
+reading-mild z fits h = rw (widened z fits) (mild-small (record { small = h }))

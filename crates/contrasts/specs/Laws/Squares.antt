@@ -4,7 +4,7 @@
 --   numerators           "the numerators of all N effects add up to the denominator times the sum of squared readings"
 --   within, within-one   so no sum of some of them, broken off anywhere, exceeds that, and no one of them
 --   total-within         nor does a total in size
---   check-within         nor does the sum of the totals
+--   check-within         nor does the sum of the first totals, or of all
 use mathlib.Core.Path.{_≡_, sym, _∙_, ap}
 use mathlib.Core.Bool.{Bool, cond}
 use mathlib.Core.List.{List, [], _∷_}
@@ -18,7 +18,7 @@ use Rattle.algebra.specs.Laws.Size.{square, natAbs-Σ, size-below}
 use Rattle.algebra.specs.Sum.{Σ}
 use Rattle.algebra.specs.Laws.Sum.{Σ-unit, Σ-cong, Σ-ext, Σ-mul, Σ-mul-r, Σ-prod, Σ-swap, Σ-digits, Σ-split, Σ-one, cond-*ℤ}
 use Rattle.algebra.specs.Naturals.{Σℕ}
-use Rattle.algebra.specs.Laws.Naturals.{Σℕ-pos, Σℕ-le, Σℕ-some, Σℕ-term}
+use Rattle.algebra.specs.Laws.Naturals.{Σℕ-pos, Σℕ-le, Σℕ-shorter, Σℕ-some, Σℕ-term}
 use Rattle.contrasts.specs.Factor.{Factor, weight}
 use Rattle.contrasts.specs.Totals.{Column, size, total, denominator, weight*, numeratorOf, numerator, squared}
 use Rattle.contrasts.specs.Laws.Digits.{level, total-nil, total-cons}
@@ -135,7 +135,8 @@ below Fs x e =
 pub total-within : (Fs : List Factor) (x : Column) (e : ℕ) → e < size Fs → natAbs (total Fs x e) ≤ denominator Fs * squared Fs x
 total-within Fs x e h = le-trans (below Fs x e) (within-one Fs x e h)
 
-pub check-within : (Fs : List Factor) (x : Column) → natAbs (Σ (size Fs) (total Fs x)) ≤ denominator Fs * squared Fs x
-check-within Fs x =
+pub check-within : (Fs : List Factor) (x : Column) (n : ℕ) → n ≤ size Fs → natAbs (Σ n (total Fs x)) ≤ denominator Fs * squared Fs x
+check-within Fs x n h =
     rw (← (numerators Fs x))
-    (le-trans (natAbs-Σ (size Fs) (total Fs x)) (Σℕ-le (size Fs) (λ e. natAbs (total Fs x e)) (numerator Fs x) (λ e _. below Fs x e)))
+    (le-trans (natAbs-Σ n (total Fs x))
+    (le-trans (Σℕ-le n (λ e. natAbs (total Fs x e)) (numerator Fs x) (λ e _. below Fs x e)) (Σℕ-shorter n (size Fs) (numerator Fs x) h)))

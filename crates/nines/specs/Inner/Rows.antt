@@ -1,11 +1,10 @@
 -- The three rows of three values, and what the functions on them ask.
 --
 --   rowsOf a b c              the sum, first minus third, and first minus twice middle plus third
---   rowsAt xs i h             of the values at i, i + h and i + 2 h
+--   rowsFrom xs i             of three readings from the place i on
 --   sumsOf, gapsOf, curvesOf  the rows of the sums of three sets, of their gaps and of their curves
 --   putRows xs i h l m u      these, at nine places of xs from i on, h apart
---   ThreePlaces xs i h        the values at i, i + h and i + 2 h are such as a pass admits
---   ThreeReadings xs i        so are readings, of which there are three from i on
+--   ThreeReadings xs i        three readings from i on, such as a pass admits
 --   MildRows r                rows that one pass makes
 --   NinePlaces xs i h l m u   nine places of xs from i on, h apart, and rows that one pass makes
 use mathlib.Core.List.{List}
@@ -14,14 +13,14 @@ use lib.IntN.{ℤ, pos, _+ℤ_, _-ℤ_, _*ℤ_}
 use lib.ListN.{length, set}
 use Rattle.contrasts.specs.Columns.{read, AllWithin}
 use Rattle.contrasts.specs.Limits.{valueLimit}
-use Rattle.contrasts.specs.Laws.Small.{Small, Mild}
+use Rattle.contrasts.specs.Laws.Small.{Mild}
 use Rattle.nines.specs.declared.rows.Rows.{Rows}
 
 abbrev pub rowsOf : ℤ → ℤ → ℤ → Rows
 rowsOf a b c = record { sum = a +ℤ b +ℤ c; gap = a -ℤ c; curve = a -ℤ pos 2 *ℤ b +ℤ c }
 
-abbrev pub rowsAt : List ℤ → ℕ → ℕ → Rows
-rowsAt xs i h = rowsOf (read xs i) (read xs (i + h)) (read xs (i + 2 * h))
+abbrev pub rowsFrom : List ℤ → ℕ → Rows
+rowsFrom xs i = rowsOf (read xs i) (read xs (i + 1)) (read xs (i + 2))
 
 -- the second pass, of what the first made
 abbrev pub sumsOf : Rows → Rows → Rows → Rows
@@ -39,12 +38,6 @@ putRows xs i h l m u =
     i (sumsOf l m u .sum)) (i + h) (gapsOf l m u .sum)) (i + 2 * h) (curvesOf l m u .sum))
     (i + 3 * h) (sumsOf l m u .gap)) (i + 4 * h) (gapsOf l m u .gap)) (i + 5 * h) (curvesOf l m u .gap))
     (i + 6 * h) (sumsOf l m u .curve)) (i + 7 * h) (gapsOf l m u .curve)) (i + 8 * h) (curvesOf l m u .curve)
-
-pub record ThreePlaces (xs : List ℤ) (i h : ℕ) : Type 0 where
-  pub inside : i + 2 * h < length xs
-  pub first : Small (read xs i)
-  pub middle : Small (read xs (i + h))
-  pub third : Small (read xs (i + 2 * h))
 
 pub record ThreeReadings (xs : List ℤ) (i : ℕ) : Type 0 where
   pub inside : i + 2 < length xs

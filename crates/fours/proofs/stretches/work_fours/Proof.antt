@@ -1,15 +1,16 @@
-use mathlib.Core.Path.{sym, _∙_}
-use Prim.Native.Nat.{_+_, _-_, _*_}
+use mathlib.Core.Path.{_≡_, refl, sym, _∙_}
+use Prim.Native.Nat.{ℕ, _+_, _-_, _*_, _^_, _<_}
 use native.Mathlib.Omega.{arith}
-use lib.ListN.{length-set}
-use Rattle.algebra.specs.Laws.Spread.{as-long}
+use lib.Dec.{lit<}
 use lib.IntN.{pos}
+use lib.ListN.{length}
+use Rattle.algebra.specs.Laws.Machine.{wrap}
+use Rattle.algebra.specs.Laws.Spread.{as-long}
 use Rattle.contrasts.specs.Columns.{read}
-use Rattle.contrasts.specs.Laws.Sets.{sum-fits, less-fits}
-use Rattle.contrasts.specs.Laws.Small.{Small, mild-small}
 use Rattle.contrasts.specs.Factors.{two}
 use Rattle.contrasts.specs.Laws.Both.{both-begun, both-ended}
-use Rattle.fours.proofs.Worked.{Worked, fours-more, four-small, sum-ready, gap-ready}
+use Rattle.contrasts.specs.Laws.Small.{Mild, mild-small, mild-held}
+use Rattle.fours.proofs.Worked.{Worked, value-small, four-ready, fours-more}
 use Rattle.fours.proofs.stretches.work_fours.Statement.{statement}
 use Rattle.fours.proofs.stretches.work_fours.Tie as tie
 
@@ -19,15 +20,19 @@ Inv-loop part₀ spacing i₀ part i = Worked spacing part₀ i part
 abbrev μ-loop : tie.MeasureT-loop
 μ-loop part₀ spacing i₀ part i = spacing - i
 
--- the four values that are read are small
-small : (c : tie.After-fourth Inv-loop μ-loop)
-    → let loop = c .before .before .before .before .before .loop in
-    let h = c .before .before .before .before .before .before .args .spacing in
-    Small (read (loop .part) (loop .i)) × Small (read (loop .part) (loop .i + h))
-    × Small (read (loop .part) (loop .i + 2 * h)) × Small (read (loop .part) (loop .i + 3 * h))
-small c =
-    four-small (c .before .before .before .before .before .before .pre) (c .before .before .before .before .before .loop .inv)
-    (c .before .before .before .before .loop-test .taken)
+-- the four places of a turn are within the part, and what this takes up in bytes within the memory
+inside : (c : tie.In-loop Inv-loop μ-loop)
+    → let h = c .before .before .args .spacing in
+    (c .before .loop .i + 3 * h < length (c .before .loop .part)) × (length (c .before .loop .part) * 8 < 2 ^ 63)
+inside c =
+    let long = as-long (pos 0) (c .before .loop .inv) in
+    let whole = c .before .before .pre .whole in
+    (omega (arith, long, c .loop-test .taken), omega (arith, long, whole, c .before .before .good .0 .1))
+
+-- the two values from that with number d on, as code holds them
+mild : (c : tie.In-loop Inv-loop μ-loop) (d : ℕ) → d < 4 → (p : ℕ) → c .before .loop .i + d * c .before .before .args .spacing ≡ p
+    → Mild (wrap (read (c .before .loop .part) p))
+mild c d k p e = mild-held (mild-small (value-small (c .before .before .pre) (c .before .loop .inv) (c .loop-test .taken) d k p e))
 
 pub work-fours-spec : {M : Type 1} → statement M
 work-fours-spec =
@@ -36,40 +41,36 @@ work-fours-spec =
     Inv-loop
     μ-loop
     (λ c. both-begun two (c .pre))
-    (λ c. omega (arith, c .before .before .pre .whole))
-    (λ c. omega (arith, c .before .before .pre .whole))
-    (λ c. omega (arith, c .before .before .pre .whole))
-    (λ c. omega (arith, c .before .before .pre .whole))
-    (λ c. omega (arith, c .before .before .pre .whole))
-    (λ c. omega (arith, c .before .before .pre .whole))
-    (λ c. omega (arith, as-long (pos 0) (c .before .loop .inv)))
-    (λ c. omega (arith, c .before .before .before .pre .whole))
-    (λ c. omega (arith, as-long (pos 0) (c .before .before .loop .inv)))
-    (λ c. omega (arith, c .before .before .before .before .pre .whole))
-    (λ c. omega (arith, as-long (pos 0) (c .before .before .before .loop .inv)))
-    (λ c. omega (arith, c .before .before .before .before .before .pre .whole))
-    (λ c. omega (arith, as-long (pos 0) (c .before .before .before .before .loop .inv)))
-    (λ c. search (sum-fits, mild-small, small c .0, small c .1))
-    (λ c. search (sum-fits, mild-small, small c .2, small c .3))
-    (λ c. search (less-fits, mild-small, small c .0, small c .1))
-    (λ c. search (less-fits, mild-small, small c .2, small c .3))
-    (λ c. sum-fits (sum-ready (small c .0) (small c .1)) (sum-ready (small c .2) (small c .3)))
-    (λ c. omega (arith, c .before .before .before .before .before .before .pre .whole))
-    (λ c. omega (arith, as-long (pos 0) (c .before .before .before .before .before .loop .inv)))
-    (λ c. sum-fits (gap-ready (small c .0) (small c .1)) (gap-ready (small c .2) (small c .3)))
-    (λ c. omega (arith, c .before .before .before .before .before .before .pre .whole))
-    (λ c. simp length-set (omega (arith, as-long (pos 0) (c .before .before .before .before .before .loop .inv))))
-    (λ c. less-fits (sum-ready (small c .0) (small c .1)) (sum-ready (small c .2) (small c .3)))
-    (λ c. omega (arith, c .before .before .before .before .before .before .pre .whole))
-    (λ c. simp length-set (omega (arith, as-long (pos 0) (c .before .before .before .before .before .loop .inv))))
-    (λ c. less-fits (gap-ready (small c .0) (small c .1)) (gap-ready (small c .2) (small c .3)))
-    (λ c. omega (arith, c .before .before .before .before .before .before .pre .whole))
-    (λ c. simp length-set (omega (arith, as-long (pos 0) (c .before .before .before .before .before .loop .inv))))
-    (λ c. omega arith)
-    (λ c. omega arith)
+    (λ c. omega (arith, inside c))
+    (λ c. omega (arith, inside c))
+    (λ c. omega (arith, inside (c .before)))
+    (λ c. omega (arith, inside (c .before)))
+    (λ c. omega (arith, inside (c .before)))
+    (λ c κs.
+    let turn = c .before .before in
+    (mild turn 0 (lit< tt) _ (omega arith), mild turn 1 (lit< tt) _ (omega arith)))
+    (λ c. omega (arith, inside (c .before .before .before)))
+    (λ c. omega (arith, inside (c .before .before .before)))
+    (λ c. omega (arith, inside (c .before .before .before)))
+    (λ c. omega (arith, inside (c .before .before .before)))
+    (λ c. omega (arith, inside (c .before .before .before .before)))
+    (λ c. omega (arith, inside (c .before .before .before .before)))
+    (λ c. omega (arith, inside (c .before .before .before .before)))
+    (λ c. omega (arith, inside (c .before .before .before .before)))
+    (λ c κs.
+    let turn = c .before .before .before .before .before in
+    (mild turn 2 (lit< tt) _ refl, mild turn 3 (lit< tt) _ refl))
+    (λ c κs.
+    let pre = c .before .before .before .before .before .before .before .before .before .pre in
+    let inv = c .before .before .before .before .before .before .before .before .loop .inv in
+    four-ready pre inv (c .before .before .before .before .before .before .before .loop-test .taken) (c .before .before .before .before .rows-of .ensures) (c .before .rows-of2 .ensures))
+    (λ c. omega (arith, inside (c .before .before .before .before .before .before .before .before .before)))
+    (λ c. omega (arith, c .before .before .before .before .before .before .before .before .before .loop-test .taken))
     (λ c.
-    let pre = c .before .before .before .before .before .before .pre in
-    let inv = c .before .before .before .before .before .loop .inv in
-    fours-more pre inv (c .before .before .before .before .loop-test .taken))
+    let pre = c .before .before .before .before .before .before .before .before .before .before .before .pre in
+    let inv = c .before .before .before .before .before .before .before .before .before .before .loop .inv in
+    let low = c .before .before .before .before .before .before .rows-of .ensures in
+    let high = c .before .before .before .rows-of2 .ensures in
+    fours-more pre inv (c .before .before .before .before .before .before .before .before .before .loop-test .taken) low high (c .before .put-rows .ensures))
     (λ c. as-long (pos 0) (c .before .loop .inv) ∙ sym (c .before .before .pre .whole))
     (λ c. both-ended two (c .before .before .pre) (c .before .loop .inv) (c .loop-test .left)))

@@ -8,9 +8,9 @@ pub put-nine-spec : {M : Type 1} → statement M
 put-nine-spec =
     tie.close
     (tie.spec
-    (λ c κs. three-readings (c .pre) 0 (lit< tt))
-    (λ c κs. three-readings (c .before .pre) 3 (lit< tt))
-    (λ c κs. three-readings (c .before .before .pre) 6 (lit< tt))
+    (λ c κs. three-readings (c .pre) _ (lit< tt))
+    (λ c κs. three-readings (c .before .pre) _ (lit< tt))
+    (λ c κs. three-readings (c .before .before .pre) _ (lit< tt))
     (λ c κs.
     let pre = c .before .before .before .before .pre in
     first-ready pre (c .before .before .before .rows-from .ensures) (c .before .before .rows-from2 .ensures) (c .before .rows-from3 .ensures))

@@ -2,7 +2,8 @@ use mathlib.Core.Path.{refl}
 use Prim.Native.Nat.{_+_, _*_, _^_, _<_}
 use native.Mathlib.Omega.{arith}
 use lib.ListN.{length, length-set}
-use Rattle.nines.proofs.Rowed.{mild-held, put-made}
+use Rattle.contrasts.specs.Laws.Small.{mild-held}
+use Rattle.nines.proofs.Rowed.{put-made}
 use Rattle.nines.proofs.rows.put_rows.Statement.{statement}
 use Rattle.nines.proofs.rows.put_rows.Tie as tie
 

@@ -3,7 +3,7 @@ use Prim.Native.Nat.{_+_}
 use borrow.Author.Needs.{needs}
 use Rattle.algebra.specs.Laws.Machine.{widened, widened-fits}
 use Rattle.contrasts.specs.Columns.{read}
-use Rattle.nines.proofs.Rowed.{reading-mild}
+use Rattle.contrasts.specs.Laws.Small.{reading-mild}
 use Rattle.nines.proofs.rows.rows_from.Statement.{statement}
 use Rattle.nines.proofs.rows.rows_from.Tie as tie
 

@@ -10,7 +10,7 @@ rows-of-spec =
     (tie.spec
     (λ c. sum-fits (c .pre .0) (c .pre .1))
     (λ c. all-fits (c .pre .0) (c .pre .1) (c .pre .2))
-    (λ c. less-fits (c .pre .0) (c .pre .2))
+    (λ c. search (less-fits, c .pre .0, c .pre .1, c .pre .2))
     (λ c. scaled-fits _ (lit≤ tt) (c .pre .1))
     (λ c. without-fits _ (lit≤ tt) (c .pre .0) (c .pre .1))
     (λ c. third-fits _ (lit≤ tt) (c .pre .0) (c .pre .1) (c .pre .2))
