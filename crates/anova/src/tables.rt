@@ -78,18 +78,23 @@ fn make(p: Plan, readings: &[i32], marks: &[u8], column: &mut [i64], rows: &mut 
     let total = (over as u64) * sum_of_squares(readings);
     let numerators = sums.numerators;
     let degrees = sums.degrees;
+    let from_totals = sums.totals;
+    let mean = source(numerators, degrees, MEAN);
+    let kept = source(numerators, degrees, KEPT);
+    let blocks = source(numerators, degrees, BLOCKS);
+    let error = source(numerators, degrees, ERROR);
     Figures {
         denominator: over as u64,
-        mean: source(numerators, degrees, MEAN),
-        kept: source(numerators, degrees, KEPT),
-        blocks: source(numerators, degrees, BLOCKS),
-        error: source(numerators, degrees, ERROR),
+        mean,
+        kept,
+        blocks,
+        error,
         total: Source {
             degrees: readings.len() as u64,
             numerator: total,
         },
         checks: Checks {
-            totals: sums.totals,
+            totals: from_totals,
             readings: from_readings,
         },
     }

@@ -1,6 +1,6 @@
 -- The sums that are held in two parts each.
 --
---   degree-still               a numerator that is added leaves the degrees as they were
+--   next-still                 a numerator that is added leaves the degrees as they were
 --   joins                      all sums, from both parts of each
 --   own-more, other-still      an effect is added to the sum of its kind, and to no other
 use mathlib.Core.Path.{_≡_, refl, sym, _∙_}
@@ -11,7 +11,7 @@ use native.Mathlib.Nat.{add-zero}
 use native.Mathlib.Omega.{arith}
 use lib.Dec.{lit<}
 use lib.IntN.{ℤ}
-use lib.ListN.{length, getD, length-set}
+use lib.ListN.{length, getD, set, length-set}
 use lib.Seq.{getD-set-same, getD-set-other}
 use Rattle.algebra.specs.Tab.{tab, tabFrom}
 use Rattle.walks.specs.declared.types.Sums.{Sums}
@@ -35,15 +35,15 @@ module _ (xs : List ℕ) (i n : ℕ) where
 
 -- ---- an effect: a numerator, and a degree beside it
 
-module _ {place n : ℕ} {parts : List ℕ} (pre : Addable place n parts) where
-  pub degree-room : getD (added parts place n) (place + 1) 0 + 1 < 2 ^ 63
-  degree-room = rw (added-other parts place n (place + 1) (λ z. omega (arith, z))) (pre .degree-fits)
+-- whatever is put at a place, the next one stays
+pub next-still : (parts : List ℕ) (place v : ℕ) → getD (set parts place v) (place + 1) 0 ≡ getD parts (place + 1) 0
+next-still parts place v = getD-set-other parts place (place + 1) v 0 (λ z. omega (arith, z))
+
+pub brought-long : (parts : List ℕ) (place n : ℕ) → length (brought parts place n) ≡ length parts
+unfolding brought
+brought-long parts place n = added-long (added parts place n) (place + 1) 1 ∙ added-long parts place n
 
 module _ (parts : List ℕ) (place n : ℕ) (inside : place + 1 < length parts) where
-  pub brought-long : length (brought parts place n) ≡ length parts
-  unfolding brought
-  brought-long = added-long (added parts place n) (place + 1) 1 ∙ added-long parts place n
-
   brought-own : (j : ℕ) → j ≡ place → getD (brought parts place n) j 0 ≡ getD parts j 0 + n
   unfolding brought
   brought-own j e =

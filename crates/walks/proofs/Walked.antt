@@ -166,7 +166,7 @@ module _ {row num kind : ℕ → ℕ} {t : Column} {n : ℕ} {rows₀ : List ℕ
           record {
             upto = omega arith;
             rows-hold = sorted-more (length rows₀) row num e (w .rows-hold) (pre .row-there e low);
-            places = brought-long parts (placeOf (kind e) half) (num e) (addable half b .inside) ∙ w .places;
+            places = brought-long parts (placeOf (kind e) half) (num e) ∙ w .places;
             numerators-hold = λ c h. rw (add-one e) (numerators c (ℕ-discrete c (kind e)) h);
             degrees-hold = λ c h. rw (add-one e) (degrees c (ℕ-discrete c (kind e)) h);
             totals-hold = rw (add-one e) (ap (ofZ w64) summed);

@@ -43,6 +43,7 @@ pub fn bring_three(
     ensures { λ _. ⌜ now (parts .exit) ≡ brought (now (parts .entry)) (placeOf kind half) (natAbs total * natAbs total * weight) ⌝ }
 {
     let n = numerator(total, weight);
-    rows[row] += n;
+    let before = rows[row];
+    rows[row] = before + n;
     add(place_of(kind, half), n, parts);
 }

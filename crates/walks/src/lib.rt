@@ -6,6 +6,8 @@
 mod bringing;
 mod parts;
 mod squares;
+mod three_levels;
+mod two_levels;
 mod types;
 mod walking;
 

@@ -50,9 +50,11 @@ pub fn gather(parts: &[u64], totals: i64) -> Sums
     requires { ⌜ Gatherable (now parts) ⌝ }
     ensures { λ r. ⌜ r ≡ heldIn (now (parts .entry)) totals ⌝ }
 {
+    let numerators = join(parts, 0);
+    let degrees = join(parts, 1);
     Sums {
-        numerators: join(parts, 0),
-        degrees: join(parts, 1),
+        numerators,
+        degrees,
         totals,
     }
 }

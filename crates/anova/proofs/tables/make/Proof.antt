@@ -30,25 +30,26 @@ make-spec =
     let check-number-is = c .before .before .before .before .before .before .before .before .before .check-number .ensures in
     let over-given = c .before .before .before .before .before .before .before .denominator .ensures in
     omega (arith, total-small pre (denominator-is pre (check-number-is .1) over-given) (c .sum-of-squares .ensures)))
+    (λ c κs. lit< tt)
+    (λ c κs. lit< tt)
+    (λ c κs. lit< tt)
+    (λ c κs. lit< tt)
     (λ c. search needs)
-    (λ c κs. lit< tt)
-    (λ c κs. lit< tt)
-    (λ c κs. lit< tt)
-    (λ c κs. lit< tt)
     (λ c. search needs)
     (λ c. search needs)
     (λ c.
-    let mean-is = c .before .before .before .before .source .ensures in
-    let kept-is = c .before .before .before .source2 .ensures in
-    let blocks-is = c .before .before .source3 .ensures in
-    let error-is = c .before .source4 .ensures in
-    let squares-is = c .before .before .before .before .before .before .before .sum-of-squares .ensures in
-    let formed = c .before .before .before .before .before .before .before .before .before .before .before in
+    let mean-is = c .before .before .before .source .ensures in
+    let kept-is = c .before .before .source2 .ensures in
+    let blocks-is = c .before .source3 .ensures in
+    let error-is = c .source4 .ensures in
+    let squared = c .before .before .before .before .before .before .before in
+    let formed = squared .before .before .before .before in
     let form-is = formed .form .ensures in
     let over-given = formed .before .before .before .denominator .ensures in
     let checked = formed .before .before .before .before .before in
     let check-number-is = checked .check-number .ensures in
     let pre = checked .before .before .before .before .pre in
+    let squares-is = squared .sum-of-squares .ensures in
     let over-is = denominator-is pre (check-number-is .1) over-given in
     let sum-is = sum-kept pre over-is squares-is (form-is .0) in
     let from-is = kept _ (checked .check-number .ok) ∙ check-number-is .0 in

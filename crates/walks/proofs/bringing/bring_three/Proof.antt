@@ -21,6 +21,7 @@ bring-three-spec =
     let start = c .before .before .before .before in
     omega (arith, start .pre .row-fits, numerator-kept (start .args .total) (start .fits .total .sfits) (start .args .weight) (c .before .numerator .ensures)))
     (λ c. search needs)
+    (λ c. search needs)
     (λ c κs. c .before .before .before .before .pre .one-half)
     (λ c κs.
     let start = c .before .before .before .before .before .before in

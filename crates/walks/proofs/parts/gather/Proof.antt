@@ -1,4 +1,3 @@
-use mathlib.Core.Path.{refl}
 use lib.Dec.{lit<}
 use Rattle.algebra.specs.Laws.Machine.{kept}
 use Rattle.walks.specs.Inner.Parts.{heldIn}
@@ -14,4 +13,5 @@ gather-spec =
     (λ c κs. (c .before .before .pre, lit< tt))
     (λ c.
     let start = c .before .before .before in
-    rw (c .before .join .ensures, c .join2 .ensures, kept _ (start .fits .totals .sfits)) refl))
+    let totals-is = kept (start .args .totals) (start .fits .totals .sfits) in
+    λ i. record { numerators = c .before .join .ensures i; degrees = c .join2 .ensures i; totals = totals-is i }))

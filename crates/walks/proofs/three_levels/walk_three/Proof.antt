@@ -4,8 +4,8 @@ use native.Mathlib.Omega.{arith}
 use lib.ListN.{length}
 use Rattle.walks.specs.Inner.Walk.{WalkingThree}
 use Rattle.walks.proofs.Walked.{walking-none, walking-all, rows-long, check-fits, gatherable, brings-three, three-more}
-use Rattle.walks.proofs.walking.walk_three.Statement.{statement}
-use Rattle.walks.proofs.walking.walk_three.Tie as tie
+use Rattle.walks.proofs.three_levels.walk_three.Statement.{statement}
+use Rattle.walks.proofs.three_levels.walk_three.Tie as tie
 
 abbrev Inv-loop : tie.InvT-loop
 Inv-loop totals effects weights kinds rows₀ _ _ _ rows parts sum e = WalkingThree totals effects weights kinds (length rows₀) e rows parts sum
@@ -31,7 +31,7 @@ walk-three-spec =
     (λ c.
     let turn = c .before .before in
     let pre = turn .before .before .before .before .before .before .pre in
-    omega (arith, pre .walkable .row-there _ (turn .loop-test .taken)))
+    omega (arith, pre .walkable .row-there (turn .before .loop .e) (omega (arith, turn .loop-test .taken))))
     (λ c. omega arith)
     (λ c.
     let pre = c .before .before .before .before .before .before .before .before .before .pre in
@@ -39,22 +39,22 @@ walk-three-spec =
     (λ c.
     let turn = c .before .before .before .before in
     let pre = turn .before .before .before .before .before .before .pre in
-    omega (arith, pre .kinds-long, pre .walkable .row-there _ (turn .loop-test .taken)))
+    omega (arith, pre .kinds-long, pre .walkable .row-there (turn .before .loop .e) (omega (arith, turn .loop-test .taken))))
     (λ c. sym (c .before .before .before .before .before .before .before .loop .inv .places))
     (λ c κs.
     let turn = c .before .before .before .before .before .before in
     let pre = turn .before .before .before .before .before .before .pre in
-    brings-three pre (turn .before .loop .inv) (turn .loop-test .taken))
+    brings-three pre (turn .before .loop .inv) (omega (arith, turn .loop-test .taken)))
     (λ c.
     let turn = c .before .before .before .before .before .before .before .before .before .before in
     let pre = turn .before .before .before .before .before .before .pre in
-    check-fits (pre .walkable) (turn .before .loop .inv) (turn .loop-test .taken))
+    check-fits (pre .walkable) (turn .before .loop .inv) (omega (arith, turn .loop-test .taken)))
     (λ c. omega arith)
     (λ c. omega arith)
     (λ c.
     let turn = c .before .before .before .before .before .before .before .before .before .before in
     let pre = turn .before .before .before .before .before .before .pre in
-    three-more pre (turn .before .loop .inv) (turn .loop-test .taken) (c .before .before .before .bring-three .ensures))
+    three-more pre (turn .before .loop .inv) (omega (arith, turn .loop-test .taken)) (c .before .before .before .bring-three .ensures))
     (λ c. sym (c .before .before .loop .inv .places))
     (λ c κs.
     let pre = c .before .before .before .before .before .before .before .pre in
@@ -64,5 +64,5 @@ walk-three-spec =
     rows-long (pre .walkable) (c .before .before .before .loop .inv))
     (λ c.
     let pre = c .before .before .before .before .before .before .before .before .pre in
-    let walked = walking-all (pre .walkable) (c .before .before .before .loop .inv) (c .before .before .loop-test .left) in
+    let walked = walking-all (pre .walkable) (c .before .before .before .loop .inv) (omega (arith, c .before .before .loop-test .left)) in
     record { sums-are = c .gather .ensures ∙ walked .sums-are; rows-are = walked .rows-are }))
