@@ -137,7 +137,7 @@ module _ {h : ℕ} {xs : List ℤ} (pre : Nines h xs) {i : ℕ} {ys : List ℤ} 
   still : (d : ℕ) → d < 9 → (p : ℕ) → i + d * h ≡ p → read xs p ≡ read ys p
   still = both-still three pre w low
 
-  -- the value of turn i with number d, as code holds it
+  -- the value of turn i with number d
   pub value-small : (d : ℕ) → d < 9 → (p : ℕ) → i + d * h ≡ p → Small (read ys p)
   value-small = both-small three pre w low
 

@@ -11,7 +11,9 @@ use Rattle.fours.proofs.rows.put_rows.Tie as tie
 inside : (c : tie.After-struct-told8)
     → let args = c .before .before .before .before .before .before .before .before .before .before .args in
     (args .i + 3 * args .spacing < length (args .part .now)) × (length (args .part .now) * 8 < 2 ^ 63)
-inside c = (c .before .before .before .before .before .before .before .before .before .before .pre .inside, omega (arith, c .before .before .before .before .before .before .before .before .before .before .good .0 .1))
+inside c =
+    let start = c .before .before .before .before .before .before .before .before .before .before in
+    (start .pre .inside, omega (arith, start .good .0 .1))
 
 pub put-rows-spec : {M : Type 1} → statement M
 put-rows-spec =

@@ -29,7 +29,7 @@ inside c =
     let whole = c .before .before .pre .whole in
     (omega (arith, long, c .loop-test .taken), omega (arith, long, whole, c .before .before .good .0 .1))
 
--- the two values from that with number d on, as code holds them
+-- the value with number d of a turn, as code holds it, is mild
 mild : (c : tie.In-loop Inv-loop μ-loop) (d : ℕ) → d < 4 → (p : ℕ) → c .before .loop .i + d * c .before .before .args .spacing ≡ p
     → Mild (wrap (read (c .before .loop .part) p))
 mild c d k p e = mild-held (mild-small (value-small (c .before .before .pre) (c .before .loop .inv) (c .loop-test .taken) d k p e))
