@@ -22,10 +22,9 @@ use Rattle.plan.specs.Laws.Limits.{numerator-fits}
 use Rattle.plan.specs.Plan.{factorsOf, runsOf}
 use Rattle.passes.specs.Laws.Plans.{plan-readings}
 use Rattle.passes.specs.Ready.{PassReadings}
-use Rattle.rows.specs.Kinds.{rowsIn}
 use Rattle.walks.specs.declared.types.Sums.{Sums}
 use Rattle.walks.specs.After.{numeratorAt, rowsAfter, sumsAfter}
-use Rattle.walks.specs.Inner.Ready.{PlanWalkable}
+use Rattle.walks.specs.Ready.{PlanWalkable}
 use Rattle.walks.specs.Laws.After.{rows-agree, sums-agree}
 use Rattle.anova.specs.Laws.Admitted.{within-limit, TableReady}
 use Rattle.anova.specs.Laws.After.{rows-after-all}

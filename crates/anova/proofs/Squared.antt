@@ -13,7 +13,7 @@ use lib.ListN.{length}
 use Rattle.algebra.specs.Naturals.{Σℕ}
 use Rattle.algebra.specs.Laws.Naturals.{Σℕ-term, Σℕ-shorter}
 use Rattle.contrasts.specs.Columns.{read}
-use Rattle.walks.specs.Inner.Ready.{Squarable}
+use Rattle.walks.specs.Ready.{Squarable}
 use Rattle.anova.specs.Inner.Ready.{SquaresFit}
 use Rattle.anova.specs.Inner.Readings.{squaresOf}
 

@@ -29,7 +29,7 @@ use Rattle.walks.specs.After.{rowsAfter, sumsAfter}
 use Rattle.walks.specs.Inner.Parts.{heldIn}
 use Rattle.walks.specs.Inner.Walk.{WalkingTwo, WalkingThree}
 use Rattle.anova.specs.declared.types.Source.{Source}
-use Rattle.anova.specs.Table.{tableRefused, tableFigures, tableTotals, tableRows}
+use Rattle.anova.specs.Table.{tableRefused, tableFigures, tableRows}
 
 -- T8
 abbrev pub totalIn : Plan → List ℤ → Column

@@ -1,37 +1,38 @@
 -- The sums that are held in two parts each.
 --
---   next-still                 a numerator that is added leaves the degrees as they were
---   joins                      all sums, from both parts of each
---   own-more, other-still      an effect is added to the sum of its kind, and to no other
-use mathlib.Core.Path.{_≡_, refl, sym, _∙_}
+--   next-still                       a numerator that is added leaves the degrees as they were
+--   brought-long                     as many parts as before
+--   which                            the first part or the second
+--   own-numerators, own-degrees      an effect is added to the sums of its kind
+--   other-still                      and to no others
+--   part-of                          a part is at most its sum
+--   joinable, joins                  all sums, from both parts of each
+use mathlib.Core.Path.{_≡_, refl, _∙_}
 use mathlib.Core.Logic.{_⊎_, inl, inr}
 use mathlib.Core.List.{List, [], _∷_}
-use Prim.Native.Nat.{ℕ, zero, suc, _+_, _*_, _^_, _<_, _≤_}
+use Prim.Native.Nat.{ℕ, zero, suc, _+_, _*_, _<_, _≤_}
 use native.Mathlib.Nat.{add-zero}
 use native.Mathlib.Omega.{arith}
-use lib.Dec.{lit<}
-use lib.IntN.{ℤ}
 use lib.ListN.{length, getD, set, length-set}
 use lib.Seq.{getD-set-same, getD-set-other}
 use Rattle.algebra.specs.Tab.{tab, tabFrom}
-use Rattle.walks.specs.declared.types.Sums.{Sums}
-use Rattle.walks.specs.Inner.Parts.{placeOf, added, brought, bothAt, joined, heldIn}
-use Rattle.walks.specs.Inner.Ready.{Addable, Joinable, Gatherable}
+use Rattle.walks.specs.Inner.Parts.{plusAt, brought, twoParts, sumIn}
+use Rattle.walks.specs.Inner.Ready.{Joinable, Gatherable}
 
 -- ---- one place
 
 module _ (xs : List ℕ) (i n : ℕ) where
-  pub added-long : length (added xs i n) ≡ length xs
-  unfolding added
-  added-long = length-set xs i (getD xs i 0 + n)
+  pub plus-long : length (plusAt xs i n) ≡ length xs
+  unfolding plusAt
+  plus-long = length-set xs i (getD xs i 0 + n)
 
-  added-own : i < length xs → (j : ℕ) → j ≡ i → getD (added xs i n) j 0 ≡ getD xs j 0 + n
-  unfolding added
-  added-own h j e = rw e (getD-set-same xs i (getD xs i 0 + n) 0 h)
+  plus-own : i < length xs → (j : ℕ) → j ≡ i → getD (plusAt xs i n) j 0 ≡ getD xs j 0 + n
+  unfolding plusAt
+  plus-own h j e = rw e (getD-set-same xs i (getD xs i 0 + n) 0 h)
 
-  pub added-other : (j : ℕ) → (j ≡ i → ⊥) → getD (added xs i n) j 0 ≡ getD xs j 0
-  unfolding added
-  added-other j d = getD-set-other xs i j (getD xs i 0 + n) 0 d
+  pub plus-other : (j : ℕ) → (j ≡ i → ⊥) → getD (plusAt xs i n) j 0 ≡ getD xs j 0
+  unfolding plusAt
+  plus-other j d = getD-set-other xs i j (getD xs i 0 + n) 0 d
 
 -- ---- an effect: a numerator, and a degree beside it
 
@@ -41,24 +42,24 @@ next-still parts place v = getD-set-other parts place (place + 1) v 0 (λ z. ome
 
 pub brought-long : (parts : List ℕ) (place n : ℕ) → length (brought parts place n) ≡ length parts
 unfolding brought
-brought-long parts place n = added-long (added parts place n) (place + 1) 1 ∙ added-long parts place n
+brought-long parts place n = plus-long (plusAt parts place n) (place + 1) 1 ∙ plus-long parts place n
 
 module _ (parts : List ℕ) (place n : ℕ) (inside : place + 1 < length parts) where
   brought-own : (j : ℕ) → j ≡ place → getD (brought parts place n) j 0 ≡ getD parts j 0 + n
   unfolding brought
   brought-own j e =
-      added-other (added parts place n) (place + 1) 1 j (λ z. omega (arith, z, e))
-      ∙ added-own parts place n (omega (arith, inside)) j e
+      plus-other (plusAt parts place n) (place + 1) 1 j (λ z. omega (arith, z, e))
+      ∙ plus-own parts place n (omega (arith, inside)) j e
 
   brought-next : (j : ℕ) → j ≡ place + 1 → getD (brought parts place n) j 0 ≡ getD parts j 0 + 1
   unfolding brought
   brought-next j e =
-      added-own (added parts place n) (place + 1) 1 (rw (added-long parts place n) inside) j e
-      ∙ rw (added-other parts place n j (λ z. omega (arith, z, e))) refl
+      plus-own (plusAt parts place n) (place + 1) 1 (rw (plus-long parts place n) inside) j e
+      ∙ rw (plus-other parts place n j (λ z. omega (arith, z, e))) refl
 
   brought-other : (j : ℕ) → (j ≡ place → ⊥) → (j ≡ place + 1 → ⊥) → getD (brought parts place n) j 0 ≡ getD parts j 0
   unfolding brought
-  brought-other j d d′ = added-other (added parts place n) (place + 1) 1 j d′ ∙ added-other parts place n j d
+  brought-other j d d′ = plus-other (plusAt parts place n) (place + 1) 1 j d′ ∙ plus-other parts place n j d
 
 -- ---- the sums
 
@@ -84,25 +85,25 @@ module _ (parts : List ℕ) (long : length parts ≡ 16) (k b n : ℕ) (kind : k
   other : (j : ℕ) → (j ≡ 4 * k + 2 * b → ⊥) → (j ≡ 4 * k + 2 * b + 1 → ⊥) → getD after j 0 ≡ getD parts j 0
   other = brought-other parts (4 * k + 2 * b) n inside
 
-  pub own-numerators : joined after 0 k ≡ joined parts 0 k + n
+  pub own-numerators : sumIn after 0 k ≡ sumIn parts 0 k + n
   own-numerators = by (which b half)
     where
-      by : (b ≡ 0) ⊎ (b ≡ 1) → joined after 0 k ≡ joined parts 0 k + n
+      by : (b ≡ 0) ⊎ (b ≡ 1) → sumIn after 0 k ≡ sumIn parts 0 k + n
       by (inl z) =
           omega (arith, own (0 + 4 * k) (omega (arith, z)), other (0 + 4 * k + 2) (λ e. omega (arith, z, e)) (λ e. omega (arith, z, e)))
       by (inr z) =
           omega (arith, other (0 + 4 * k) (λ e. omega (arith, z, e)) (λ e. omega (arith, z, e)), own (0 + 4 * k + 2) (omega (arith, z)))
 
-  pub own-degrees : joined after 1 k ≡ joined parts 1 k + 1
+  pub own-degrees : sumIn after 1 k ≡ sumIn parts 1 k + 1
   own-degrees = by (which b half)
     where
-      by : (b ≡ 0) ⊎ (b ≡ 1) → joined after 1 k ≡ joined parts 1 k + 1
+      by : (b ≡ 0) ⊎ (b ≡ 1) → sumIn after 1 k ≡ sumIn parts 1 k + 1
       by (inl z) =
           omega (arith, next (1 + 4 * k) (omega (arith, z)), other (1 + 4 * k + 2) (λ e. omega (arith, z, e)) (λ e. omega (arith, z, e)))
       by (inr z) =
           omega (arith, other (1 + 4 * k) (λ e. omega (arith, z, e)) (λ e. omega (arith, z, e)), next (1 + 4 * k + 2) (omega (arith, z)))
 
-  pub other-still : (i c : ℕ) → i < 2 → (c ≡ k → ⊥) → joined after i c ≡ joined parts i c
+  pub other-still : (i c : ℕ) → i < 2 → (c ≡ k → ⊥) → sumIn after i c ≡ sumIn parts i c
   other-still i c h d =
       omega (
         arith,
@@ -111,10 +112,10 @@ module _ (parts : List ℕ) (long : length parts ≡ 16) (k b n : ℕ) (kind : k
       )
 
 -- a part is at most its sum
-pub part-of : (parts : List ℕ) (k b i j : ℕ) → j ≡ 4 * k + 2 * b + i → b < 2 → getD parts j 0 ≤ joined parts i k
+pub part-of : (parts : List ℕ) (k b i j : ℕ) → j ≡ 4 * k + 2 * b + i → b < 2 → getD parts j 0 ≤ sumIn parts i k
 part-of parts k b i j e h = by (which b h)
   where
-    by : (b ≡ 0) ⊎ (b ≡ 1) → getD parts j 0 ≤ joined parts i k
+    by : (b ≡ 0) ⊎ (b ≡ 1) → getD parts j 0 ≤ sumIn parts i k
     by (inl z) = let p : j ≡ i + 4 * k = omega (arith, e, z) in rw p (omega arith)
     by (inr z) = let p : j ≡ i + 4 * k + 2 = omega (arith, e, z) in rw p (omega arith)
 
@@ -122,9 +123,9 @@ part-of parts k b i j e h = by (which b h)
 
 pub joinable : {parts : List ℕ} → Gatherable parts → {i : ℕ} → i < 2 → (c : ℕ) → c < 4 → (place : ℕ) → place ≡ i + 4 * c → Joinable place parts
 joinable pre {i} low c h place e =
-    rw e (record { inside = omega (arith, pre .places); both-fit = pre .joined-fits i c low h })
+    rw e (record { inside = omega (arith, pre .places); both-fit = pre .sums-fit i c low h })
 
-pub joins : {parts : List ℕ} → Gatherable parts → {i : ℕ} → i < 2 → {a b c d : ℕ} → a ≡ bothAt parts i → b ≡ bothAt parts (i + 4) → c ≡ bothAt parts (i + 8) → d ≡ bothAt parts (i + 12)
-    → a ∷ b ∷ c ∷ d ∷ [] ≡ tab 4 (joined parts i)
+pub joins : {parts : List ℕ} → Gatherable parts → {i : ℕ} → i < 2 → {a b c d : ℕ} → a ≡ twoParts parts i → b ≡ twoParts parts (i + 4) → c ≡ twoParts parts (i + 8) → d ≡ twoParts parts (i + 12)
+    → a ∷ b ∷ c ∷ d ∷ [] ≡ tab 4 (sumIn parts i)
 unfolding tabFrom
 joins pre {i} low a b c d = rw (a, b, c, d, add-zero i) refl

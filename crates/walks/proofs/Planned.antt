@@ -8,13 +8,13 @@ use Prim.Native.Nat.{ℕ, suc, _*_, _-_, _^_, _<_}
 use native.Mathlib.Nat.{mul-le-mul-left, mul-one, pow-succ'}
 use native.Mathlib.Omega.{arith}
 use lib.IntN.{ℤ, natAbs}
-use lib.ListN.{length, getD}
+use lib.ListN.{length}
 use Rattle.algebra.specs.Laws.Naturals.{Σℕ-cong}
 use Rattle.algebra.specs.Laws.Tab.{length-tab}
 use Rattle.contrasts.specs.Columns.{read}
 use Rattle.contrasts.specs.Laws.Divisors.{weight-pos}
 use Rattle.contrasts.specs.Rows.{rowOf}
-use Rattle.contrasts.specs.Totals.{Column, weight*, numeratorOf}
+use Rattle.contrasts.specs.Totals.{Column, numeratorOf}
 use Rattle.effects.specs.Effects.{effectRows, effectWeights}
 use Rattle.plan.specs.declared.types.Plan.{Plan}
 use Rattle.plan.specs.Laws.Accepted.{accepted}
@@ -25,7 +25,8 @@ use Rattle.rows.specs.Laws.Kinds.{four-kinds}
 use Rattle.rows.specs.Laws.Rows.{rows-few}
 use Rattle.walks.specs.declared.types.Sums.{Sums}
 use Rattle.walks.specs.After.{kindAt, numeratorAt, rowsAfter, sumsAfter}
-use Rattle.walks.specs.Inner.Ready.{Walkable, WalkableTwo, WalkableThree, PlanWalkable}
+use Rattle.walks.specs.Ready.{PlanWalkable}
+use Rattle.walks.specs.Inner.Ready.{Walkable, WalkableTwo, WalkableThree}
 use Rattle.walks.specs.Inner.Walk.{sumsBy, Walked, WalkedTwo, WalkedThree, zeros}
 use Rattle.walks.specs.Laws.After.{Agree, walked-agrees, row-there, two-agrees, three-agrees}
 

@@ -1,13 +1,17 @@
--- The walk over the totals.
+-- The loops over the totals.
 --
 --   Clearing xs i ys                               the first i rows are 0
 --   clearing-none, clearing-more, clearing-all     before the first row, after one more, after the last
 --   square-kept, numerator-kept                    a total squared, and times its weight, of a total as code holds it
 --   product-fits, product-is                       a numerator
 --   walking-none, walking-more, walking-all        before the first total, after one more, after the last
+--   rows-long, total-is, numerator-small           the rows stay as many, a total is as code holds it, a numerator fits
 --   addable, row-fits, check-fits                  what the next total brings fits
 --   gatherable                                     and so do the sums, when all have come
 --   own-row                                        at two levels a row is 0 before its effect has come
+--   brings-two, two-more                           there the next total can be brought, and brings one more
+--   pairs-none, second-there, pairs-more           and a turn is two of them
+--   brings-three, three-more                       the same at three levels, one at a time
 --
 -- No sum wraps: each numerator, and each sum of some of them, is at most the sum of all; and a total is at most its numerator in size, so
 -- the sum of the totals is within the same bound.
@@ -19,7 +23,6 @@ use native.Mathlib.Decide.{ℕ-discrete}
 use native.Mathlib.Nat.{mod-lt, zero-add}
 use native.Mathlib.Numerals.{add-one}
 use native.Mathlib.Omega.{arith}
-use borrow.Author.Tests.{ne-eqb}
 use lib.Dec.{lit<}
 use lib.Signed.{mag}
 use lib.IntN.{ℤ, natAbs, _+ℤ_}
@@ -28,7 +31,7 @@ use mir.Syntax.{w64}
 use mir.Val.{SFits, toZ, ofZ}
 use Rattle.algebra.specs.Laws.Fill.{Filled, filled-none, filled-long, filled-more, filled-all}
 use Rattle.algebra.specs.Laws.Machine.{fits, wrap, back, kept}
-use Rattle.algebra.specs.Laws.Naturals.{Σℕ-le, Σℕ-term, Σℕ-shorter, Σℕ-ones, Σℕ-none}
+use Rattle.algebra.specs.Laws.Naturals.{Σℕ-le, Σℕ-term, Σℕ-shorter, Σℕ-ones}
 use Rattle.algebra.specs.Laws.Size.{natAbs-Σ, size-below}
 use Rattle.algebra.specs.Laws.Sorted.{sorted-none, sorted-more, sorted-at, sum-least, sum-next, sum-own, sum-other, sum-low}
 use Rattle.algebra.specs.Laws.Tab.{length-tab, getD-tab, tab-cong}
@@ -37,7 +40,7 @@ use Rattle.algebra.specs.Sorted.{sumAt}
 use Rattle.algebra.specs.Sum.{Σ}
 use Rattle.contrasts.specs.Columns.{read}
 use Rattle.contrasts.specs.Totals.{Column}
-use Rattle.walks.specs.Inner.Parts.{placeOf, added, brought, joined, heldIn}
+use Rattle.walks.specs.Inner.Parts.{placeOf, plusAt, brought, sumIn, heldIn}
 use Rattle.walks.specs.Inner.Ready.{Weighable, Addable, Gatherable, BringsTwo, BringsThree, Walkable, WalkableTwo, WalkableThree}
 use Rattle.walks.specs.Inner.Walk.{sumsBy, Walking, WalkingTwo, WalkingThree, InPairs, Walked, zeros}
 use Rattle.walks.proofs.Parted.{which, part-of, own-numerators, own-degrees, other-still, brought-long}
@@ -93,7 +96,7 @@ module _ {row num kind : ℕ → ℕ} {t : Column} {n : ℕ} {rows₀ : List ℕ
         totals-hold = refl;
       }
     where
-      nothing : (i c : ℕ) → i < 2 → c < 4 → joined (replicate 16 0) i c ≡ 0
+      nothing : (i c : ℕ) → i < 2 → c < 4 → sumIn (replicate 16 0) i c ≡ 0
       nothing i c h k =
           rw (getD-replicate {A = ℕ} 16 (i + 4 * c) 0 0 (omega arith), getD-replicate {A = ℕ} 16 (i + 4 * c + 2) 0 0 (omega arith)) refl
 
@@ -117,12 +120,12 @@ module _ {row num kind : ℕ → ℕ} {t : Column} {n : ℕ} {rows₀ : List ℕ
     rows-long = rw (w .rows-hold) (length-tab (length rows₀) _)
 
     pub gatherable : Gatherable parts
-    gatherable = record { places = w .places; joined-fits = fit }
+    gatherable = record { places = w .places; sums-fit = fit }
       where
-        fit : (i c : ℕ) → i < 2 → c < 4 → joined parts i c < 2 ^ 63
+        fit : (i c : ℕ) → i < 2 → c < 4 → sumIn parts i c < 2 ^ 63
         fit i c h k = by (which i h)
           where
-            by : (i ≡ 0) ⊎ (i ≡ 1) → joined parts i c < 2 ^ 63
+            by : (i ≡ 0) ⊎ (i ≡ 1) → sumIn parts i c < 2 ^ 63
             by (inl z) = rw z (rw (w .numerators-hold c k) (omega (arith, pre .sum-fits, sum-least kind num e n c (w .upto))))
             by (inr z) =
                 rw z (rw (w .degrees-hold c k) (omega (arith, pre .few, Σℕ-ones n, sum-least kind (λ i. 1) e n c (w .upto))))
@@ -160,8 +163,8 @@ module _ {row num kind : ℕ → ℕ} {t : Column} {n : ℕ} {rows₀ : List ℕ
       check-fits = rw summed (fits (Σ (suc e) t) (sum-small (suc e) low))
 
       pub walking-more : (half : ℕ) → half < 2 → Walking row num kind t n (length rows₀) (e + 1)
-          (added rows (row e) (num e)) (brought parts (placeOf (kind e) half) (num e)) (ofZ w64 (toZ w64 s +ℤ wrap (t e)))
-      unfolding added
+          (plusAt rows (row e) (num e)) (brought parts (placeOf (kind e) half) (num e)) (ofZ w64 (toZ w64 s +ℤ wrap (t e)))
+      unfolding plusAt
       walking-more half b =
           record {
             upto = omega arith;
@@ -175,13 +178,13 @@ module _ {row num kind : ℕ → ℕ} {t : Column} {n : ℕ} {rows₀ : List ℕ
           k : kind e < 4
           k = pre .four-kinds e low
 
-          numerators : (c : ℕ) → Dec (c ≡ kind e) → c < 4 → joined (brought parts (placeOf (kind e) half) (num e)) 0 c ≡ sumAt kind num (suc e) c
+          numerators : (c : ℕ) → Dec (c ≡ kind e) → c < 4 → sumIn (brought parts (placeOf (kind e) half) (num e)) 0 c ≡ sumAt kind num (suc e) c
           numerators c (yes z) h =
               rw z (own-numerators parts (w .places) (kind e) half (num e) k b ∙ rw (w .numerators-hold (kind e) k) (sum-own kind num e))
           numerators c (no z) h =
               other-still parts (w .places) (kind e) half (num e) k b 0 c (lit< tt) z ∙ w .numerators-hold c h ∙ sum-other kind num e c z
 
-          degrees : (c : ℕ) → Dec (c ≡ kind e) → c < 4 → joined (brought parts (placeOf (kind e) half) (num e)) 1 c ≡ sumAt kind (λ i. 1) (suc e) c
+          degrees : (c : ℕ) → Dec (c ≡ kind e) → c < 4 → sumIn (brought parts (placeOf (kind e) half) (num e)) 1 c ≡ sumAt kind (λ i. 1) (suc e) c
           degrees c (yes z) h =
               rw z (own-degrees parts (w .places) (kind e) half (num e) k b ∙ rw (w .degrees-hold (kind e) k) (sum-own kind (λ i. 1) e))
           degrees c (no z) h =
@@ -193,8 +196,8 @@ module _ {row num kind : ℕ → ℕ} {t : Column} {n : ℕ} {rows₀ : List ℕ
         let z : e ≡ n = omega (arith, w .upto) in
         record {
           sums-are = λ i. record {
-            numerators = tab-cong 0 4 (joined parts 0) (sumAt kind num n) (λ c k. w .numerators-hold c k ∙ rw z refl) i;
-            degrees = tab-cong 0 4 (joined parts 1) (sumAt kind (λ i. 1) n) (λ c k. w .degrees-hold c k ∙ rw z refl) i;
+            numerators = tab-cong 0 4 (sumIn parts 0) (sumAt kind num n) (λ c k. w .numerators-hold c k ∙ rw z refl) i;
+            degrees = tab-cong 0 4 (sumIn parts 1) (sumAt kind (λ i. 1) n) (λ c k. w .degrees-hold c k ∙ rw z refl) i;
             totals = sum-is z i;
           };
           rows-are = w .rows-hold ∙ rw z refl;
@@ -207,8 +210,8 @@ module _ {row num kind : ℕ → ℕ} {t : Column} {n : ℕ} {rows₀ : List ℕ
 
 -- a row is 0 before its effect has come
 pub own-row : {num kind : ℕ → ℕ} {t : Column} {n r e : ℕ} {rows parts : List ℕ} {s : ℕ} → Walking (λ i. i) num kind t n r e rows parts s → e < r
-    → (m : ℕ) → set rows e m ≡ added rows e m
-unfolding added
+    → (m : ℕ) → set rows e m ≡ plusAt rows e m
+unfolding plusAt
 own-row {num} {r = r} {e = e} {rows} w low m =
     ap (set rows e) (sym (rw (sorted-at r (λ i. i) num e (w .rows-hold) e low, sum-low (λ i. i) num e e (λ i k z. omega (arith, k, z))) (zero-add m)))
 
@@ -277,10 +280,10 @@ module _ {ts : List ℤ} {effects weights kinds rows₀ : List ℕ} (pre : Walka
       })
 
   pub three-more : {rows′ parts′ : List ℕ}
-      → (rows′ ≡ added rows (getD effects e 0) (natAbs (wrap (read ts e)) * natAbs (wrap (read ts e)) * getD weights e 0))
+      → (rows′ ≡ plusAt rows (getD effects e 0) (natAbs (wrap (read ts e)) * natAbs (wrap (read ts e)) * getD weights e 0))
       × (parts′ ≡ brought parts (placeOf (getD kinds (getD effects e 0) 0) (e % 2)) (natAbs (wrap (read ts e)) * natAbs (wrap (read ts e)) * getD weights e 0))
       → WalkingThree ts effects weights kinds (length rows₀) (e + 1) rows′ parts′ (ofZ w64 (toZ w64 s +ℤ wrap (read ts e)))
   three-more h =
-      let rows-are = h .0 ∙ ap (λ z. added rows (getD effects e 0) (natAbs z * natAbs z * getD weights e 0)) own-total₃ in
+      let rows-are = h .0 ∙ ap (λ z. plusAt rows (getD effects e 0) (natAbs z * natAbs z * getD weights e 0)) own-total₃ in
       let parts-are = h .1 ∙ ap (λ z. brought parts (placeOf (getD kinds (getD effects e 0) 0) (e % 2)) (natAbs z * natAbs z * getD weights e 0)) own-total₃ in
       rw (rows-are, parts-are) (walking-more (pre .walkable) w low (e % 2) own-half)

@@ -7,7 +7,7 @@ use super::parts::add;
 use super::parts::place_of;
 use super::squares::numerator;
 use super::squares::square;
-ghost use Rattle.walks.specs.Inner.Parts.{placeOf, added, brought};
+ghost use Rattle.walks.specs.Inner.Parts.{placeOf, plusAt, brought};
 ghost use Rattle.walks.specs.Inner.Ready.{BringsTwo, BringsThree};
 
 // At two levels an effect is the only one of its row, which has its number, and its numerator is its total squared.
@@ -39,7 +39,7 @@ pub fn bring_three(
     parts: &mut [u64],
 )
     requires { ⌜ BringsThree row total weight kind half (now rows) (now parts) ⌝ }
-    ensures { λ _. ⌜ now (rows .exit) ≡ added (now (rows .entry)) row (natAbs total * natAbs total * weight) ⌝ }
+    ensures { λ _. ⌜ now (rows .exit) ≡ plusAt (now (rows .entry)) row (natAbs total * natAbs total * weight) ⌝ }
     ensures { λ _. ⌜ now (parts .exit) ≡ brought (now (parts .entry)) (placeOf kind half) (natAbs total * natAbs total * weight) ⌝ }
 {
     let n = numerator(total, weight);

@@ -5,7 +5,7 @@ ghost use Prim.Native.Nat.{_<_};
 ghost use Rattle.algebra.specs.Tab.{tab};
 use super::types::Sums;
 ghost use Rattle.walks.specs.Inner.Ready.{Addable, Joinable, Gatherable};
-ghost use Rattle.walks.specs.Inner.Parts.{placeOf, bothAt, joined, brought, heldIn};
+ghost use Rattle.walks.specs.Inner.Parts.{placeOf, twoParts, sumIn, brought, heldIn};
 
 // Where a part of a kind's sum stands: the first, 0, or the second, 1.
 pub fn place_of(kind: u8, half: usize) -> usize
@@ -27,7 +27,7 @@ pub fn add(place: usize, numerator: u64, parts: &mut [u64])
 // Both parts of a sum.
 fn both(parts: &[u64], place: usize) -> u64
     requires { ⌜ Joinable place (now parts) ⌝ }
-    ensures { λ r. ⌜ r ≡ bothAt (now (parts .entry)) place ⌝ }
+    ensures { λ r. ⌜ r ≡ twoParts (now (parts .entry)) place ⌝ }
 {
     parts[place] + parts[place + 2]
 }
@@ -35,7 +35,7 @@ fn both(parts: &[u64], place: usize) -> u64
 // The four sums of numerators, which begin at place 0, or of degrees, which begin at place 1.
 fn join(parts: &[u64], first: usize) -> [u64; 4]
     requires { ⌜ Gatherable (now parts) × (first < 2) ⌝ }
-    ensures { λ r. ⌜ r ≡ tab 4 (joined (now (parts .entry)) first) ⌝ }
+    ensures { λ r. ⌜ r ≡ tab 4 (sumIn (now (parts .entry)) first) ⌝ }
 {
     [
         both(parts, first),

@@ -2,7 +2,8 @@
 ghost use mathlib.Core.Path.{_≡_};
 ghost use Prim.Native.Nat.{_*_};
 ghost use lib.IntN.{natAbs};
-ghost use Rattle.walks.specs.Inner.Ready.{Squarable, Weighable};
+ghost use Rattle.walks.specs.Ready.{Squarable};
+ghost use Rattle.walks.specs.Inner.Ready.{Weighable};
 
 pub fn square(x: i64) -> u64
     requires { ⌜ Squarable x ⌝ }

@@ -10,7 +10,7 @@ use rows::kinds;
 ghost use Rattle.contrasts.specs.Columns.{read};
 ghost use Rattle.plan.specs.Plan.{runsOf};
 ghost use Rattle.walks.specs.After.{rowsAfter, sumsAfter};
-ghost use Rattle.walks.specs.Inner.Ready.{PlanWalkable};
+ghost use Rattle.walks.specs.Ready.{PlanWalkable};
 ghost use Rattle.walks.specs.Inner.Walk.{zeros};
 
 fn clear(rows: &mut [u64])

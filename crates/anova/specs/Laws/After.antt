@@ -19,7 +19,6 @@ use Rattle.plan.specs.Plan.{factorsOf, runsOf}
 use Rattle.rows.specs.Kinds.{rowsIn, Kind, kindOf, codeOf}
 use Rattle.rows.specs.Laws.Kinds.{four-kinds}
 use Rattle.walks.specs.After.{kindAt, numeratorAt, rowsAfter, sumsAfter}
-use Rattle.anova.specs.declared.types.Source.{Source}
 use Rattle.anova.specs.Table.{sourceOf, checksOf, rowsOf}
 
 module _ (p : Plan) (readings : List ℤ) where

@@ -1,6 +1,5 @@
 -- What the inner functions ask of what they are handed.
 --
---   Squarable x                        the square of x fits
 --   Weighable t w                      a numerator fits
 --   Addable place n parts              a numerator can be added at a place of the parts, and a degree at the next
 --   Joinable place parts               both parts of a sum can be added
@@ -8,7 +7,6 @@
 --   BringsTwo, BringsThree             what an effect brings fits, at two levels and at three
 --   Walkable row num kind t n rows     the walk stays within its rows and kinds, and its sums fit
 --   WalkableTwo, WalkableThree         so by the lists that the loops are handed
---   PlanWalkable p ts rows             totals and rows of an accepted plan, whose sums fit
 use mathlib.Core.Path.{_≡_}
 use mathlib.Core.List.{List}
 use Prim.Native.Nat.{ℕ, _+_, _*_, _^_, _<_, _≤_}
@@ -17,16 +15,8 @@ use lib.ListN.{length, getD}
 use Rattle.algebra.specs.Naturals.{Σℕ}
 use Rattle.contrasts.specs.Columns.{read}
 use Rattle.contrasts.specs.Totals.{Column}
-use Rattle.plan.specs.declared.types.Plan.{Plan}
-use Rattle.plan.specs.Check.{planRefused}
-use Rattle.plan.specs.Plan.{runsOf}
-use Rattle.rows.specs.Kinds.{rowsIn}
-use Rattle.walks.specs.After.{numeratorAt}
-use Rattle.walks.specs.Inner.Parts.{placeOf, bothAt, joined}
+use Rattle.walks.specs.Inner.Parts.{placeOf, twoParts, sumIn}
 use Rattle.walks.specs.Inner.Walk.{squareAt, numeratorBy, zeros}
-
-pub record Squarable (x : ℤ) : Type 0 where
-  pub square-fits : natAbs x * natAbs x < 2 ^ 63
 
 pub record Weighable (t : ℤ) (w : ℕ) : Type 0 where
   pub square-fits : natAbs t * natAbs t < 2 ^ 63
@@ -39,11 +29,11 @@ pub record Addable (place n : ℕ) (parts : List ℕ) : Type 0 where
 
 pub record Joinable (place : ℕ) (parts : List ℕ) : Type 0 where
   pub inside : place + 2 < length parts
-  pub both-fit : bothAt parts place < 2 ^ 63
+  pub both-fit : twoParts parts place < 2 ^ 63
 
 pub record Gatherable (parts : List ℕ) : Type 0 where
   pub places : length parts ≡ 16
-  pub joined-fits : (i c : ℕ) → i < 2 → c < 4 → joined parts i c < 2 ^ 63
+  pub sums-fit : (i c : ℕ) → i < 2 → c < 4 → sumIn parts i c < 2 ^ 63
 
 pub record BringsTwo (e : ℕ) (t : ℤ) (kind half : ℕ) (rows parts : List ℕ) : Type 0 where
   pub row-there : e < length rows
@@ -78,10 +68,3 @@ pub record WalkableThree (ts : List ℤ) (effects weights kinds rows : List ℕ)
   pub weights-long : length ts ≤ length weights
   pub kinds-long : length rows ≤ length kinds
   pub walkable : Walkable (λ i. getD effects i 0) (numeratorBy ts weights) (λ i. getD kinds (getD effects i 0) 0) (read ts) (length ts) rows
-
-pub record PlanWalkable (p : Plan) (ts : List ℤ) (rows : List ℕ) : Type 0 where
-  pub plan : planRefused p ≡ 0
-  pub whole : length ts ≡ runsOf p
-  pub rows-long : length rows ≡ rowsIn p
-  -- the sum of all numerators, which is the bound of every sum of some of them
-  pub sum-fits : Σℕ (runsOf p) (numeratorAt p (read ts)) < 2 ^ 63

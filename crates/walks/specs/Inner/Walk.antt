@@ -21,7 +21,7 @@ use Rattle.algebra.specs.Tab.{tab}
 use Rattle.contrasts.specs.Columns.{read}
 use Rattle.contrasts.specs.Totals.{Column}
 use Rattle.walks.specs.declared.types.Sums.{Sums}
-use Rattle.walks.specs.Inner.Parts.{joined}
+use Rattle.walks.specs.Inner.Parts.{sumIn}
 
 unfoldable pub sumsBy : (ℕ → ℕ) → (ℕ → ℕ) → Column → ℕ → Sums
 sumsBy kind num t e = record { numerators = sorted 4 kind num e; degrees = sorted 4 kind (λ i. 1) e; totals = Σ e t }
@@ -30,8 +30,8 @@ pub record Walking (row num kind : ℕ → ℕ) (t : Column) (n r e : ℕ) (rows
   pub upto : e ≤ n
   pub rows-hold : rows ≡ sorted r row num e
   pub places : length parts ≡ 16
-  pub numerators-hold : (c : ℕ) → c < 4 → joined parts 0 c ≡ sumAt kind num e c
-  pub degrees-hold : (c : ℕ) → c < 4 → joined parts 1 c ≡ sumAt kind (λ i. 1) e c
+  pub numerators-hold : (c : ℕ) → c < 4 → sumIn parts 0 c ≡ sumAt kind num e c
+  pub degrees-hold : (c : ℕ) → c < 4 → sumIn parts 1 c ≡ sumAt kind (λ i. 1) e c
   -- an i64 that code holds is its bits
   pub totals-hold : s ≡ ofZ w64 (Σ e t)
 

@@ -9,20 +9,20 @@
 use mathlib.Core.Path.{_≡_, refl, sym, _∙_, ap}
 use mathlib.Core.Bool.{true}
 use mathlib.Core.List.{List}
-use Prim.Native.Nat.{ℕ, _*_, _^_, _<_, _≤_}
+use Prim.Native.Nat.{ℕ, _*_, _^_, _<_}
 use native.Mathlib.Nat.{mul-one}
 use native.Mathlib.Omega.{arith}
 use borrow.Author.Tests.{lt-ltb}
 use lib.Dec.{ltb}
 use lib.IntN.{ℤ, natAbs}
-use lib.ListN.{length, getD, length-replicate}
+use lib.ListN.{getD, length-replicate}
 use mir.Syntax.{w64}
 use mir.Val.{toZ, ofZ}
 use Rattle.algebra.specs.Laws.Machine.{back}
 use Rattle.algebra.specs.Laws.Sorted.{sum-cong, sorted-cong}
 use Rattle.algebra.specs.Laws.Sum.{Σ-cong}
 use Rattle.algebra.specs.Laws.Tab.{getD-tab, tab-cong}
-use Rattle.algebra.specs.Sorted.{sumAt, sorted}
+use Rattle.algebra.specs.Sorted.{sumAt}
 use Rattle.algebra.specs.Sum.{Σ}
 use Rattle.algebra.specs.Tab.{tab}
 use Rattle.contrasts.specs.Columns.{read}
@@ -41,7 +41,7 @@ use Rattle.rows.specs.Kinds.{rowsIn, kindOf, codeOf, kindsOf}
 use Rattle.rows.specs.Laws.Rows.{rows-few}
 use Rattle.walks.specs.declared.types.Sums.{Sums}
 use Rattle.walks.specs.After.{kindAt, numeratorAt, rowsAfter, sumsAfter}
-use Rattle.walks.specs.Inner.Parts.{joined, heldIn}
+use Rattle.walks.specs.Inner.Parts.{sumIn, heldIn}
 use Rattle.walks.specs.Inner.Walk.{sumsBy, Walking, Walked, squareAt, numeratorBy}
 
 -- ---- lists that agree
@@ -139,8 +139,8 @@ module _ (p : Plan) (marks : List ℕ) {t : Column} {n e : ℕ} {rows parts : Li
   unfolding heldIn sumsAfter
   sums-after h =
       λ i. record {
-        numerators = tab-cong 0 4 (joined parts 0) (sumAt (kindAt p marks) (numeratorAt p t) e) (w .numerators-hold) i;
-        degrees = tab-cong 0 4 (joined parts 1) (sumAt (kindAt p marks) (λ j. 1) e) (w .degrees-hold) i;
+        numerators = tab-cong 0 4 (sumIn parts 0) (sumAt (kindAt p marks) (numeratorAt p t) e) (w .numerators-hold) i;
+        degrees = tab-cong 0 4 (sumIn parts 1) (sumAt (kindAt p marks) (λ j. 1) e) (w .degrees-hold) i;
         totals = held i;
       }
     where

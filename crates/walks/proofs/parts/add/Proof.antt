@@ -1,13 +1,13 @@
 use mathlib.Core.Path.{refl}
 use native.Mathlib.Omega.{arith}
 use borrow.Author.Needs.{needs}
-use Rattle.walks.specs.Inner.Parts.{added, brought}
+use Rattle.walks.specs.Inner.Parts.{plusAt, brought}
 use Rattle.walks.proofs.Parted.{next-still}
 use Rattle.walks.proofs.parts.add.Statement.{statement}
 use Rattle.walks.proofs.parts.add.Tie as tie
 
 pub add-spec : {M : Type 1} → statement M
-unfolding brought added
+unfolding brought plusAt
 add-spec =
     tie.close
     (tie.spec
