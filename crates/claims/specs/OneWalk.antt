@@ -8,7 +8,7 @@
 --   AtEnd p readings marks totals rows      after N totals they are the table's rows and figures
 --   OneWalk                                 THE CLAIM
 --
--- The state is that of the loop itself: `InPairs`, with `WalkingTwo`, and `WalkingThree` are the invariants in the proofs of `walk_two` and
+-- The state is that of the loop itself: `InPairs`, which has `WalkingTwo`, and `WalkingThree` are the invariants in the proofs of `walk_two` and
 -- `walk_three` of `walks`, and the lists below are those that these are handed. At two levels a turn is two effects, and between them the
 -- state is `WalkingTwo` too (`two-more`). That e is at most N is in the state, `upto`.
 use mathlib.Core.Path.{_≡_}
@@ -26,8 +26,7 @@ use Rattle.plan.specs.Plan.{factorsOf, runsOf}
 use Rattle.rows.specs.Kinds.{rowsIn, Kind, meanRow, blocksRow, errorRow, keptRow, codeOf, kindsOf}
 use Rattle.walks.specs.declared.types.Sums.{Sums}
 use Rattle.walks.specs.After.{rowsAfter, sumsAfter}
-use Rattle.walks.specs.Inner.Parts.{heldIn}
-use Rattle.walks.specs.Inner.Walk.{WalkingTwo, WalkingThree}
+use Rattle.walks.specs.State.{heldIn, WalkingTwo, WalkingThree}
 use Rattle.anova.specs.declared.types.Source.{Source}
 use Rattle.anova.specs.Table.{tableRefused, tableFigures, tableRows}
 

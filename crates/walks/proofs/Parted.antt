@@ -16,7 +16,8 @@ use native.Mathlib.Omega.{arith}
 use lib.ListN.{length, getD, set, length-set}
 use lib.Seq.{getD-set-same, getD-set-other}
 use Rattle.algebra.specs.Tab.{tab, tabFrom}
-use Rattle.walks.specs.Inner.Parts.{plusAt, brought, twoParts, sumIn}
+use Rattle.walks.specs.State.{twoParts, sumIn}
+use Rattle.walks.specs.Inner.Parts.{plusAt, brought}
 use Rattle.walks.specs.Inner.Ready.{Joinable, Gatherable}
 
 -- ---- one place

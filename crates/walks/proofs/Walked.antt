@@ -40,9 +40,10 @@ use Rattle.algebra.specs.Sorted.{sumAt}
 use Rattle.algebra.specs.Sum.{Σ}
 use Rattle.contrasts.specs.Columns.{read}
 use Rattle.contrasts.specs.Totals.{Column}
-use Rattle.walks.specs.Inner.Parts.{placeOf, plusAt, brought, sumIn, heldIn}
+use Rattle.walks.specs.State.{sumIn, heldIn, Walking, WalkingTwo, WalkingThree, InPairs}
+use Rattle.walks.specs.Inner.Parts.{placeOf, plusAt, brought}
 use Rattle.walks.specs.Inner.Ready.{Weighable, Addable, Gatherable, BringsTwo, BringsThree, Walkable, WalkableTwo, WalkableThree}
-use Rattle.walks.specs.Inner.Walk.{sumsBy, Walking, WalkingTwo, WalkingThree, InPairs, Walked, zeros}
+use Rattle.walks.specs.Inner.Walk.{sumsBy, Walked, zeros}
 use Rattle.walks.proofs.Parted.{which, part-of, own-numerators, own-degrees, other-still, brought-long}
 
 -- ---- rows of 0

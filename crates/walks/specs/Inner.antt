@@ -1,7 +1,7 @@
 -- What the inner functions ask of what they are handed, and what they leave; no promise of a call.
 --
---   Parts   the sums of the four kinds, each held in two parts
---   Walk    the walk over lists of totals, rows, weights and kinds: its state after e totals
+--   Parts   what is done to the parts of the sums
+--   Walk    what the loops leave
 --   Ready   what they ask
 pub mod Parts
 pub mod Walk

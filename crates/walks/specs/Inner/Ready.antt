@@ -15,8 +15,9 @@ use lib.ListN.{length, getD}
 use Rattle.algebra.specs.Naturals.{Σℕ}
 use Rattle.contrasts.specs.Columns.{read}
 use Rattle.contrasts.specs.Totals.{Column}
-use Rattle.walks.specs.Inner.Parts.{placeOf, twoParts, sumIn}
-use Rattle.walks.specs.Inner.Walk.{squareAt, numeratorBy, zeros}
+use Rattle.walks.specs.State.{twoParts, sumIn, squareAt, numeratorBy}
+use Rattle.walks.specs.Inner.Parts.{placeOf}
+use Rattle.walks.specs.Inner.Walk.{zeros}
 
 pub record Weighable (t : ℤ) (w : ℕ) : Type 0 where
   pub square-fits : natAbs t * natAbs t < 2 ^ 63

@@ -1,59 +1,24 @@
--- The walk by lists: effect i goes to row `row i`, brings the numerator `num i`, is of the kind `kind i`, and has the total `t i`.
+-- What the loops leave, by the lists that they are handed.
 --
---   sumsBy kind num t e                          the sums after e totals
---   Walking row num kind t n r e rows parts s    the state of a loop over n totals, after e of them: rows, parts of the sums, sum of the totals
---   squareAt ts i                                a total squared
---   numeratorBy ts weights i                     and times its weight
---   WalkingTwo, WalkingThree                     the state of the loop at two levels, and at three, by the lists that it is handed
---   InPairs                                      the same between turns of the loop at two levels, each of which is two effects
---   WalkedTwo, WalkedThree                       what the loop answers, and the rows that it leaves
---   zeros n                                      a column of n zeros
+--   sumsBy kind num t e                     the sums after e totals
+--   Walked row num kind t n r s rows        after all n totals a loop answers s and leaves rows
+--   WalkedTwo, WalkedThree                  so the loop at two levels, and at three
+--   zeros n                                 a column of n zeros
 use mathlib.Core.Path.{_≡_}
 use mathlib.Core.List.{List}
-use Prim.Native.Nat.{ℕ, _*_, _<_, _≤_}
-use lib.IntN.{ℤ, natAbs}
+use Prim.Native.Nat.{ℕ}
+use lib.IntN.{ℤ}
 use lib.ListN.{length, getD}
-use mir.Syntax.{w64}
-use mir.Val.{ofZ}
-use Rattle.algebra.specs.Sorted.{sumAt, sorted}
+use Rattle.algebra.specs.Sorted.{sorted}
 use Rattle.algebra.specs.Sum.{Σ}
 use Rattle.algebra.specs.Tab.{tab}
 use Rattle.contrasts.specs.Columns.{read}
 use Rattle.contrasts.specs.Totals.{Column}
 use Rattle.walks.specs.declared.types.Sums.{Sums}
-use Rattle.walks.specs.Inner.Parts.{sumIn}
+use Rattle.walks.specs.State.{squareAt, numeratorBy}
 
 unfoldable pub sumsBy : (ℕ → ℕ) → (ℕ → ℕ) → Column → ℕ → Sums
 sumsBy kind num t e = record { numerators = sorted 4 kind num e; degrees = sorted 4 kind (λ i. 1) e; totals = Σ e t }
-
-pub record Walking (row num kind : ℕ → ℕ) (t : Column) (n r e : ℕ) (rows parts : List ℕ) (s : ℕ) : Type 0 where
-  pub upto : e ≤ n
-  pub rows-hold : rows ≡ sorted r row num e
-  pub places : length parts ≡ 16
-  pub numerators-hold : (c : ℕ) → c < 4 → sumIn parts 0 c ≡ sumAt kind num e c
-  pub degrees-hold : (c : ℕ) → c < 4 → sumIn parts 1 c ≡ sumAt kind (λ i. 1) e c
-  -- an i64 that code holds is its bits
-  pub totals-hold : s ≡ ofZ w64 (Σ e t)
-
-abbrev pub squareAt : List ℤ → ℕ → ℕ
-squareAt ts i = natAbs (read ts i) * natAbs (read ts i)
-
-abbrev pub numeratorBy : List ℤ → List ℕ → ℕ → ℕ
-numeratorBy ts weights i = natAbs (read ts i) * natAbs (read ts i) * getD weights i 0
-
--- at two levels an effect has a row of its own, with its number, and all weights are 1
-abbrev pub WalkingTwo : List ℤ → List ℕ → ℕ → ℕ → List ℕ → List ℕ → ℕ → Type 0
-WalkingTwo ts kinds r e rows parts s = Walking (λ i. i) (squareAt ts) (λ i. getD kinds i 0) (read ts) (length ts) r e rows parts s
-
-abbrev pub WalkingThree : List ℤ → List ℕ → List ℕ → List ℕ → ℕ → ℕ → List ℕ → List ℕ → ℕ → Type 0
-WalkingThree ts effects weights kinds r e rows parts s =
-    Walking (λ i. getD effects i 0) (numeratorBy ts weights) (λ i. getD kinds (getD effects i 0) 0) (read ts) (length ts) r e rows parts s
-
--- a turn at two levels is two effects
-pub record InPairs (ts : List ℤ) (kinds : List ℕ) (r e : ℕ) (rows parts : List ℕ) (s : ℕ) : Type 0 where
-  pub pairs : ℕ
-  pub whole : e ≡ 2 * pairs
-  pub walking : WalkingTwo ts kinds r e rows parts s
 
 pub record Walked (row num kind : ℕ → ℕ) (t : Column) (n r : ℕ) (s : Sums) (rows : List ℕ) : Type 0 where
   pub sums-are : s ≡ sumsBy kind num t n

@@ -41,8 +41,8 @@ use Rattle.rows.specs.Kinds.{rowsIn, kindOf, codeOf, kindsOf}
 use Rattle.rows.specs.Laws.Rows.{rows-few}
 use Rattle.walks.specs.declared.types.Sums.{Sums}
 use Rattle.walks.specs.After.{kindAt, numeratorAt, rowsAfter, sumsAfter}
-use Rattle.walks.specs.Inner.Parts.{sumIn, heldIn}
-use Rattle.walks.specs.Inner.Walk.{sumsBy, Walking, Walked, squareAt, numeratorBy}
+use Rattle.walks.specs.State.{sumIn, heldIn, Walking, squareAt, numeratorBy}
+use Rattle.walks.specs.Inner.Walk.{sumsBy, Walked}
 
 -- ---- lists that agree
 

@@ -1,8 +1,8 @@
 use lib.Dec.{lit<}
 use Rattle.algebra.specs.Laws.Machine.{kept}
-use Rattle.walks.specs.Inner.Parts.{heldIn}
 use Rattle.walks.proofs.parts.gather.Statement.{statement}
 use Rattle.walks.proofs.parts.gather.Tie as tie
+use Rattle.walks.specs.State.{heldIn}
 
 pub gather-spec : {M : Type 1} → statement M
 unfolding heldIn

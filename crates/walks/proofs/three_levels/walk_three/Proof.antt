@@ -2,10 +2,10 @@ use mathlib.Core.Path.{sym, _∙_}
 use Prim.Native.Nat.{_-_}
 use native.Mathlib.Omega.{arith}
 use lib.ListN.{length}
-use Rattle.walks.specs.Inner.Walk.{WalkingThree}
 use Rattle.walks.proofs.Walked.{walking-none, walking-all, rows-long, check-fits, gatherable, brings-three, three-more}
 use Rattle.walks.proofs.three_levels.walk_three.Statement.{statement}
 use Rattle.walks.proofs.three_levels.walk_three.Tie as tie
+use Rattle.walks.specs.State.{WalkingThree}
 
 abbrev Inv-loop : tie.InvT-loop
 Inv-loop totals effects weights kinds rows₀ _ _ _ rows parts sum e = WalkingThree totals effects weights kinds (length rows₀) e rows parts sum

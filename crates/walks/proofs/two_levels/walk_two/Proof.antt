@@ -3,10 +3,10 @@ use Prim.Native.Nat.{_-_}
 use native.Mathlib.Omega.{arith}
 use lib.Dec.{lit<}
 use lib.ListN.{length}
-use Rattle.walks.specs.Inner.Walk.{InPairs}
 use Rattle.walks.proofs.Walked.{walking-all, rows-long, check-fits, gatherable, brings-two, two-more, pairs-none, second-there, pairs-more}
 use Rattle.walks.proofs.two_levels.walk_two.Statement.{statement}
 use Rattle.walks.proofs.two_levels.walk_two.Tie as tie
+use Rattle.walks.specs.State.{InPairs}
 
 abbrev Inv-loop : tie.InvT-loop
 Inv-loop totals kinds rows₀ _ _ _ rows parts sum e = InPairs totals kinds (length rows₀) e rows parts sum
