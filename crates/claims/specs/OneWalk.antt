@@ -1,12 +1,12 @@
 -- V14, V15: "form row numerators and the four sums in one walk over the totals that reads each once. Prove for every e up to N: after e
 -- totals, rows and sums hold exactly what effects 0 to e - 1 bring."
 --
---   totalIn p readings                      the total of each effect
---   Holds p readings marks e rows parts s   rows and sums, as a loop holds them, are those after e totals
---   EveryTotal p readings marks             so it is of the state of the table call's loop, for every e
---   sourceIn s c                            what the sums s have of the kind c
---   AtEnd p readings marks totals rows      after N totals they are the table's rows and figures
---   OneWalk                                 THE CLAIM
+--   totalIn p readings                          the total of each effect
+--   HeldAfter p readings marks e rows parts s   rows and sums, as a loop holds them, are those after e totals
+--   EveryTotal p readings marks                 so it is of the state of the table call's loop, for every e
+--   sourceIn s c                                what the sums s have of the kind c
+--   AtEnd p readings marks totals rows          after N totals they are the table's rows and figures
+--   OneWalk                                     THE CLAIM
 --
 -- The state is that of the loop itself: `InPairs`, which has `WalkingTwo`, and `WalkingThree` are the invariants in the proofs of `walk_two` and
 -- `walk_three` of `walks`, and the lists below are those that these are handed. At two levels a turn is two effects, and between them the
@@ -35,7 +35,7 @@ abbrev pub totalIn : Plan → List ℤ → Column
 totalIn p readings = total (factorsOf p) (read readings)
 
 -- "after e totals, rows and sums hold exactly what effects 0 to e - 1 bring"
-pub record Holds (p : Plan) (readings : List ℤ) (marks : List ℕ) (e : ℕ) (rows parts : List ℕ) (s : ℕ) : Type 0 where
+pub record HeldAfter (p : Plan) (readings : List ℤ) (marks : List ℕ) (e : ℕ) (rows parts : List ℕ) (s : ℕ) : Type 0 where
   pub rows-are : rows ≡ rowsAfter p (totalIn p readings) e
   -- four sums of numerators, four of degrees, each in two parts, and the sum of the totals, of which the loop holds the bits
   pub sums-are : heldIn parts (toZ w64 s) ≡ sumsAfter p (totalIn p readings) marks e
@@ -44,10 +44,10 @@ pub record Holds (p : Plan) (readings : List ℤ) (marks : List ℕ) (e : ℕ) (
 pub record EveryTotal (p : Plan) (readings : List ℤ) (marks : List ℕ) : Type 0 where
   pub two-levels : p .levels ≡ 2 → (e : ℕ) (rows parts : List ℕ) (s : ℕ)
       → WalkingTwo (totalsOf (factorsOf p) readings) (kindsOf p marks) (rowsIn p) e rows parts s
-      → Holds p readings marks e rows parts s
+      → HeldAfter p readings marks e rows parts s
   pub three-levels : p .levels ≡ 3 → (e : ℕ) (rows parts : List ℕ) (s : ℕ)
       → WalkingThree (totalsOf (factorsOf p) readings) (effectRows p) (effectWeights p) (kindsOf p marks) (rowsIn p) e rows parts s
-      → Holds p readings marks e rows parts s
+      → HeldAfter p readings marks e rows parts s
 
 -- V10
 abbrev pub sourceIn : Sums → Kind → Source

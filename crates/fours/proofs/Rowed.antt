@@ -14,7 +14,7 @@ use Rattle.algebra.specs.Laws.Machine.{wrap, back}
 use Rattle.contrasts.specs.Laws.Sets.{sum-size, less-size}
 use Rattle.contrasts.specs.Laws.Small.{Small, Mild, sum-mild, less-mild, held}
 use Rattle.fours.specs.declared.rows.Rows.{Rows}
-use Rattle.fours.specs.Inner.Rows.{rowsOf, putRows, MildRows, FourPlaces}
+use Rattle.fours.specs.Inner.Rows.{rowsBy, putRows, MildRows, FourPlaces}
 
 pub same-rows : {a b c d : ℤ} → a ≡ c → b ≡ d → _≡_ {A = Rows} (record { sum = a; gap = b }) (record { sum = c; gap = d })
 same-rows p q = rw (p, q) refl
@@ -22,10 +22,10 @@ same-rows p q = rw (p, q) refl
 -- ---- values that code holds
 
 module _ {a b : ℤ} (sa : Mild a) (sb : Mild b) where
-  pub rows-held : rowsOf (wrap a) (wrap b) ≡ rowsOf a b
+  pub rows-held : rowsBy (wrap a) (wrap b) ≡ rowsBy a b
   rows-held = rw (held sa, held sb) refl
 
-  module _ {r : Rows} (e : r ≡ rowsOf (wrap a) (wrap b)) where
+  module _ {r : Rows} (e : r ≡ rowsBy (wrap a) (wrap b)) where
     pub sum-back : wrap (r .sum) ≡ a +ℤ b
     sum-back = rw (e ∙ rows-held) (back (a +ℤ b) (sum-size sa sb))
 
@@ -34,11 +34,11 @@ module _ {a b : ℤ} (sa : Mild a) (sb : Mild b) where
 
 -- ---- one pass, and the next
 
-pub rows-mild : {a b : ℤ} → Small a → Small b → MildRows (rowsOf a b)
+pub rows-mild : {a b : ℤ} → Small a → Small b → MildRows (rowsBy a b)
 rows-mild sa sb = record { sum = sum-mild sa sb; gap = less-mild sa sb }
 
 module _ {xs : List ℤ} {i h : ℕ} {l u : Rows} (pre : FourPlaces xs i h l u) {s g : Rows}
-    (es : s ≡ rowsOf (wrap (l .sum)) (wrap (u .sum))) (eg : g ≡ rowsOf (wrap (l .gap)) (wrap (u .gap))) where
+    (es : s ≡ rowsBy (wrap (l .sum)) (wrap (u .sum))) (eg : g ≡ rowsBy (wrap (l .gap)) (wrap (u .gap))) where
   pub put-made : set (set (set (set xs
       i (wrap (s .sum))) (i + h) (wrap (g .sum)))
       (i + 2 * h) (wrap (s .gap))) (i + 3 * h) (wrap (g .gap))

@@ -29,7 +29,7 @@ use Rattle.contrasts.specs.Laws.Small.{Small, mild-small}
 use Rattle.contrasts.specs.Laws.Stretches.{passOver}
 use Rattle.contrasts.specs.Laws.TwoLevels.{pass-two}
 use Rattle.fours.specs.declared.rows.Rows.{Rows}
-use Rattle.fours.specs.Inner.Rows.{rowsOf, rowsFrom, sumsOf, gapsOf, putRows, TwoReadings, MildRows, FourPlaces}
+use Rattle.fours.specs.Inner.Rows.{rowsBy, rowsFrom, sumsOf, gapsOf, putRows, TwoReadings, MildRows, FourPlaces}
 use Rattle.fours.specs.Inner.Stretch.{FirstFour, Fours}
 use Rattle.fours.proofs.Rowed.{rows-held, rows-mild}
 
@@ -45,7 +45,7 @@ pub record TwoAt (f : Column) (p q : ℕ) (r : Rows) : Type 0 where
 
 -- of a pair in stretch k, at the offset i
 two-rows : (s : ℕ) (x : Column) (k i : ℕ) {p q : ℕ} → p ≡ k * (2 * s) + i → i < s → p + s ≡ q
-    → {a b : ℤ} → x p ≡ a → x q ≡ b → TwoAt (passAt s two x) p q (rowsOf a b)
+    → {a b : ℤ} → x p ≡ a → x q ≡ b → TwoAt (passAt s two x) p q (rowsBy a b)
 two-rows s x k i {p} place low e ea eb =
     let r = pass-two s x k i p place low in
     record { first = rw (e, ea, eb) at (r .0); second = rw (e, ea, eb) at (r .1) }
@@ -56,7 +56,7 @@ pub record Four (f : Column) (h i : ℕ) (l u : Rows) : Type 0 where
 
 -- y is what the first pass makes of x
 four-values : (h i : ℕ) (x y : Column) → ((n : ℕ) → n < 4 * h → y n ≡ passAt h two x n) → i < h
-    → Four (passAt (2 * h) two y) h i (rowsOf (x i) (x (i + h))) (rowsOf (x (i + 2 * h)) (x (i + 3 * h)))
+    → Four (passAt (2 * h) two y) h i (rowsBy (x i) (x (i + h))) (rowsBy (x (i + 2 * h)) (x (i + 3 * h)))
 four-values h i x y same low =
     record {
       sums =
@@ -67,14 +67,14 @@ four-values h i x y same low =
           (same (i + h) (omega arith) ∙ l .second) (same (i + 3 * h) (omega arith) ∙ u .second);
     }
   where
-    l : TwoAt (passAt h two x) i (i + h) (rowsOf (x i) (x (i + h)))
+    l : TwoAt (passAt h two x) i (i + h) (rowsBy (x i) (x (i + h)))
     l = two-rows h x 0 i (omega arith) low refl refl refl
 
-    u : TwoAt (passAt h two x) (i + 2 * h) (i + 3 * h) (rowsOf (x (i + 2 * h)) (x (i + 3 * h)))
+    u : TwoAt (passAt h two x) (i + 2 * h) (i + 3 * h) (rowsBy (x (i + 2 * h)) (x (i + 3 * h)))
     u = two-rows h x 1 i (omega arith) low (omega arith) refl refl
 
 four-rows : (h i : ℕ) (xs : List ℤ) → length xs ≡ 4 * h → i < h
-    → Four (bothAt h two xs) h i (rowsOf (read xs i) (read xs (i + h))) (rowsOf (read xs (i + 2 * h)) (read xs (i + 3 * h)))
+    → Four (bothAt h two xs) h i (rowsBy (read xs i) (read xs (i + h))) (rowsBy (read xs (i + 2 * h)) (read xs (i + 3 * h)))
 unfolding passOver two
 four-rows h i xs whole low =
     four-values h i (read xs) _ (λ n k. getD-tab (pos 0) (length xs) (passAt h two (read xs)) n (rw whole k)) low
@@ -113,8 +113,8 @@ module _ {h : ℕ} {xs : List ℤ} (pre : Fours h xs) {i : ℕ} {ys : List ℤ} 
   pub value-small : (d : ℕ) → d < 4 → (p : ℕ) → i + d * h ≡ p → Small (read ys p)
   value-small = both-small two pre w low
 
-  module _ {l u : Rows} (el : l ≡ rowsOf (wrap (read ys i)) (wrap (read ys (i + h))))
-      (eu : u ≡ rowsOf (wrap (read ys (i + 2 * h))) (wrap (read ys (i + 3 * h)))) where
+  module _ {l u : Rows} (el : l ≡ rowsBy (wrap (read ys i)) (wrap (read ys (i + h))))
+      (eu : u ≡ rowsBy (wrap (read ys (i + 2 * h))) (wrap (read ys (i + 3 * h)))) where
     s0 : Small (read ys i)
     s0 = value-small 0 (lit< tt) i (omega arith)
 
@@ -127,10 +127,10 @@ module _ {h : ℕ} {xs : List ℤ} (pre : Fours h xs) {i : ℕ} {ys : List ℤ} 
     s3 : Small (read ys (i + 3 * h))
     s3 = value-small 3 (lit< tt) (i + 3 * h) refl
 
-    low-is : l ≡ rowsOf (read ys i) (read ys (i + h))
+    low-is : l ≡ rowsBy (read ys i) (read ys (i + h))
     low-is = el ∙ rows-held (mild-small s0) (mild-small s1)
 
-    high-is : u ≡ rowsOf (read ys (i + 2 * h)) (read ys (i + 3 * h))
+    high-is : u ≡ rowsBy (read ys (i + 2 * h)) (read ys (i + 3 * h))
     high-is = eu ∙ rows-held (mild-small s2) (mild-small s3)
 
     pub four-ready : FourPlaces ys i h l u

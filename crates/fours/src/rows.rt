@@ -1,7 +1,7 @@
 // The two rows of two values: of one pair at the first pass, and of two of these at the second.
 ghost use mathlib.Core.Path.{_≡_};
 ghost use Rattle.contrasts.specs.Laws.Small.{Mild};
-ghost use Rattle.fours.specs.Inner.Rows.{rowsOf, rowsFrom, putRows, TwoReadings, FourPlaces};
+ghost use Rattle.fours.specs.Inner.Rows.{rowsBy, rowsFrom, putRows, TwoReadings, FourPlaces};
 
 // The sum, and first minus second.
 pub struct Rows {
@@ -11,7 +11,7 @@ pub struct Rows {
 
 pub fn rows_of(first: i64, second: i64) -> Rows
     requires { ⌜ Mild first × Mild second ⌝ }
-    ensures { λ r. ⌜ r ≡ rowsOf first second ⌝ }
+    ensures { λ r. ⌜ r ≡ rowsBy first second ⌝ }
 {
     Rows {
         sum: first + second,

@@ -15,7 +15,7 @@ use Rattle.algebra.specs.Laws.Machine.{wrap, back}
 use Rattle.contrasts.specs.Laws.Sets.{less-size, all-size, third-size}
 use Rattle.contrasts.specs.Laws.Small.{Small, Mild, less-mild, all-mild, third-mild, held}
 use Rattle.nines.specs.declared.rows.Rows.{Rows}
-use Rattle.nines.specs.Inner.Rows.{rowsOf, putRows, MildRows, NinePlaces}
+use Rattle.nines.specs.Inner.Rows.{rowsBy, putRows, MildRows, NinePlaces}
 
 pub same-rows : {a b c d e f : ℤ} → a ≡ d → b ≡ e → c ≡ f
     → _≡_ {A = Rows} (record { sum = a; gap = b; curve = c }) (record { sum = d; gap = e; curve = f })
@@ -24,10 +24,10 @@ same-rows p q r = rw (p, q, r) refl
 -- ---- values that code holds
 
 module _ {a b c : ℤ} (sa : Mild a) (sb : Mild b) (sc : Mild c) where
-  pub rows-held : rowsOf (wrap a) (wrap b) (wrap c) ≡ rowsOf a b c
+  pub rows-held : rowsBy (wrap a) (wrap b) (wrap c) ≡ rowsBy a b c
   rows-held = rw (held sa, held sb, held sc) refl
 
-  module _ {r : Rows} (e : r ≡ rowsOf (wrap a) (wrap b) (wrap c)) where
+  module _ {r : Rows} (e : r ≡ rowsBy (wrap a) (wrap b) (wrap c)) where
     pub sum-back : wrap (r .sum) ≡ a +ℤ b +ℤ c
     sum-back = rw (e ∙ rows-held) (back (a +ℤ b +ℤ c) (all-size sa sb sc))
 
@@ -39,13 +39,13 @@ module _ {a b c : ℤ} (sa : Mild a) (sb : Mild b) (sc : Mild c) where
 
 -- ---- one pass, and the next
 
-pub rows-mild : {a b c : ℤ} → Small a → Small b → Small c → MildRows (rowsOf a b c)
+pub rows-mild : {a b c : ℤ} → Small a → Small b → Small c → MildRows (rowsBy a b c)
 rows-mild sa sb sc = record { sum = all-mild sa sb sc; gap = less-mild sa sc; curve = third-mild sa sb sc }
 
 module _ {xs : List ℤ} {i h : ℕ} {l m u : Rows} (pre : NinePlaces xs i h l m u) {s g c : Rows}
-    (es : s ≡ rowsOf (wrap (l .sum)) (wrap (m .sum)) (wrap (u .sum)))
-    (eg : g ≡ rowsOf (wrap (l .gap)) (wrap (m .gap)) (wrap (u .gap)))
-    (ec : c ≡ rowsOf (wrap (l .curve)) (wrap (m .curve)) (wrap (u .curve))) where
+    (es : s ≡ rowsBy (wrap (l .sum)) (wrap (m .sum)) (wrap (u .sum)))
+    (eg : g ≡ rowsBy (wrap (l .gap)) (wrap (m .gap)) (wrap (u .gap)))
+    (ec : c ≡ rowsBy (wrap (l .curve)) (wrap (m .curve)) (wrap (u .curve))) where
   pub put-made : set (set (set (set (set (set (set (set (set xs
       i (wrap (s .sum))) (i + h) (wrap (g .sum))) (i + 2 * h) (wrap (c .sum)))
       (i + 3 * h) (wrap (s .gap))) (i + 4 * h) (wrap (g .gap))) (i + 5 * h) (wrap (c .gap)))

@@ -29,7 +29,7 @@ use Rattle.contrasts.specs.Laws.Small.{Small, mild-small}
 use Rattle.contrasts.specs.Laws.Stretches.{passOver}
 use Rattle.contrasts.specs.Laws.ThreeLevels.{pass-three}
 use Rattle.nines.specs.declared.rows.Rows.{Rows}
-use Rattle.nines.specs.Inner.Rows.{rowsOf, rowsFrom, sumsOf, gapsOf, curvesOf, putRows, ThreeReadings, MildRows, NinePlaces}
+use Rattle.nines.specs.Inner.Rows.{rowsBy, rowsFrom, sumsOf, gapsOf, curvesOf, putRows, ThreeReadings, MildRows, NinePlaces}
 use Rattle.nines.specs.Inner.Stretch.{FirstNine, Nines}
 use Rattle.nines.proofs.Rowed.{rows-held, rows-mild}
 
@@ -46,7 +46,7 @@ pub record ThreeAt (f : Column) (p q t : ℕ) (r : Rows) : Type 0 where
 
 -- of a set of three in stretch k, at the offset i
 three-rows : (s : ℕ) (x : Column) (k i : ℕ) {p q t : ℕ} → p ≡ k * (3 * s) + i → i < s → p + s ≡ q → p + 2 * s ≡ t
-    → {a b c : ℤ} → x p ≡ a → x q ≡ b → x t ≡ c → ThreeAt (passAt s three x) p q t (rowsOf a b c)
+    → {a b c : ℤ} → x p ≡ a → x q ≡ b → x t ≡ c → ThreeAt (passAt s three x) p q t (rowsBy a b c)
 three-rows s x k i {p} {q} {t} place low e1 e2 {a} {b} {c} ea eb ec =
     let r = pass-three s x k i p place low in
     record {
@@ -63,9 +63,9 @@ pub record Nine (f : Column) (h i : ℕ) (l m u : Rows) : Type 0 where
 -- y is what the first pass makes of x
 nine-values : (h i : ℕ) (x y : Column) → ((n : ℕ) → n < 9 * h → y n ≡ passAt h three x n) → i < h
     → Nine (passAt (3 * h) three y) h i
-    (rowsOf (x i) (x (i + h)) (x (i + 2 * h)))
-    (rowsOf (x (i + 3 * h)) (x (i + 4 * h)) (x (i + 5 * h)))
-    (rowsOf (x (i + 6 * h)) (x (i + 7 * h)) (x (i + 8 * h)))
+    (rowsBy (x i) (x (i + h)) (x (i + 2 * h)))
+    (rowsBy (x (i + 3 * h)) (x (i + 4 * h)) (x (i + 5 * h)))
+    (rowsBy (x (i + 6 * h)) (x (i + 7 * h)) (x (i + 8 * h)))
 nine-values h i x y same low =
     record {
       sums =
@@ -79,20 +79,20 @@ nine-values h i x y same low =
           (same (i + 2 * h) (omega arith) ∙ l .third) (same (i + 5 * h) (omega arith) ∙ m .third) (same (i + 8 * h) (omega arith) ∙ u .third);
     }
   where
-    l : ThreeAt (passAt h three x) i (i + h) (i + 2 * h) (rowsOf (x i) (x (i + h)) (x (i + 2 * h)))
+    l : ThreeAt (passAt h three x) i (i + h) (i + 2 * h) (rowsBy (x i) (x (i + h)) (x (i + 2 * h)))
     l = three-rows h x 0 i (omega arith) low refl refl refl refl refl
 
-    m : ThreeAt (passAt h three x) (i + 3 * h) (i + 4 * h) (i + 5 * h) (rowsOf (x (i + 3 * h)) (x (i + 4 * h)) (x (i + 5 * h)))
+    m : ThreeAt (passAt h three x) (i + 3 * h) (i + 4 * h) (i + 5 * h) (rowsBy (x (i + 3 * h)) (x (i + 4 * h)) (x (i + 5 * h)))
     m = three-rows h x 1 i (omega arith) low (omega arith) (omega arith) refl refl refl
 
-    u : ThreeAt (passAt h three x) (i + 6 * h) (i + 7 * h) (i + 8 * h) (rowsOf (x (i + 6 * h)) (x (i + 7 * h)) (x (i + 8 * h)))
+    u : ThreeAt (passAt h three x) (i + 6 * h) (i + 7 * h) (i + 8 * h) (rowsBy (x (i + 6 * h)) (x (i + 7 * h)) (x (i + 8 * h)))
     u = three-rows h x 2 i (omega arith) low (omega arith) (omega arith) refl refl refl
 
 nine-rows : (h i : ℕ) (xs : List ℤ) → length xs ≡ 9 * h → i < h
     → Nine (bothAt h three xs) h i
-    (rowsOf (read xs i) (read xs (i + h)) (read xs (i + 2 * h)))
-    (rowsOf (read xs (i + 3 * h)) (read xs (i + 4 * h)) (read xs (i + 5 * h)))
-    (rowsOf (read xs (i + 6 * h)) (read xs (i + 7 * h)) (read xs (i + 8 * h)))
+    (rowsBy (read xs i) (read xs (i + h)) (read xs (i + 2 * h)))
+    (rowsBy (read xs (i + 3 * h)) (read xs (i + 4 * h)) (read xs (i + 5 * h)))
+    (rowsBy (read xs (i + 6 * h)) (read xs (i + 7 * h)) (read xs (i + 8 * h)))
 unfolding passOver three
 nine-rows h i xs whole low =
     nine-values h i (read xs) _ (λ n k. getD-tab (pos 0) (length xs) (passAt h three (read xs)) n (rw whole k)) low
@@ -142,9 +142,9 @@ module _ {h : ℕ} {xs : List ℤ} (pre : Nines h xs) {i : ℕ} {ys : List ℤ} 
   value-small = both-small three pre w low
 
   module _ {l m u : Rows}
-      (el : l ≡ rowsOf (wrap (read ys i)) (wrap (read ys (i + h))) (wrap (read ys (i + 2 * h))))
-      (em : m ≡ rowsOf (wrap (read ys (i + 3 * h))) (wrap (read ys (i + 4 * h))) (wrap (read ys (i + 5 * h))))
-      (eu : u ≡ rowsOf (wrap (read ys (i + 6 * h))) (wrap (read ys (i + 7 * h))) (wrap (read ys (i + 8 * h)))) where
+      (el : l ≡ rowsBy (wrap (read ys i)) (wrap (read ys (i + h))) (wrap (read ys (i + 2 * h))))
+      (em : m ≡ rowsBy (wrap (read ys (i + 3 * h))) (wrap (read ys (i + 4 * h))) (wrap (read ys (i + 5 * h))))
+      (eu : u ≡ rowsBy (wrap (read ys (i + 6 * h))) (wrap (read ys (i + 7 * h))) (wrap (read ys (i + 8 * h)))) where
     s0 : Small (read ys i)
     s0 = value-small 0 (lit< tt) i (omega arith)
 
@@ -154,13 +154,13 @@ module _ {h : ℕ} {xs : List ℤ} (pre : Nines h xs) {i : ℕ} {ys : List ℤ} 
     at : (d : ℕ) → d < 9 → Small (read ys (i + d * h))
     at d k = value-small d k (i + d * h) refl
 
-    low-is : l ≡ rowsOf (read ys i) (read ys (i + h)) (read ys (i + 2 * h))
+    low-is : l ≡ rowsBy (read ys i) (read ys (i + h)) (read ys (i + 2 * h))
     low-is = el ∙ rows-held (mild-small s0) (mild-small s1) (mild-small (at 2 (lit< tt)))
 
-    middle-is : m ≡ rowsOf (read ys (i + 3 * h)) (read ys (i + 4 * h)) (read ys (i + 5 * h))
+    middle-is : m ≡ rowsBy (read ys (i + 3 * h)) (read ys (i + 4 * h)) (read ys (i + 5 * h))
     middle-is = em ∙ rows-held (mild-small (at 3 (lit< tt))) (mild-small (at 4 (lit< tt))) (mild-small (at 5 (lit< tt)))
 
-    high-is : u ≡ rowsOf (read ys (i + 6 * h)) (read ys (i + 7 * h)) (read ys (i + 8 * h))
+    high-is : u ≡ rowsBy (read ys (i + 6 * h)) (read ys (i + 7 * h)) (read ys (i + 8 * h))
     high-is = eu ∙ rows-held (mild-small (at 6 (lit< tt))) (mild-small (at 7 (lit< tt))) (mild-small (at 8 (lit< tt)))
 
     pub nine-ready : NinePlaces ys i h l m u

@@ -1,7 +1,7 @@
 // The three rows of three values: of one set of three at the first pass, and of three of these at the second.
 ghost use mathlib.Core.Path.{_≡_};
 ghost use Rattle.contrasts.specs.Laws.Small.{Mild};
-ghost use Rattle.nines.specs.Inner.Rows.{rowsOf, rowsFrom, putRows, ThreeReadings, NinePlaces};
+ghost use Rattle.nines.specs.Inner.Rows.{rowsBy, rowsFrom, putRows, ThreeReadings, NinePlaces};
 
 // The sum, first minus third, and first minus twice middle plus third.
 pub struct Rows {
@@ -12,7 +12,7 @@ pub struct Rows {
 
 pub fn rows_of(first: i64, middle: i64, third: i64) -> Rows
     requires { ⌜ Mild first × Mild middle × Mild third ⌝ }
-    ensures { λ r. ⌜ r ≡ rowsOf first middle third ⌝ }
+    ensures { λ r. ⌜ r ≡ rowsBy first middle third ⌝ }
 {
     Rows {
         sum: first + middle + third,

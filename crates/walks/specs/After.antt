@@ -24,11 +24,11 @@ kindAt p marks i = codeOf (kindOf p marks (rowOf (factorsOf p) i))
 abbrev pub numeratorAt : Plan → Column → ℕ → ℕ
 numeratorAt p t i = numeratorOf (factorsOf p) i (t i)
 
--- V14: "after e totals, rows [..] hold exactly what effects 0 to e - 1 bring": each its numerator, to its own row
+-- V15: "after e totals, rows [..] hold exactly what effects 0 to e - 1 bring": each its numerator, to its own row
 unfoldable pub rowsAfter : Plan → Column → ℕ → List ℕ
 rowsAfter p t e = tab (rowsIn p) (sumAt (rowOf (factorsOf p)) (numeratorAt p t) e)
 
--- V14: "[..] and sums [..]": each its numerator and one degree, to the sums of its row's kind; and its total, to the sum of the totals
+-- V15: "[..] and sums [..]": each its numerator and one degree, to the sums of its row's kind; and its total, to the sum of the totals
 unfoldable pub sumsAfter : Plan → Column → List ℕ → ℕ → Sums
 sumsAfter p t marks e = record {
   numerators = tab 4 (sumAt (kindAt p marks) (numeratorAt p t) e);

@@ -1,6 +1,6 @@
 -- The two rows of two values, and what the functions on them ask.
 --
---   rowsOf a b              the sum, and first minus second
+--   rowsBy a b              the sum, and first minus second
 --   rowsFrom xs i           of two readings from the place i on
 --   sumsOf, gapsOf          the rows of the sums of two pairs, and of their gaps
 --   putRows xs i h l u      these, at four places of xs from i on, h apart
@@ -16,18 +16,18 @@ use Rattle.contrasts.specs.Limits.{valueLimit}
 use Rattle.contrasts.specs.Laws.Small.{Mild}
 use Rattle.fours.specs.declared.rows.Rows.{Rows}
 
-abbrev pub rowsOf : ℤ → ℤ → Rows
-rowsOf a b = record { sum = a +ℤ b; gap = a -ℤ b }
+abbrev pub rowsBy : ℤ → ℤ → Rows
+rowsBy a b = record { sum = a +ℤ b; gap = a -ℤ b }
 
 abbrev pub rowsFrom : List ℤ → ℕ → Rows
-rowsFrom xs i = rowsOf (read xs i) (read xs (i + 1))
+rowsFrom xs i = rowsBy (read xs i) (read xs (i + 1))
 
 -- the second pass, of what the first made
 abbrev pub sumsOf : Rows → Rows → Rows
-sumsOf l u = rowsOf (l .sum) (u .sum)
+sumsOf l u = rowsBy (l .sum) (u .sum)
 
 abbrev pub gapsOf : Rows → Rows → Rows
-gapsOf l u = rowsOf (l .gap) (u .gap)
+gapsOf l u = rowsBy (l .gap) (u .gap)
 
 abbrev pub putRows : List ℤ → ℕ → ℕ → Rows → Rows → List ℤ
 putRows xs i h l u =

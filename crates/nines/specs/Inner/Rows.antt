@@ -1,6 +1,6 @@
 -- The three rows of three values, and what the functions on them ask.
 --
---   rowsOf a b c              the sum, first minus third, and first minus twice middle plus third
+--   rowsBy a b c              the sum, first minus third, and first minus twice middle plus third
 --   rowsFrom xs i             of three readings from the place i on
 --   sumsOf, gapsOf, curvesOf  the rows of the sums of three sets, of their gaps and of their curves
 --   putRows xs i h l m u      these, at nine places of xs from i on, h apart
@@ -16,21 +16,21 @@ use Rattle.contrasts.specs.Limits.{valueLimit}
 use Rattle.contrasts.specs.Laws.Small.{Mild}
 use Rattle.nines.specs.declared.rows.Rows.{Rows}
 
-abbrev pub rowsOf : ℤ → ℤ → ℤ → Rows
-rowsOf a b c = record { sum = a +ℤ b +ℤ c; gap = a -ℤ c; curve = a -ℤ pos 2 *ℤ b +ℤ c }
+abbrev pub rowsBy : ℤ → ℤ → ℤ → Rows
+rowsBy a b c = record { sum = a +ℤ b +ℤ c; gap = a -ℤ c; curve = a -ℤ pos 2 *ℤ b +ℤ c }
 
 abbrev pub rowsFrom : List ℤ → ℕ → Rows
-rowsFrom xs i = rowsOf (read xs i) (read xs (i + 1)) (read xs (i + 2))
+rowsFrom xs i = rowsBy (read xs i) (read xs (i + 1)) (read xs (i + 2))
 
 -- the second pass, of what the first made
 abbrev pub sumsOf : Rows → Rows → Rows → Rows
-sumsOf l m u = rowsOf (l .sum) (m .sum) (u .sum)
+sumsOf l m u = rowsBy (l .sum) (m .sum) (u .sum)
 
 abbrev pub gapsOf : Rows → Rows → Rows → Rows
-gapsOf l m u = rowsOf (l .gap) (m .gap) (u .gap)
+gapsOf l m u = rowsBy (l .gap) (m .gap) (u .gap)
 
 abbrev pub curvesOf : Rows → Rows → Rows → Rows
-curvesOf l m u = rowsOf (l .curve) (m .curve) (u .curve)
+curvesOf l m u = rowsBy (l .curve) (m .curve) (u .curve)
 
 abbrev pub putRows : List ℤ → ℕ → ℕ → Rows → Rows → Rows → List ℤ
 putRows xs i h l m u =
