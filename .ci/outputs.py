@@ -3,7 +3,7 @@
 #
 #   crates/worked_plans/stdout    the plans of AMCP 706-112, Tables 12-3 and 12-4: published/amcp.py
 #   crates/worked_totals/stdout   steps, totals and passes of the published examples and at the limits: published/examples.py
-#   crates/worked_answers/stdout  refused and accepted tables, estimates and aliases: cases/answers.py
+#   crates/worked_answers/stdout  refused and accepted tables, estimates, aliases and effects: cases/answers.py
 #   crates/worked_answers/stdin   the records of these, which that program reads
 #   crates/worked_sheets/stdout   answers of the two calls that take a sheet: cases/sheet_cases.py
 #   crates/worked_sheets/stdin    the sheets, which that program reads

@@ -1,18 +1,21 @@
 # Inputs of the table call that are refused, or accepted with readings about the limits; and inputs of the estimate and of
 # the alias call with their outcomes. Each is listed with the answer that the rules give; check() compares it with what
-# rules/table.py and rules/totals.py answer. And the input and the expected text of the program worked_answers, which tries
-# them.
+# rules/table.py and rules/totals.py answer. Plans whose effects are tried, by what the same files say of rows, divisors and
+# weights. And the input and the expected text of the program worked_answers, which tries them all.
 #
-# The program reads records, one for each table, refused or accepted, then one for each estimate, then one for each alias:
-# length, a byte, and so many bytes. These are a sheet, which has readings and marks for a table alone, and a field 6: the
-# call, a byte, 1 for the table, 2 for the estimate, 3 for the alias, and what else the call takes. For a table it is how
-# many totals and rows are lent, a byte each; for an estimate the effect, two bytes, and its total, eight bytes in two's
-# complement; for an alias the effect, two bytes; all big-endian.
+# The program reads records, one for each table, refused or accepted, then one for each estimate, for each alias, and for
+# each plan whose effects are tried: length, a byte, and so many bytes. These are a sheet, which has readings and marks for
+# a table alone, and a field 6: the call, a byte, 1 for the table, 2 for the estimate, 3 for the alias, 4 for the effects,
+# and what else the call takes. For a table it is how many totals and rows are lent, a byte each; for an estimate the
+# effect, two bytes, and its total, eight bytes in two's complement; for an alias the effect, two bytes; all big-endian; for
+# effects nothing.
 #
 # The program writes a line for each record. Of a table it is `refused` with the number, or `made`; then `unchanged` where
 # all totals and rows hold what they held before the call, else `changed`. Of an estimate it is the outcome, a double as the
 # number that its 64 bits are. Of an alias it is `reduced` with the base word as a number, then `turned` or `unturned`; or
-# `refused` with the number.
+# `refused` with the number. Of effects it is `effects` with how many there are, and more lines follow, each with three
+# numbers, row, divisor and weight: one line for each effect, in order, and one for the first place after them, if there is
+# such a place. A plan that is refused with 2 or 3 has no effects.
 #
 # Signs: differences and aliases are high minus low, as AMCP and Daniel print them. The report prints low minus high, so its
 # differences have the other sign where the effect has an odd number of letters; totals are the report's.
@@ -24,6 +27,7 @@
 #   REFUSALS         refused inputs of the table call: every refusal of the rules, and inputs to which several apply
 #   ESTIMATES        inputs of the estimate call: a plan, an effect and a total
 #   ALIASES          inputs of the alias call: a plan and an effect of all factors
+#   EFFECTS          plans whose effects are tried
 #   check            list of complaints, empty if all is well
 #   expected_text    the expected text
 #   inputs           the input of the program (answers.py inputs)
@@ -41,7 +45,7 @@ from reference.published.analyses import TEN, TEN_ADDED, TEN_BLOCKED
 from reference.rules import sheet_bytes
 from reference.rules import table as table_rules
 from reference.rules import totals as totals_rules
-from reference.rules.table import row_label, row_number
+from reference.rules.table import letters_used, row_label, row_number
 from reference.rules.totals import DONE, Plan
 
 # number: that of the refusal, or 0.
@@ -53,10 +57,13 @@ Estimate = namedtuple("Estimate", "plan effect total outcome")
 # outcome: "reduced", the letters of the base word and "turned" or "unturned", or "refused" and the number.
 Alias = namedtuple("Alias", "plan effect outcome")
 
+# What is tried of an effect of a plan.
+Effect = namedtuple("Effect", "row divisor weight")
+
 # The most readings, totals and rows that the program can lend; the tag of the field that names the call, and the calls.
 MOST_LENT = 8
 REST = 6
-TABLE, ESTIMATE, ALIAS = 1, 2, 3
+TABLE, ESTIMATE, ALIAS, EFFECT = 1, 2, 3, 4
 
 # The limit of a reading, by levels.
 TOP = totals_rules.MOST_READING
@@ -411,6 +418,27 @@ ALIASES = published_aliases() + [
 ]
 
 
+# ---- effects ----
+
+# Two levels as far as the list stays short, and the most factors; three levels all; refused with 2, and with 3.
+EFFECTS = [*(Plan(2, k) for k in (1, 2, 3, 4, 5, 10)), *(Plan(3, k) for k in range(1, 7)), Plan(9, 2), Plan(2, 0)]
+
+# How many places rows, divisors and weights have, whatever the plan, and what they have where it has no such effect.
+PLACES, NO_EFFECT = 1024, Effect(0, 1, 0)
+
+# Rules, X6: the divisors of two three-level factors.
+NINE_DIVISORS = "9, 6, 18, 6, 4, 12, 18, 12, 36"
+
+
+def effects_of(plan):
+    """The effects of a plan, in order; none where it is refused with 2 or 3."""
+    if totals_rules.plan_answer(plan) in (2, 3):
+        return []
+    levels, k = plan.levels, plan.k
+    return [Effect(letters_used(levels, k, effect), totals_rules.divisor(levels, k, effect),
+                   totals_rules.weight(levels, k, effect)) for effect in range(totals_rules.run_count(levels, k))]
+
+
 # ---- checks ----
 
 def check_tables():
@@ -522,6 +550,22 @@ def check_aliases():
     return complaints
 
 
+def check_effects():
+    """The divisors of two three-level factors are those that the rules print. Those of fewer than six are the entries of six
+    divided by 3 for each that is missing. And divisor times weight is the denominator."""
+    complaints = []
+    if ", ".join(str(own.divisor) for own in effects_of(Plan(3, 2))) != NINE_DIVISORS:
+        complaints.append("effects, two three-level factors: divisors")
+    six = effects_of(Plan(3, 6))
+    for plan in EFFECTS:
+        found, over = effects_of(plan), totals_rules.denominator(plan.levels, plan.k)
+        if plan.levels == 3 and any(own.divisor * 3 ** (6 - plan.k) != entry.divisor for own, entry in zip(found, six)):
+            complaints.append("effects, %s: a divisor is not that of six factors, divided" % plan_text(plan))
+        if any(own.divisor * own.weight != over for own in found):
+            complaints.append("effects, %s: a weight is not denominator over divisor" % plan_text(plan))
+    return complaints
+
+
 def check_lent():
     """The program can lend as much as every table wants."""
     return ["table, %s: over %d places" % (own.why, MOST_LENT) for own in REFUSALS + ACCEPTED
@@ -529,9 +573,9 @@ def check_lent():
 
 
 def check():
-    """List of all complaints about tables, estimates and aliases."""
+    """List of all complaints about tables, estimates, aliases and effects."""
     return (check_tables() + check_estimates() + check_report() + check_amcp() + check_zeros() + check_aliases()
-            + check_lent())
+            + check_effects() + check_lent())
 
 
 # ---- expected text ----
@@ -555,15 +599,21 @@ def reduced_text(own):
     return "reduced %d, %s" % listed_alias(own) if listed_alias(own) else own.outcome
 
 
+def effects_text(plan):
+    """What the program writes of a plan's effects, and of the first place after them."""
+    found = effects_of(plan)
+    return "\n".join(["effects %d" % len(found)] + [" %d %d %d" % own for own in [*found, NO_EFFECT][:PLACES]])
+
+
 def numbered(texts):
-    """A line for each text, with its number before it."""
+    """The texts, each with its number before it and on lines of its own."""
     return "".join("%d: %s\n" % pair for pair in enumerate(texts, 1))
 
 
 def expected_text():
-    """What the program that tries tables, estimates and aliases must write."""
+    """What the program that tries tables, estimates, aliases and effects must write."""
     return numbered([table_text(own) for own in REFUSALS + ACCEPTED] + [estimate_text(own) for own in ESTIMATES]
-                    + [reduced_text(own) for own in ALIASES])
+                    + [reduced_text(own) for own in ALIASES] + [effects_text(plan) for plan in EFFECTS])
 
 
 # ---- input ----
@@ -589,10 +639,15 @@ def alias_record(own):
     return record(own.plan, [], [], ALIAS, own.effect.to_bytes(2, "big"))
 
 
+def effects_record(plan):
+    """The record of a plan whose effects are tried."""
+    return record(plan, [], [], EFFECT, b"")
+
+
 def inputs():
-    """The input of the program: the records of all tables, estimates and aliases."""
+    """The input of the program: the records of all tables, estimates, aliases and effects."""
     return b"".join([table_record(own) for own in REFUSALS + ACCEPTED] + [estimate_record(own) for own in ESTIMATES]
-                    + [alias_record(own) for own in ALIASES])
+                    + [alias_record(own) for own in ALIASES] + [effects_record(plan) for plan in EFFECTS])
 
 
 def plan_text(plan):
@@ -603,10 +658,11 @@ def plan_text(plan):
 
 def list_text():
     """A line for each record: of a table why it is refused, or what it has about the limits; of an estimate plan, effect and
-    total; of an alias plan and effect."""
+    total; of an alias plan and effect; of effects the plan."""
     return numbered(["refusal, " + own.why for own in REFUSALS] + ["table, " + own.why for own in ACCEPTED]
                     + ["estimate, %s, effect %d, total %d" % (plan_text(own.plan), *own[1:3]) for own in ESTIMATES]
-                    + ["alias, %s, effect %d" % (plan_text(own.plan), own.effect) for own in ALIASES])
+                    + ["alias, %s, effect %d" % (plan_text(own.plan), own.effect) for own in ALIASES]
+                    + ["effects, " + plan_text(plan) for plan in EFFECTS])
 
 
 if __name__ == "__main__":

@@ -19,7 +19,8 @@
 #   run_count, digits                     N, and the digits of a run or effect number
 #   coefficient, total, totals            totals by the definition
 #   step, steps                           the report's own step, and the columns after 1 to k of them
-#   divisor, denominator, numerator       an effect's part of the sum of squares, in whole numbers
+#   divisor, denominator, weight, numerator
+#                                         an effect's part of the sum of squares, in whole numbers
 #   check_number                          what the totals must add up to, from the readings
 #   letter_count, combine, confounded     words of a plan
 #   block_of                              the block of a run
@@ -126,9 +127,14 @@ def denominator(levels, k):
     return (2 if levels == 2 else 6) ** k
 
 
+def weight(levels, k, effect):
+    """Denominator over divisor."""
+    return denominator(levels, k) // divisor(levels, k, effect)
+
+
 def numerator(levels, k, effect, own_total):
     """An effect's total squared times denominator over divisor."""
-    return own_total ** 2 * (denominator(levels, k) // divisor(levels, k, effect))
+    return own_total ** 2 * weight(levels, k, effect)
 
 
 def check_number(levels, k, readings):

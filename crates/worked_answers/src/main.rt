@@ -1,10 +1,11 @@
 // Tries the table call on plans, readings and marks that it refuses and on large readings that it accepts, the estimate call and the alias call,
-// by the records of its input. `reference/cases/answers.py` makes the input and the text that this program must write, and says how both are laid
-// out.
+// and the rows, divisors and weights of effects, by the records of its input. `reference/cases/answers.py` makes the input and the text that this
+// program must write, and says how both are laid out.
 mod estimated;
 mod reduced;
 mod tabled;
 mod text;
+mod weighed;
 
 use contents::plan_in;
 use estimated::try_estimate;
@@ -13,8 +14,9 @@ use numerals::byte;
 use reduced::try_alias;
 use tabled::try_table;
 use text::print;
+use weighed::try_effects;
 
-// Field 6 is the call, a byte, and what else it takes: 1 is the table, 2 the estimate, 3 the alias.
+// Field 6 is the call, a byte, and what else it takes: 1 is the table, 2 the estimate, 3 the alias, 4 the effects.
 fn work(number: u64, record: &[u8]) {
     io::print_decimal(1, number);
     print(b":");
@@ -25,8 +27,10 @@ fn work(number: u64, record: &[u8]) {
         try_table(p, record, byte(rest, 1), byte(rest, 2));
     } else if call == 2 {
         try_estimate(p, rest);
-    } else {
+    } else if call == 3 {
         try_alias(p, rest);
+    } else {
+        try_effects(p);
     }
 }
 
