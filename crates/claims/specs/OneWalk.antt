@@ -1,23 +1,21 @@
 -- V14, V15: "form row numerators and the four sums in one walk over the totals that reads each once. Prove for every e up to N: after e
 -- totals, rows and sums hold exactly what effects 0 to e - 1 bring."
 --
---   totalIn p readings                          the total of each effect
---   HeldAfter p readings marks e rows parts s   rows and sums, as a loop holds them, are those after e totals
---   EveryTotal p readings marks                 so it is of the state of the table call's loop, for every e
---   sourceIn s c                                what the sums s have of the kind c
---   AtEnd p readings marks totals rows          after N totals they are the table's rows and figures
---   OneWalk                                     THE CLAIM
+--   totalIn p readings                   the total of each effect
+--   HeldAfter p readings marks e h       what a loop holds is what rows and sums hold after e totals
+--   EveryTotal p readings marks          so it is of the table call's loop, for every e up to N
+--   sourceIn s c                         what the sums s have of the kind c
+--   AtEnd p readings marks totals rows   after N totals they are the table's rows and figures
+--   OneWalk                              THE CLAIM
 --
--- The state is that of the loop itself: `InPairs`, which has `WalkingTwo`, and `WalkingThree` are the invariants in the proofs of `walk_two` and
--- `walk_three` of `walks`, and the lists below are those that these are handed. At two levels a turn is two effects, and between them the
--- state is `WalkingTwo` too (`two-more`). That e is at most N is in the state, `upto`.
+-- `courseTwo` and `courseThree` are what the loops of `walks` hold after e totals, by the lists that `walk` hands to them: each effect changes
+-- it as `bring_two` or `bring_three` promises, and that rows, parts and sum are just that is the invariant in the proof of each loop
+-- (`RunningTwo`, `RunningThree`). At two levels a turn is two effects, and between them it is the course after one more (`two-more`).
 use mathlib.Core.Path.{_≡_}
 use mathlib.Core.List.{List}
-use Prim.Native.Nat.{ℕ}
+use Prim.Native.Nat.{ℕ, _≤_}
 use lib.IntN.{ℤ}
 use lib.ListN.{getD}
-use mir.Syntax.{w64}
-use mir.Val.{toZ}
 use Rattle.contrasts.specs.Columns.{read, totalsOf}
 use Rattle.contrasts.specs.Totals.{Column, total}
 use Rattle.effects.specs.Effects.{effectRows, effectWeights}
@@ -26,7 +24,7 @@ use Rattle.plan.specs.Plan.{factorsOf, runsOf}
 use Rattle.rows.specs.Kinds.{rowsIn, Kind, meanRow, blocksRow, errorRow, keptRow, codeOf, kindsOf}
 use Rattle.walks.specs.declared.types.Sums.{Sums}
 use Rattle.walks.specs.After.{rowsAfter, sumsAfter}
-use Rattle.walks.specs.State.{heldIn, WalkingTwo, WalkingThree}
+use Rattle.walks.specs.State.{heldIn, Held, courseTwo, courseThree}
 use Rattle.anova.specs.declared.types.Source.{Source}
 use Rattle.anova.specs.Table.{tableRefused, tableFigures, tableRows}
 
@@ -35,19 +33,17 @@ abbrev pub totalIn : Plan → List ℤ → Column
 totalIn p readings = total (factorsOf p) (read readings)
 
 -- "after e totals, rows and sums hold exactly what effects 0 to e - 1 bring"
-pub record HeldAfter (p : Plan) (readings : List ℤ) (marks : List ℕ) (e : ℕ) (rows parts : List ℕ) (s : ℕ) : Type 0 where
-  pub rows-are : rows ≡ rowsAfter p (totalIn p readings) e
-  -- four sums of numerators, four of degrees, each in two parts, and the sum of the totals, of which the loop holds the bits
-  pub sums-are : heldIn parts (toZ w64 s) ≡ sumsAfter p (totalIn p readings) marks e
+pub record HeldAfter (p : Plan) (readings : List ℤ) (marks : List ℕ) (e : ℕ) (h : Held) : Type 0 where
+  pub rows-are : h .rows ≡ rowsAfter p (totalIn p readings) e
+  -- four sums of numerators and four of degrees, each in two parts, and the sum of the totals
+  pub sums-are : heldIn (h .parts) (h .sum) ≡ sumsAfter p (totalIn p readings) marks e
 
 -- "for every e up to N"
 pub record EveryTotal (p : Plan) (readings : List ℤ) (marks : List ℕ) : Type 0 where
-  pub two-levels : p .levels ≡ 2 → (e : ℕ) (rows parts : List ℕ) (s : ℕ)
-      → WalkingTwo (totalsOf (factorsOf p) readings) (kindsOf p marks) (rowsIn p) e rows parts s
-      → HeldAfter p readings marks e rows parts s
-  pub three-levels : p .levels ≡ 3 → (e : ℕ) (rows parts : List ℕ) (s : ℕ)
-      → WalkingThree (totalsOf (factorsOf p) readings) (effectRows p) (effectWeights p) (kindsOf p marks) (rowsIn p) e rows parts s
-      → HeldAfter p readings marks e rows parts s
+  pub two-levels : p .levels ≡ 2 → (e : ℕ) → e ≤ runsOf p
+      → HeldAfter p readings marks e (courseTwo (totalsOf (factorsOf p) readings) (kindsOf p marks) (rowsIn p) e)
+  pub three-levels : p .levels ≡ 3 → (e : ℕ) → e ≤ runsOf p
+      → HeldAfter p readings marks e (courseThree (totalsOf (factorsOf p) readings) (effectRows p) (effectWeights p) (kindsOf p marks) (rowsIn p) e)
 
 -- V10
 abbrev pub sourceIn : Sums → Kind → Source

@@ -5,46 +5,28 @@
 use mathlib.Core.Path.{_≡_, refl, sym, _∙_, ap}
 use mathlib.Core.List.{List}
 use Prim.Native.Nat.{ℕ, suc, _*_, _-_, _^_, _<_}
-use native.Mathlib.Nat.{mul-le-mul-left, mul-one, pow-succ'}
+use native.Mathlib.Nat.{pow-succ'}
 use native.Mathlib.Omega.{arith}
-use lib.IntN.{ℤ, natAbs}
+use lib.IntN.{ℤ}
 use lib.ListN.{length}
-use Rattle.algebra.specs.Laws.Naturals.{Σℕ-cong}
 use Rattle.algebra.specs.Laws.Tab.{length-tab}
 use Rattle.contrasts.specs.Columns.{read}
-use Rattle.contrasts.specs.Laws.Divisors.{weight-pos}
 use Rattle.contrasts.specs.Rows.{rowOf}
-use Rattle.contrasts.specs.Totals.{Column, numeratorOf}
 use Rattle.effects.specs.Effects.{effectRows, effectWeights}
 use Rattle.plan.specs.declared.types.Plan.{Plan}
 use Rattle.plan.specs.Laws.Accepted.{accepted}
 use Rattle.plan.specs.Laws.Sizes.{runs-few, runs-two}
 use Rattle.plan.specs.Plan.{factorsOf, runsOf}
-use Rattle.rows.specs.Kinds.{rowsIn, kindOf, kindsOf}
-use Rattle.rows.specs.Laws.Kinds.{four-kinds}
+use Rattle.rows.specs.Kinds.{rowsIn, kindsOf}
 use Rattle.rows.specs.Laws.Rows.{rows-few}
 use Rattle.walks.specs.declared.types.Sums.{Sums}
 use Rattle.walks.specs.After.{kindAt, numeratorAt, rowsAfter, sumsAfter}
 use Rattle.walks.specs.Ready.{PlanWalkable}
-use Rattle.walks.specs.Inner.Ready.{Walkable, WalkableTwo, WalkableThree}
-use Rattle.walks.specs.Inner.Walk.{sumsBy, Walked, WalkedTwo, WalkedThree, zeros}
-use Rattle.walks.specs.Laws.After.{Agree, walked-agrees, row-there, two-agrees, three-agrees}
-
--- ---- lists that agree
-
-pub walkable-agrees : {row num kind : ℕ → ℕ} {t : Column} {row′ num′ kind′ : ℕ → ℕ} {t′ : Column} {n : ℕ}
-    → Agree row num kind t row′ num′ kind′ t′ n → {rows : List ℕ} → Walkable row′ num′ kind′ t′ n rows → Walkable row num kind t n rows
-walkable-agrees {n = n} a w =
-    record {
-      few = w .few;
-      row-there = λ e h. rw (a .rows e h) (w .row-there e h);
-      four-kinds = λ e h. rw (a .kinds e h) (w .four-kinds e h);
-      squares = λ e h. rw (a .totals e h, a .numerators e h) (w .squares e h);
-      cleared = w .cleared;
-      sum-fits = rw (Σℕ-cong n (a .numerators)) (w .sum-fits);
-    }
-
--- ---- a plan's totals
+use Rattle.walks.specs.State.{zeros}
+use Rattle.walks.specs.Inner.Ready.{WalkableTwo, WalkableThree}
+use Rattle.walks.specs.Inner.Walk.{Walked, WalkedTwo, WalkedThree}
+use Rattle.walks.specs.Laws.After.{walked-agrees, two-agrees, three-agrees}
+use Rattle.walks.specs.Laws.Plans.{two-walkable, three-walkable}
 
 halves : (k : ℕ) → 0 < k → 2 ^ k ≡ 2 * 2 ^ (k - 1)
 halves k h = let e : k ≡ suc (k - 1) = omega arith in ap (λ n. 2 ^ n) e ∙ pow-succ' 2 (k - 1)
@@ -54,24 +36,13 @@ module _ {p : Plan} {ts : List ℤ} {rows : List ℕ} (pre : PlanWalkable p ts r
   unfolding zeros
   rows-count = rw cleared (length-tab (length rows) (λ w. 0)) ∙ pre .rows-long
 
-  by-plan : Walkable (rowOf (factorsOf p)) (numeratorAt p (read ts)) (kindAt p marks) (read ts) (runsOf p) rs
-  unfolding numeratorOf
-  by-plan =
-      record {
-        few = omega (arith, runs-few p (pre .plan));
-        row-there = λ e h. rw rows-count (row-there p e);
-        four-kinds = λ e h. four-kinds (kindOf p marks (rowOf (factorsOf p) e));
-        squares = λ e h.
-            let q = natAbs (read ts e) * natAbs (read ts e) in
-            omega (arith, mul-le-mul-left q (weight-pos (factorsOf p) e), mul-one q);
-        cleared = cleared ∙ ap zeros (pre .rows-long ∙ sym rows-count);
-        sum-fits = pre .sum-fits;
-      }
+  all-zero : rs ≡ zeros (length rs)
+  all-zero = cleared ∙ ap zeros (pre .rows-long ∙ sym rows-count)
 
   all-made : {s : Sums} {zs : List ℕ}
       → Walked (rowOf (factorsOf p)) (numeratorAt p (read ts)) (kindAt p marks) (read ts) (runsOf p) (rowsIn p) s zs
       → (s ≡ sumsAfter p (read ts) marks (runsOf p)) × (zs ≡ rowsAfter p (read ts) (runsOf p))
-  unfolding sumsBy sumsAfter rowsAfter
+  unfolding rowsAfter
   all-made w = (w .sums-are, w .rows-are)
 
   module _ {kinds : List ℕ} (kinds-are : kinds ≡ kindsOf p marks) where
@@ -88,7 +59,8 @@ module _ {p : Plan} {ts : List ℤ} {rows : List ℕ} (pre : PlanWalkable p ts r
             pairs = 2 ^ (p .k - 1);
             in-pairs = pre .whole ∙ runs-two p l ∙ halves (p .k) (accepted p (pre .plan) .factors .0);
             kinds-long = omega (arith, pre .whole, kinds-count, runs-few p (pre .plan));
-            walkable = rw (pre .whole, kinds-are) (walkable-agrees (two-agrees p (pre .plan) marks ts (read ts) (λ i h. refl) l) by-plan);
+            cleared = all-zero;
+            walkable = rw (kinds-are, rows-count) (two-walkable pre marks l);
           }
 
       pub two-made : {s : Sums} {zs : List ℕ} → WalkedTwo ts kinds (length rs) s zs
@@ -106,10 +78,12 @@ module _ {p : Plan} {ts : List ℤ} {rows : List ℕ} (pre : PlanWalkable p ts r
             effects-long = rw (pre .whole, effects-are, length-tab 1024 _) (runs-few p (pre .plan));
             weights-long = rw (pre .whole, weights-are, length-tab 1024 _) (runs-few p (pre .plan));
             kinds-long = omega (arith, rows-count, kinds-count, rows-few p (pre .plan));
-            walkable = rw (pre .whole, kinds-are, effects-are, weights-are) (walkable-agrees (three-agrees p (pre .plan) marks ts (read ts) (λ i h. refl)) by-plan);
+            cleared = all-zero;
+            walkable = rw (kinds-are, effects-are, weights-are, rows-count) (three-walkable pre marks);
           }
 
       pub three-made : {s : Sums} {zs : List ℕ} → WalkedThree ts effects weights kinds (length rs) s zs
           → (s ≡ sumsAfter p (read ts) marks (runsOf p)) × (zs ≡ rowsAfter p (read ts) (runsOf p))
       three-made w =
-          all-made (walked-agrees (three-agrees p (pre .plan) marks ts (read ts) (λ i h. refl)) (rw (pre .whole, kinds-are, effects-are, weights-are, rows-count) at w))
+          all-made (walked-agrees (three-agrees p (pre .plan) marks ts (read ts) (λ i h. refl))
+          (rw (pre .whole, kinds-are, effects-are, weights-are, rows-count) at w))

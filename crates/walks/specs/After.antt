@@ -3,6 +3,7 @@
 --   kindAt p marks i        the kind of effect i, as code holds it: that of its row
 --   numeratorAt p t i       the numerator of effect i
 --   rowsAfter p t e         the rows after e totals
+--   sumsBy kind num t e     the sums after e totals, by kinds and numerators
 --   sumsAfter p t marks e   the sums after e totals: numerators and degrees of the four kinds, and the sum of the totals
 use mathlib.Core.List.{List}
 use Prim.Native.Nat.{ℕ}
@@ -28,10 +29,14 @@ numeratorAt p t i = numeratorOf (factorsOf p) i (t i)
 unfoldable pub rowsAfter : Plan → Column → ℕ → List ℕ
 rowsAfter p t e = tab (rowsIn p) (sumAt (rowOf (factorsOf p)) (numeratorAt p t) e)
 
--- V15: "[..] and sums [..]": each its numerator and one degree, to the sums of its row's kind; and its total, to the sum of the totals
-unfoldable pub sumsAfter : Plan → Column → List ℕ → ℕ → Sums
-sumsAfter p t marks e = record {
-  numerators = tab 4 (sumAt (kindAt p marks) (numeratorAt p t) e);
-  degrees = tab 4 (sumAt (kindAt p marks) (λ i. 1) e);
+-- effect i is of the kind `kind i`, brings the numerator `num i` and one degree, and has the total `t i`
+unfoldable pub sumsBy : (ℕ → ℕ) → (ℕ → ℕ) → Column → ℕ → Sums
+sumsBy kind num t e = record {
+  numerators = tab 4 (sumAt kind num e);
+  degrees = tab 4 (sumAt kind (λ i. 1) e);
   totals = Σ e t;
 }
+
+-- V15: "[..] and sums [..]": each its numerator and one degree, to the sums of its row's kind; and its total, to the sum of the totals
+abbrev pub sumsAfter : Plan → Column → List ℕ → ℕ → Sums
+sumsAfter p t marks e = sumsBy (kindAt p marks) (numeratorAt p t) t e

@@ -1,8 +1,6 @@
 -- What the inner functions ask of what they are handed, and what they leave; no promise of a call.
 --
---   Parts   what is done to the parts of the sums
---   Walk    what the loops leave
+--   Walk    the state of a loop, and its end, by what each effect brings
 --   Ready   what they ask
-pub mod Parts
 pub mod Walk
 pub mod Ready

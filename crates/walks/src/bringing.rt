@@ -7,7 +7,7 @@ use super::parts::add;
 use super::parts::place_of;
 use super::squares::numerator;
 use super::squares::square;
-ghost use Rattle.walks.specs.Inner.Parts.{placeOf, plusAt, brought};
+ghost use Rattle.walks.specs.State.{brought, placeOf, plusAt};
 ghost use Rattle.walks.specs.Inner.Ready.{BringsTwo, BringsThree};
 
 // At two levels an effect is the only one of its row, which has its number, and its numerator is its total squared.

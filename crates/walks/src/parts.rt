@@ -4,9 +4,8 @@ ghost use mathlib.Core.Path.{_≡_};
 ghost use Prim.Native.Nat.{_<_};
 ghost use Rattle.algebra.specs.Tab.{tab};
 use super::types::Sums;
-ghost use Rattle.walks.specs.State.{twoParts, sumIn, heldIn};
+ghost use Rattle.walks.specs.State.{brought, heldIn, placeOf, sumIn, twoParts};
 ghost use Rattle.walks.specs.Inner.Ready.{Addable, Joinable, Gatherable};
-ghost use Rattle.walks.specs.Inner.Parts.{placeOf, brought};
 
 // Where a part of a kind's sum stands: the first, 0, or the second, 1.
 pub fn place_of(kind: u8, half: usize) -> usize

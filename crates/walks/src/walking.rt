@@ -11,7 +11,7 @@ ghost use Rattle.contrasts.specs.Columns.{read};
 ghost use Rattle.plan.specs.Plan.{runsOf};
 ghost use Rattle.walks.specs.After.{rowsAfter, sumsAfter};
 ghost use Rattle.walks.specs.Ready.{PlanWalkable};
-ghost use Rattle.walks.specs.Inner.Walk.{zeros};
+ghost use Rattle.walks.specs.State.{zeros};
 
 fn clear(rows: &mut [u64])
     ensures { λ _. ⌜ now (rows .exit) ≡ zeros (length (now (rows .entry))) ⌝ }

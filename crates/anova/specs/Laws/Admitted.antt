@@ -67,13 +67,10 @@ module _ (p : Plan) (readings : List ℤ) (marks : List ℕ) (totals : List ℤ)
 
 -- ---- sizes
 
-module _ {p : Plan} {readings : List ℤ} {marks : List ℕ} {totals : List ℤ} {rows : List ℕ} (a : TableReady p readings marks totals rows) where
-  factors-count : length (factorsOf p) ≡ p .k
-  unfolding factorsOf
-  factors-count = length-replicate (p .k) (ofLevels (p .levels))
+pub rows-power : (p : Plan) → 2 ^ length (factorsOf p) ≡ rowsIn p
+unfolding factorsOf
+rows-power p = ap (λ n. 2 ^ n) (length-replicate (p .k) (ofLevels (p .levels)))
 
-  pub rows-power : 2 ^ length (factorsOf p) ≡ rowsIn p
-  rows-power = ap (λ n. 2 ^ n) factors-count
-
-  pub within-limit : denominator (factorsOf p) * squared (factorsOf p) (read readings) ≤ numeratorLimit p
-  within-limit = total-fits (plan-roomy p (a .plan)) (read readings) (λ r _. a .within r)
+pub within-limit : {p : Plan} {readings : List ℤ} {marks : List ℕ} {totals : List ℤ} {rows : List ℕ} → TableReady p readings marks totals rows
+    → denominator (factorsOf p) * squared (factorsOf p) (read readings) ≤ numeratorLimit p
+within-limit {p} {readings} a = total-fits (plan-roomy p (a .plan)) (read readings) (λ r _. a .within r)

@@ -1,24 +1,31 @@
--- What rows and sums hold after all totals is what the table has.
+-- What rows and sums hold after all totals is what the table has, and the totals that the walk is handed.
 --
 --   rows-after-all                           the rows
 --   numerator-after-all, degrees-after-all   numerator and degrees of each kind
 --   totals-after-all                         the sum of the totals
+--   total-read, table-walkable               the totals that are handed to the walk: it can go over them, and no sum wraps
 use mathlib.Core.Path.{_≡_, refl, sym, _∙_, ap}
 use mathlib.Core.List.{List}
-use Prim.Native.Nat.{ℕ, _^_}
-use lib.IntN.{ℤ}
-use lib.ListN.{length, getD, length-replicate}
-use Rattle.algebra.specs.Laws.Tab.{getD-tab}
+use Prim.Native.Nat.{ℕ, _*_, _<_}
+use native.Mathlib.Omega.{arith}
+use lib.IntN.{ℤ, pos}
+use lib.ListN.{getD}
+use Rattle.algebra.specs.Laws.Naturals.{Σℕ-cong}
+use Rattle.algebra.specs.Laws.Tab.{length-tab, getD-tab}
+use Rattle.algebra.specs.Naturals.{Σℕ}
 use Rattle.algebra.specs.Sorted.{sumAt}
-use Rattle.contrasts.specs.Columns.{read}
-use Rattle.contrasts.specs.Factors.{ofLevels}
+use Rattle.contrasts.specs.Columns.{read, totalsOf}
 use Rattle.contrasts.specs.Laws.Rows.{numerators-of-kind, degrees-of-kind}
-use Rattle.contrasts.specs.Totals.{total}
+use Rattle.contrasts.specs.Laws.Squares.{numerators}
+use Rattle.contrasts.specs.Totals.{total, denominator, numeratorOf, squared}
 use Rattle.plan.specs.declared.types.Plan.{Plan}
+use Rattle.plan.specs.Laws.Limits.{numerator-fits}
 use Rattle.plan.specs.Plan.{factorsOf, runsOf}
-use Rattle.rows.specs.Kinds.{rowsIn, Kind, kindOf, codeOf}
+use Rattle.rows.specs.Kinds.{Kind, kindOf, codeOf}
 use Rattle.rows.specs.Laws.Kinds.{four-kinds}
-use Rattle.walks.specs.After.{kindAt, numeratorAt, rowsAfter, sumsAfter}
+use Rattle.walks.specs.After.{kindAt, numeratorAt, rowsAfter, sumsBy, sumsAfter}
+use Rattle.walks.specs.Ready.{PlanWalkable}
+use Rattle.anova.specs.Laws.Admitted.{TableReady, rows-power, within-limit}
 use Rattle.anova.specs.Table.{sourceOf, checksOf, rowsOf}
 
 module _ (p : Plan) (readings : List ℤ) where
@@ -27,7 +34,7 @@ module _ (p : Plan) (readings : List ℤ) where
   rows-after-all = refl
 
   pub totals-after-all : (marks : List ℕ) → sumsAfter p (total (factorsOf p) (read readings)) marks (runsOf p) .totals ≡ checksOf p readings .totals
-  unfolding sumsAfter checksOf
+  unfolding sumsBy checksOf
   totals-after-all marks = refl
 
   module _ (marks : List ℕ) (c : Kind) where
@@ -35,20 +42,39 @@ module _ (p : Plan) (readings : List ℤ) where
     abbrev code : ℕ → ℕ
     code w = codeOf (kindOf p marks w)
 
-    rows-power : 2 ^ length (factorsOf p) ≡ rowsIn p
-    unfolding factorsOf
-    rows-power = ap (λ n. 2 ^ n) (length-replicate (p .k) (ofLevels (p .levels)))
-
     pub numerator-after-all : getD (sumsAfter p (total (factorsOf p) (read readings)) marks (runsOf p) .numerators) (codeOf c) 0
         ≡ sourceOf p readings marks c .numerator
-    unfolding sumsAfter sourceOf
+    unfolding sumsBy sourceOf
     numerator-after-all =
         getD-tab 0 4 (sumAt (kindAt p marks) (numeratorAt p (total (factorsOf p) (read readings))) (runsOf p)) (codeOf c) (four-kinds c)
-        ∙ sym (rw rows-power at (numerators-of-kind (factorsOf p) code (codeOf c) (read readings)))
+        ∙ sym (rw (rows-power p) at (numerators-of-kind (factorsOf p) code (codeOf c) (read readings)))
 
     pub degrees-after-all : getD (sumsAfter p (total (factorsOf p) (read readings)) marks (runsOf p) .degrees) (codeOf c) 0
         ≡ sourceOf p readings marks c .degrees
-    unfolding sumsAfter sourceOf
+    unfolding sumsBy sourceOf
     degrees-after-all =
         getD-tab 0 4 (sumAt (kindAt p marks) (λ i. 1) (runsOf p)) (codeOf c) (four-kinds c)
-        ∙ sym (rw rows-power at (degrees-of-kind (factorsOf p) code (codeOf c)))
+        ∙ sym (rw (rows-power p) at (degrees-of-kind (factorsOf p) code (codeOf c)))
+
+-- ---- the totals that are handed to the walk
+
+-- a total, as the column has it
+pub total-read : (p : Plan) (readings : List ℤ) (i : ℕ) → i < runsOf p → read (totalsOf (factorsOf p) readings) i ≡ total (factorsOf p) (read readings) i
+unfolding totalsOf
+total-read p readings i h = getD-tab (pos 0) (runsOf p) (total (factorsOf p) (read readings)) i h
+
+module _ {p : Plan} {readings : List ℤ} {marks : List ℕ} {totals : List ℤ} {rows : List ℕ} (a : TableReady p readings marks totals rows) where
+  -- the sum of all numerators is the total, which is within the limit of numerators
+  all-numerators : Σℕ (runsOf p) (numeratorAt p (read (totalsOf (factorsOf p) readings))) ≡ denominator (factorsOf p) * squared (factorsOf p) (read readings)
+  all-numerators =
+      Σℕ-cong (runsOf p) (λ i h. ap (numeratorOf (factorsOf p) i) (total-read p readings i h)) ∙ numerators (factorsOf p) (read readings)
+
+  pub table-walkable : PlanWalkable p (totalsOf (factorsOf p) readings) rows
+  unfolding totalsOf
+  table-walkable =
+      record {
+        plan = a .plan;
+        whole = length-tab (runsOf p) (total (factorsOf p) (read readings));
+        rows-long = a .rows-long;
+        sum-fits = rw all-numerators (omega (arith, within-limit a, numerator-fits p));
+      }

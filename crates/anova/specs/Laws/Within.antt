@@ -42,11 +42,11 @@ module _ {p : Plan} {readings : List ℤ} {marks : List ℕ} {totals : List ℤ}
   pub all-rows : Σℕ (rowsIn p) (rowNumerator (factorsOf p) (read readings)) ≡ denominator (factorsOf p) * squared (factorsOf p) (read readings)
   unfolding sumAt
   all-rows =
-      (rw (rows-power a) at (Σℕ-by (runsOf p) (2 ^ length (factorsOf p)) (rowOf (factorsOf p)) (numerator (factorsOf p) (read readings)) (λ e _. row-lt (factorsOf p) e)))
+      (rw (rows-power p) at (Σℕ-by (runsOf p) (2 ^ length (factorsOf p)) (rowOf (factorsOf p)) (numerator (factorsOf p) (read readings)) (λ e _. row-lt (factorsOf p) e)))
       ∙ numerators (factorsOf p) (read readings)
 
   pub all-degrees : Σℕ (rowsIn p) (degreesOf (factorsOf p)) ≡ runsOf p
-  all-degrees = rw (rows-power a) at (degrees-sum (factorsOf p))
+  all-degrees = rw (rows-power p) at (degrees-sum (factorsOf p))
 
   -- ---- "No numerator, and no sum of them in one table, exceeds" the limit of the plan
 

@@ -5,7 +5,7 @@
 --   Joinable place parts               both parts of a sum can be added
 --   Gatherable parts                   so of all sums
 --   BringsTwo, BringsThree             what an effect brings fits, at two levels and at three
---   Walkable row num kind t n rows     the walk stays within its rows and kinds, and its sums fit
+--   Walkable row num kind t n r        the walk stays within r rows and four kinds, and its sums fit
 --   WalkableTwo, WalkableThree         so by the lists that the loops are handed
 use mathlib.Core.Path.{_≡_}
 use mathlib.Core.List.{List}
@@ -15,9 +15,7 @@ use lib.ListN.{length, getD}
 use Rattle.algebra.specs.Naturals.{Σℕ}
 use Rattle.contrasts.specs.Columns.{read}
 use Rattle.contrasts.specs.Totals.{Column}
-use Rattle.walks.specs.State.{twoParts, sumIn, squareAt, numeratorBy}
-use Rattle.walks.specs.Inner.Parts.{placeOf}
-use Rattle.walks.specs.Inner.Walk.{zeros}
+use Rattle.walks.specs.State.{numeratorBy, placeOf, squareAt, sumIn, twoParts, zeros}
 
 pub record Weighable (t : ℤ) (w : ℕ) : Type 0 where
   pub square-fits : natAbs t * natAbs t < 2 ^ 63
@@ -49,12 +47,11 @@ pub record BringsThree (row : ℕ) (t : ℤ) (w kind half : ℕ) (rows parts : L
   pub row-fits : getD rows row 0 + natAbs t * natAbs t * w < 2 ^ 63
   pub addable : Addable (placeOf kind half) (natAbs t * natAbs t * w) parts
 
-pub record Walkable (row num kind : ℕ → ℕ) (t : Column) (n : ℕ) (rows : List ℕ) : Type 0 where
+pub record Walkable (row num kind : ℕ → ℕ) (t : Column) (n r : ℕ) : Type 0 where
   pub few : n < 2 ^ 63
-  pub row-there : (e : ℕ) → e < n → row e < length rows
+  pub row-there : (e : ℕ) → e < n → row e < r
   pub four-kinds : (e : ℕ) → e < n → kind e < 4
   pub squares : (e : ℕ) → e < n → natAbs (t e) * natAbs (t e) ≤ num e
-  pub cleared : rows ≡ zeros (length rows)
   -- the sum of all numerators, which is the bound of every sum of some of them
   pub sum-fits : Σℕ n num < 2 ^ 63
 
@@ -62,10 +59,12 @@ pub record WalkableTwo (ts : List ℤ) (kinds rows : List ℕ) : Type 0 where
   pub pairs : ℕ
   pub in-pairs : length ts ≡ 2 * pairs
   pub kinds-long : length ts ≤ length kinds
-  pub walkable : Walkable (λ i. i) (squareAt ts) (λ i. getD kinds i 0) (read ts) (length ts) rows
+  pub cleared : rows ≡ zeros (length rows)
+  pub walkable : Walkable (λ i. i) (squareAt ts) (λ i. getD kinds i 0) (read ts) (length ts) (length rows)
 
 pub record WalkableThree (ts : List ℤ) (effects weights kinds rows : List ℕ) : Type 0 where
   pub effects-long : length ts ≤ length effects
   pub weights-long : length ts ≤ length weights
   pub kinds-long : length rows ≤ length kinds
-  pub walkable : Walkable (λ i. getD effects i 0) (numeratorBy ts weights) (λ i. getD kinds (getD effects i 0) 0) (read ts) (length ts) rows
+  pub cleared : rows ≡ zeros (length rows)
+  pub walkable : Walkable (λ i. getD effects i 0) (numeratorBy ts weights) (λ i. getD kinds (getD effects i 0) 0) (read ts) (length ts) (length rows)

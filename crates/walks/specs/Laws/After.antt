@@ -1,29 +1,25 @@
--- The state of a loop, by the lists that it is handed, is what rows and sums hold after e totals, for every e.
+-- What a loop holds by the lists that it is handed is what rows and sums hold after e totals, for every e.
 --
 --   Agree row num kind t row′ num′ kind′ t′ n    lists agree with other ones on the first n effects
 --   walking-agrees, walked-agrees                 then the state of a loop is the same by both, and so is its end
 --   row-there                                     an effect's row is one of the plan's
 --   two-agrees, three-agrees                      the lists that are handed on at two levels, and at three, agree with the plan
 --   rows-agree, sums-agree                        totals that agree leave the same rows and sums
---   rows-after, sums-after                        a state by the plan's own rows, numerators and kinds is that of `After`
+--   rows-after                                    the rows, by the plan's own rows, numerators and kinds, are those of `rowsAfter`
 use mathlib.Core.Path.{_≡_, refl, sym, _∙_, ap}
 use mathlib.Core.Bool.{true}
 use mathlib.Core.List.{List}
-use Prim.Native.Nat.{ℕ, _*_, _^_, _<_}
+use Prim.Native.Nat.{ℕ, _*_, _<_}
 use native.Mathlib.Nat.{mul-one}
 use native.Mathlib.Omega.{arith}
 use borrow.Author.Tests.{lt-ltb}
 use lib.Dec.{ltb}
 use lib.IntN.{ℤ, natAbs}
 use lib.ListN.{getD, length-replicate}
-use mir.Syntax.{w64}
-use mir.Val.{toZ, ofZ}
-use Rattle.algebra.specs.Laws.Machine.{back}
 use Rattle.algebra.specs.Laws.Sorted.{sum-cong, sorted-cong}
 use Rattle.algebra.specs.Laws.Sum.{Σ-cong}
-use Rattle.algebra.specs.Laws.Tab.{getD-tab, tab-cong}
+use Rattle.algebra.specs.Laws.Tab.{getD-tab}
 use Rattle.algebra.specs.Sorted.{sumAt}
-use Rattle.algebra.specs.Sum.{Σ}
 use Rattle.algebra.specs.Tab.{tab}
 use Rattle.contrasts.specs.Columns.{read}
 use Rattle.contrasts.specs.Factors.{ofLevels}
@@ -40,9 +36,9 @@ use Rattle.plan.specs.Laws.Sizes.{run-count, runs-two, runs-few, factors-two}
 use Rattle.rows.specs.Kinds.{rowsIn, kindOf, codeOf, kindsOf}
 use Rattle.rows.specs.Laws.Rows.{rows-few}
 use Rattle.walks.specs.declared.types.Sums.{Sums}
-use Rattle.walks.specs.After.{kindAt, numeratorAt, rowsAfter, sumsAfter}
-use Rattle.walks.specs.State.{sumIn, heldIn, Walking, squareAt, numeratorBy}
-use Rattle.walks.specs.Inner.Walk.{sumsBy, Walked}
+use Rattle.walks.specs.After.{kindAt, numeratorAt, rowsAfter, sumsBy, sumsAfter}
+use Rattle.walks.specs.State.{numeratorBy, squareAt}
+use Rattle.walks.specs.Inner.Walk.{Walked, Walking}
 
 -- ---- lists that agree
 
@@ -53,7 +49,7 @@ pub record Agree (row num kind : ℕ → ℕ) (t : Column) (row′ num′ kind�
   pub totals : (i : ℕ) → i < n → t i ≡ t′ i
 
 module _ {row num kind : ℕ → ℕ} {t : Column} {row′ num′ kind′ : ℕ → ℕ} {t′ : Column} {n : ℕ} (a : Agree row num kind t row′ num′ kind′ t′ n) where
-  pub walking-agrees : {r e : ℕ} {rows parts : List ℕ} {s : ℕ}
+  pub walking-agrees : {r e : ℕ} {rows parts : List ℕ} {s : ℤ}
       → Walking row num kind t n r e rows parts s → Walking row′ num′ kind′ t′ n r e rows parts s
   walking-agrees {r} {e} w =
       let below : (i : ℕ) → i < e → i < n = λ i h. omega (arith, w .upto) in
@@ -63,7 +59,7 @@ module _ {row num kind : ℕ → ℕ} {t : Column} {row′ num′ kind′ : ℕ 
         places = w .places;
         numerators-hold = λ c k. w .numerators-hold c k ∙ sum-cong (λ i h. a .kinds i (below i h)) (λ i h. a .numerators i (below i h)) c;
         degrees-hold = λ c k. w .degrees-hold c k ∙ sum-cong (λ i h. a .kinds i (below i h)) (λ i h. refl) c;
-        totals-hold = w .totals-hold ∙ ap (ofZ w64) (Σ-cong e (λ i h. a .totals i (below i h)));
+        totals-hold = w .totals-hold ∙ Σ-cong e (λ i h. a .totals i (below i h));
       }
 
   pub walked-agrees : {r : ℕ} {s : Sums} {rows : List ℕ} → Walked row num kind t n r s rows → Walked row′ num′ kind′ t′ n r s rows
@@ -108,7 +104,7 @@ module _ (p : Plan) (ok : planRefused p ≡ 0) (marks : List ℕ) (ts : List ℤ
   in-plan : (i : ℕ) → i < runsOf p → ltb i (runCount p) ≡ true
   in-plan i h = lt-ltb i (runCount p) (rw (run-count p ok) h)
 
-  pub listed-row : (i : ℕ) → i < runsOf p → getD (effectRows p) i 0 ≡ rowOf (factorsOf p) i
+  listed-row : (i : ℕ) → i < runsOf p → getD (effectRows p) i 0 ≡ rowOf (factorsOf p) i
   unfolding effectRows
   listed-row i h = getD-tab 0 1024 _ i (omega (arith, runs-few p ok)) ∙ rw (in-plan i h) refl
 
@@ -129,23 +125,10 @@ module _ (p : Plan) (ok : planRefused p ≡ 0) (marks : List ℕ) (ts : List ℤ
 
 -- ---- the state by the plan's own rows, numerators and kinds
 
-module _ (p : Plan) (marks : List ℕ) {t : Column} {n e : ℕ} {rows parts : List ℕ} {s : ℕ}
-    (w : Walking (rowOf (factorsOf p)) (numeratorAt p t) (kindAt p marks) t n (rowsIn p) e rows parts s) where
-  pub rows-after : rows ≡ rowsAfter p t e
-  unfolding rowsAfter
-  rows-after = w .rows-hold
-
-  pub sums-after : natAbs (Σ e t) < 2 ^ 63 → heldIn parts (toZ w64 s) ≡ sumsAfter p t marks e
-  unfolding heldIn sumsAfter
-  sums-after h =
-      λ i. record {
-        numerators = tab-cong 0 4 (sumIn parts 0) (sumAt (kindAt p marks) (numeratorAt p t) e) (w .numerators-hold) i;
-        degrees = tab-cong 0 4 (sumIn parts 1) (sumAt (kindAt p marks) (λ j. 1) e) (w .degrees-hold) i;
-        totals = held i;
-      }
-    where
-      held : toZ w64 s ≡ Σ e t
-      held = rw (w .totals-hold) (back (Σ e t) h)
+pub rows-after : (p : Plan) (marks : List ℕ) {t : Column} {n e : ℕ} {rows parts : List ℕ} {s : ℤ}
+    → Walking (rowOf (factorsOf p)) (numeratorAt p t) (kindAt p marks) t n (rowsIn p) e rows parts s → rows ≡ rowsAfter p t e
+unfolding rowsAfter
+rows-after p marks w = w .rows-hold
 
 -- ---- totals that agree
 
@@ -158,7 +141,7 @@ module _ (p : Plan) {e : ℕ} {t t′ : Column} (so : (i : ℕ) → i < e → t 
   rows-agree = sorted-cong (λ i h. refl) numerators-agree (rowsIn p)
 
   pub sums-agree : (marks : List ℕ) → sumsAfter p t marks e ≡ sumsAfter p t′ marks e
-  unfolding sumsAfter
+  unfolding sumsBy
   sums-agree marks =
       λ i. record {
         numerators = sorted-cong {key = kindAt p marks} {key′ = kindAt p marks} (λ j h. refl) numerators-agree 4 i;

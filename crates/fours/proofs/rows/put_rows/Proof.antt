@@ -39,4 +39,7 @@ put-rows-spec =
     (λ c. omega (arith, inside c))
     (λ c. simp length-set (omega (arith, inside c)))
     (λ c. simp length-set refl)
-    (λ c. put-made (c .before .before .before .before .before .before .before .before .before .before .pre) (c .before .before .before .before .before .before .before .rows-of .ensures) (c .before .before .before .before .rows-of2 .ensures)))
+    (λ c.
+    let gaps = c .before .before .before .before in
+    let sums = gaps .before .before .before in
+    put-made (sums .before .before .before .pre) (sums .rows-of .ensures) (gaps .rows-of2 .ensures)))

@@ -63,7 +63,7 @@ put-rows-spec =
     (λ c. simp length-set (omega (arith, inside c)))
     (λ c. simp length-set refl)
     (λ c.
-    let sums = c .before .before .before .before .before .before .before .before .before .before .before .before .before .before .before .before .before .rows-of .ensures in
-    let gaps = c .before .before .before .before .before .before .before .before .before .before .before .before .before .rows-of2 .ensures in
-    let curves = c .before .before .before .before .before .before .before .before .before .rows-of3 .ensures in
-    put-made (c .before .before .before .before .before .before .before .before .before .before .before .before .before .before .before .before .before .before .before .before .before .pre) sums gaps curves))
+    let curves = c .before .before .before .before .before .before .before .before .before in
+    let gaps = curves .before .before .before .before in
+    let sums = gaps .before .before .before .before in
+    put-made (sums .before .before .before .before .pre) (sums .rows-of .ensures) (gaps .rows-of2 .ensures) (curves .rows-of3 .ensures)))

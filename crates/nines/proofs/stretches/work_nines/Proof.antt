@@ -94,9 +94,10 @@ work-nines-spec =
     (λ c.
     let pre = c .before .before .before .before .before .before .before .before .before .before .before .before .before .before .before .before .before .pre in
     let inv = c .before .before .before .before .before .before .before .before .before .before .before .before .before .before .before .before .loop .inv in
-    let low = c .before .before .before .before .before .before .before .before .before .before .before .rows-of .ensures in
-    let middle = c .before .before .before .before .before .before .before .rows-of2 .ensures in
-    let high = c .before .before .before .rows-of3 .ensures in
-    nines-more pre inv (c .before .before .before .before .before .before .before .before .before .before .before .before .before .before .before .loop-test .taken) low middle high (c .before .put-rows .ensures))
+    let high = c .before .before .before in
+    let middle = high .before .before .before .before in
+    let low = middle .before .before .before .before in
+    let inside = low .before .before .before .before .loop-test .taken in
+    nines-more pre inv inside (low .rows-of .ensures) (middle .rows-of2 .ensures) (high .rows-of3 .ensures) (c .before .put-rows .ensures))
     (λ c. as-long (pos 0) (c .before .loop .inv) ∙ sym (c .before .before .pre .whole))
     (λ c. both-ended three (c .before .before .pre) (c .before .loop .inv) (c .loop-test .left)))

@@ -2,7 +2,7 @@ use mathlib.Core.Path.{refl, _∙_}
 use native.Mathlib.Omega.{arith}
 use borrow.Author.Needs.{needs}
 use Rattle.algebra.specs.Laws.Machine.{kept}
-use Rattle.walks.specs.Inner.Parts.{plusAt}
+use Rattle.walks.specs.State.{plusAt}
 use Rattle.walks.proofs.Walked.{numerator-kept}
 use Rattle.walks.proofs.bringing.bring_three.Statement.{statement}
 use Rattle.walks.proofs.bringing.bring_three.Tie as tie

@@ -1,8 +1,8 @@
 use mathlib.Core.Path.{refl}
 use native.Mathlib.Omega.{arith}
 use borrow.Author.Needs.{needs}
-use Rattle.walks.specs.Inner.Parts.{plusAt, brought}
-use Rattle.walks.proofs.Parted.{next-still}
+use Rattle.walks.specs.State.{brought, plusAt}
+use Rattle.walks.specs.Laws.Parts.{next-still}
 use Rattle.walks.proofs.parts.add.Statement.{statement}
 use Rattle.walks.proofs.parts.add.Tie as tie
 

@@ -2,13 +2,13 @@ use mathlib.Core.Path.{sym, _∙_}
 use Prim.Native.Nat.{_-_}
 use native.Mathlib.Omega.{arith}
 use lib.ListN.{length}
-use Rattle.walks.proofs.Walked.{walking-none, walking-all, rows-long, check-fits, gatherable, brings-three, three-more}
+use Rattle.walks.proofs.Walked.{threes-none, threes-more, threes-all, three-places, three-long, three-gatherable, three-fits, brings-three}
 use Rattle.walks.proofs.three_levels.walk_three.Statement.{statement}
 use Rattle.walks.proofs.three_levels.walk_three.Tie as tie
-use Rattle.walks.specs.State.{WalkingThree}
+use Rattle.walks.specs.State.{RunningThree}
 
 abbrev Inv-loop : tie.InvT-loop
-Inv-loop totals effects weights kinds rows₀ _ _ _ rows parts sum e = WalkingThree totals effects weights kinds (length rows₀) e rows parts sum
+Inv-loop totals effects weights kinds rows₀ _ _ _ rows parts sum e = RunningThree totals effects weights kinds (length rows₀) e rows parts sum
 
 abbrev μ-loop : tie.MeasureT-loop
 μ-loop totals _ _ _ _ _ _ _ _ _ _ e = length totals - e
@@ -21,7 +21,7 @@ walk-three-spec =
     μ-loop
     (λ c.
     let pre = c .before .before .before .before .pre in
-    walking-none (pre .walkable))
+    threes-none pre)
     (λ c. omega arith)
     (λ c. omega arith)
     (λ c. omega arith)
@@ -40,7 +40,9 @@ walk-three-spec =
     let turn = c .before .before .before .before in
     let pre = turn .before .before .before .before .before .before .pre in
     omega (arith, pre .kinds-long, pre .walkable .row-there (turn .before .loop .e) (omega (arith, turn .loop-test .taken))))
-    (λ c. sym (c .before .before .before .before .before .before .before .loop .inv .places))
+    (λ c.
+    let pre = c .before .before .before .before .before .before .before .before .before .before .before .before .pre in
+    sym (three-places pre (c .before .before .before .before .before .before .before .loop .inv)))
     (λ c κs.
     let turn = c .before .before .before .before .before .before in
     let pre = turn .before .before .before .before .before .before .pre in
@@ -48,21 +50,23 @@ walk-three-spec =
     (λ c.
     let turn = c .before .before .before .before .before .before .before .before .before .before in
     let pre = turn .before .before .before .before .before .before .pre in
-    check-fits (pre .walkable) (turn .before .loop .inv) (omega (arith, turn .loop-test .taken)))
+    three-fits pre (turn .before .loop .inv) (omega (arith, turn .loop-test .taken)))
     (λ c. omega arith)
     (λ c. omega arith)
     (λ c.
     let turn = c .before .before .before .before .before .before .before .before .before .before in
     let pre = turn .before .before .before .before .before .before .pre in
-    three-more pre (turn .before .loop .inv) (omega (arith, turn .loop-test .taken)) (c .before .before .before .bring-three .ensures))
-    (λ c. sym (c .before .before .loop .inv .places))
+    threes-more pre (turn .before .loop .inv) (omega (arith, turn .loop-test .taken)) (c .before .before .before .bring-three .ensures))
+    (λ c.
+    let pre = c .before .before .before .before .before .before .before .pre in
+    sym (three-places pre (c .before .before .loop .inv)))
     (λ c κs.
     let pre = c .before .before .before .before .before .before .before .pre in
-    gatherable (pre .walkable) (c .before .before .loop .inv))
+    three-gatherable pre (c .before .before .loop .inv))
     (λ c.
     let pre = c .before .before .before .before .before .before .before .before .pre in
-    rows-long (pre .walkable) (c .before .before .before .loop .inv))
+    three-long pre (c .before .before .before .loop .inv))
     (λ c.
     let pre = c .before .before .before .before .before .before .before .before .pre in
-    let walked = walking-all (pre .walkable) (c .before .before .before .loop .inv) (omega (arith, c .before .before .loop-test .left)) in
+    let walked = threes-all pre (c .before .before .before .loop .inv) (omega (arith, c .before .before .loop-test .left)) in
     record { sums-are = c .gather .ensures ∙ walked .sums-are; rows-are = walked .rows-are }))

@@ -3,13 +3,13 @@ use Prim.Native.Nat.{_-_}
 use native.Mathlib.Omega.{arith}
 use lib.Dec.{lit<}
 use lib.ListN.{length}
-use Rattle.walks.proofs.Walked.{walking-all, rows-long, check-fits, gatherable, brings-two, two-more, pairs-none, second-there, pairs-more}
+use Rattle.walks.specs.State.{RunningTwo}
+use Rattle.walks.proofs.Walked.{pairs-none, pairs-more, pairs-all, two-places, held-places, two-long, two-gatherable, two-fits, brings-two, two-more, second-there, first-half, second-half}
 use Rattle.walks.proofs.two_levels.walk_two.Statement.{statement}
 use Rattle.walks.proofs.two_levels.walk_two.Tie as tie
-use Rattle.walks.specs.State.{InPairs}
 
 abbrev Inv-loop : tie.InvT-loop
-Inv-loop totals kinds rows₀ _ _ _ rows parts sum e = InPairs totals kinds (length rows₀) e rows parts sum
+Inv-loop totals kinds rows₀ _ _ _ rows parts sum e = RunningTwo totals kinds (length rows₀) e rows parts sum
 
 abbrev μ-loop : tie.MeasureT-loop
 μ-loop totals _ _ _ _ _ _ _ _ e = length totals - e
@@ -28,15 +28,17 @@ walk-two-spec =
     (λ c.
     let pre = c .before .before .before .before .before .before .pre in
     omega (arith, pre .kinds-long))
-    (λ c. sym (c .before .before .before .before .before .loop .inv .walking .places))
+    (λ c.
+    let pre = c .before .before .before .before .before .before .before .before .pre in
+    sym (two-places pre (c .before .before .before .before .before .loop .inv)))
     (λ c κs.
     let turn = c .before .before .before .before in
     let pre = turn .before .before .before .before .pre in
-    brings-two pre (turn .before .loop .inv .walking) (turn .loop-test .taken) 0 (lit< tt))
+    brings-two pre (turn .before .loop .inv .holding) (turn .loop-test .taken) 0 (lit< tt))
     (λ c.
     let turn = c .before .before .before .before .before .before .before .before in
     let pre = turn .before .before .before .before .pre in
-    check-fits (pre .walkable) (turn .before .loop .inv .walking) (turn .loop-test .taken))
+    two-fits pre (turn .before .loop .inv .holding) (turn .loop-test .taken))
     (λ c. omega arith)
     (λ c.
     let turn = c .before .before .before .before .before .before .before .before in
@@ -54,19 +56,22 @@ walk-two-spec =
     let first = c .before .before .before .before .before .before .before in
     let turn = first .before .before .before .before .before in
     let pre = turn .before .before .before .before .pre in
-    sym (two-more pre (turn .before .loop .inv .walking) (turn .loop-test .taken) 0 (lit< tt) (first .bring-two .ensures) .places))
+    let running = turn .before .loop .inv in
+    sym (held-places pre (two-more pre (running .holding) (turn .loop-test .taken) 0 (first-half pre running) (first .bring-two .ensures)) (second-there pre running (turn .loop-test .taken))))
     (λ c κs.
     let first = c .before .before .before .before .before .before .before in
     let turn = first .before .before .before .before .before in
     let pre = turn .before .before .before .before .pre in
-    let between = two-more pre (turn .before .loop .inv .walking) (turn .loop-test .taken) 0 (lit< tt) (first .bring-two .ensures) in
+    let running = turn .before .loop .inv in
+    let between = two-more pre (running .holding) (turn .loop-test .taken) 0 (first-half pre running) (first .bring-two .ensures) in
     brings-two pre between (second-there pre (turn .before .loop .inv) (turn .loop-test .taken)) 1 (lit< tt))
     (λ c.
     let first = c .before .before .before .before .before .before .before .before .before .before .before in
     let turn = first .before .before .before .before .before in
     let pre = turn .before .before .before .before .pre in
-    let between = two-more pre (turn .before .loop .inv .walking) (turn .loop-test .taken) 0 (lit< tt) (first .bring-two .ensures) in
-    check-fits (pre .walkable) between (second-there pre (turn .before .loop .inv) (turn .loop-test .taken)))
+    let running = turn .before .loop .inv in
+    let between = two-more pre (running .holding) (turn .loop-test .taken) 0 (first-half pre running) (first .bring-two .ensures) in
+    two-fits pre between (second-there pre (turn .before .loop .inv) (turn .loop-test .taken)))
     (λ c.
     let turn = c .before .before .before .before .before .before .before .before .before .before .before .before .before .before .before .before in
     let pre = turn .before .before .before .before .pre in
@@ -78,16 +83,19 @@ walk-two-spec =
     let turn = first .before .before .before .before .before in
     let pre = turn .before .before .before .before .pre in
     let inside = second-there pre (turn .before .loop .inv) (turn .loop-test .taken) in
-    let between = two-more pre (turn .before .loop .inv .walking) (turn .loop-test .taken) 0 (lit< tt) (first .bring-two .ensures) in
-    pairs-more (turn .before .loop .inv) (two-more pre between inside 1 (lit< tt) (second .bring-two2 .ensures)))
-    (λ c. sym (c .before .before .loop .inv .walking .places))
+    let running = turn .before .loop .inv in
+    let between = two-more pre (running .holding) (turn .loop-test .taken) 0 (first-half pre running) (first .bring-two .ensures) in
+    pairs-more pre running (turn .loop-test .taken) (two-more pre between inside 1 (second-half pre running) (second .bring-two2 .ensures)))
+    (λ c.
+    let pre = c .before .before .before .before .before .pre in
+    sym (two-places pre (c .before .before .loop .inv)))
     (λ c κs.
     let pre = c .before .before .before .before .before .pre in
-    gatherable (pre .walkable) (c .before .before .loop .inv .walking))
+    two-gatherable pre (c .before .before .loop .inv))
     (λ c.
     let pre = c .before .before .before .before .before .before .pre in
-    rows-long (pre .walkable) (c .before .before .before .loop .inv .walking))
+    two-long pre (c .before .before .before .loop .inv))
     (λ c.
     let pre = c .before .before .before .before .before .before .pre in
-    let walked = walking-all (pre .walkable) (c .before .before .before .loop .inv .walking) (c .before .before .loop-test .left) in
+    let walked = pairs-all pre (c .before .before .before .loop .inv) (c .before .before .loop-test .left) in
     record { sums-are = c .gather .ensures ∙ walked .sums-are; rows-are = walked .rows-are }))
