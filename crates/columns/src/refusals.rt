@@ -1,28 +1,30 @@
-// The lowest number of a call that reads one column and writes another.
+// The first number of a call that reads one column and writes another.
+ghost use mathlib.Core.Bool.{not, _||_};
 ghost use mathlib.Core.Path.{_≡_};
+ghost use lib.Dec.{eqb};
 use super::scans::any_reading_beyond;
 use super::scans::any_value_beyond;
 use plan::Plan;
 use plan::lowest;
+use sizes::reading_count;
 use sizes::runs;
 ghost use Rattle.contrasts.specs.Limits.{valueLimit};
-ghost use Rattle.plan.specs.Limits.{readingLimit};
 ghost use Rattle.columns.specs.Inner.Judged.{lengthsRefused};
-ghost use Rattle.columns.specs.Refusals.{columnsRefused};
+ghost use Rattle.columns.specs.Refusals.{wrongLength, columnsRefused, readingsRefused};
 
-// The lowest number that applies to the plan and to the lengths of the two columns, and 0 where none does.
-fn lengths_refused(p: Plan, read: usize, written: usize) -> u8
-    ensures { λ r. ⌜ r ≡ lengthsRefused p read written ⌝ }
+// The first number that applies to the plan and to the lengths of the two columns, and 0 where none does. The one that is read is to have
+// `count` places.
+fn lengths_refused(p: Plan, count: usize, read: usize, written: usize) -> u8
+    ensures { λ r. ⌜ r ≡ lengthsRefused p (not (eqb read count) || wrongLength p written) ⌝ }
 {
     let n = lowest(p);
     if n != 0 {
         return n;
     }
-    let runs = runs(p);
-    if read != runs {
+    if read != count {
         return 11;
     }
-    if written != runs {
+    if written != runs(p) {
         return 11;
     }
     0
@@ -32,7 +34,7 @@ fn lengths_refused(p: Plan, read: usize, written: usize) -> u8
 pub fn values_refused(p: Plan, from: &[i64], to: &[i64]) -> u8
     ensures { λ r. ⌜ r ≡ columnsRefused valueLimit p (now (from .entry)) (now (to .entry)) ⌝ }
 {
-    let n = lengths_refused(p, from.len(), to.len());
+    let n = lengths_refused(p, runs(p), from.len(), to.len());
     if n != 0 {
         return n;
     }
@@ -44,9 +46,9 @@ pub fn values_refused(p: Plan, from: &[i64], to: &[i64]) -> u8
 
 // The same for readings.
 pub fn readings_refused(p: Plan, readings: &[i32], totals: &[i64]) -> u8
-    ensures { λ r. ⌜ r ≡ columnsRefused (readingLimit p) p (now (readings .entry)) (now (totals .entry)) ⌝ }
+    ensures { λ r. ⌜ r ≡ readingsRefused p (now (readings .entry)) (now (totals .entry)) ⌝ }
 {
-    let n = lengths_refused(p, readings.len(), totals.len());
+    let n = lengths_refused(p, reading_count(p), readings.len(), totals.len());
     if n != 0 {
         return n;
     }

@@ -3,17 +3,21 @@
 --   read xs              the column of a list
 --   AllWithin M xs       no value of a list exceeds M in size
 --   totalsOf Fs xs       the N totals, that of effect e at place e
+--   runSumsIn n r xs     the sums of n runs that are made r times
+--   squaresOf xs         the sum of the squares of a list
 --   passOf Fs f xs       the column after the pass of position f
 --   passesOf Fs fs xs    after the passes of a list of positions, one after the other
 --   stepOf N F xs        the column of N that the step writes
 --   stepsOf N Fs xs      after a step for each factor, one after the other
 use mathlib.Core.List.{List, [], _∷_}
-use Prim.Native.Nat.{ℕ, _≤_}
+use Prim.Native.Nat.{ℕ, _*_, _≤_}
 use lib.IntN.{ℤ, pos, natAbs}
-use lib.ListN.{getD}
+use lib.ListN.{length, getD}
+use Rattle.algebra.specs.Naturals.{Σℕ}
 use Rattle.algebra.specs.Tab.{tab}
 use Rattle.contrasts.specs.Factor.{Factor}
 use Rattle.contrasts.specs.Totals.{Column, size, total}
+use Rattle.contrasts.specs.Repeats.{runSums}
 use Rattle.contrasts.specs.Passes.{pass}
 use Rattle.contrasts.specs.Steps.{step}
 
@@ -27,6 +31,14 @@ AllWithin M xs = (i : ℕ) → natAbs (read xs i) ≤ M
 -- T2, T10: "place e of a column of totals holds the total of effect e"
 unfoldable pub totalsOf : List Factor → List ℤ → List ℤ
 totalsOf Fs xs = tab (size Fs) (total Fs (read xs))
+
+-- R10: the run sums of n runs, "r at a time for each run in run order"
+unfoldable pub runSumsIn : ℕ → ℕ → List ℤ → List ℤ
+runSumsIn n r xs = tab n (runSums r (read xs))
+
+-- D3.7: "the sum of all squared readings"
+unfoldable pub squaresOf : List ℤ → ℕ
+squaresOf xs = Σℕ (length xs) (λ i. natAbs (read xs i) * natAbs (read xs i))
 
 -- T14: "The pass works in one column of N"
 unfoldable pub passOf : List Factor → ℕ → List ℤ → List ℤ

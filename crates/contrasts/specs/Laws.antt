@@ -6,6 +6,7 @@
 --   Divisors       divisors, weights and the denominator
 --   Orthogonal     the coefficients are orthogonal
 --   Squares        the sum of squares, the bound on numerators
+--   Repeats        runs that are made more than once
 --   Recovery       readings back from totals
 --   CheckSum       the sum of all totals
 --   Bounds         how large values grow
@@ -30,6 +31,7 @@ pub mod Steps
 pub mod Divisors
 pub mod Orthogonal
 pub mod Squares
+pub mod Repeats
 pub mod Recovery
 pub mod CheckSum
 pub mod Bounds

@@ -10,6 +10,7 @@
 --   Checks      the rounds of the check
 --   Rows        the rows of the table and their degrees
 --   Limits      the limits of readings, values and numerators
+--   Repeats     runs that are made more than once: run sums, and squares within runs
 --   Columns     the definitions over columns that are lists
 --   Contrast    the readings of some runs less those of the others
 --   Examples    the worked examples, computed
@@ -23,6 +24,7 @@ pub mod Steps
 pub mod Checks
 pub mod Rows
 pub mod Limits
+pub mod Repeats
 pub mod Columns
 pub mod Contrast
 pub mod Examples

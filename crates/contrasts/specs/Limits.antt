@@ -6,7 +6,10 @@
 --   valueLimit                                the size of a value that a pass or a step admits
 --   mostTwo, mostThree                        how many factors a plan may have
 --   mostAdded, mostBlocks                     how many added factors and block words
+--   isRepeats r, mostReadings                 how often a run may be made, and how many readings there may be
+use mathlib.Core.Bool.{Bool, _||_}
 use Prim.Native.Nat.{ℕ}
+use lib.Dec.{eqb}
 
 -- T1: "At two levels the reading limit becomes 1,000,000 either way"
 unfoldable pub twoReadingLimit : ℕ
@@ -43,3 +46,11 @@ mostAdded = 6
 -- P3
 abbrev pub mostBlocks : ℕ
 mostBlocks = 4
+
+-- P12: "Each run is now made r times, 1, 2, 4 or 8"
+unfoldable pub isRepeats : ℕ → Bool
+isRepeats r = eqb r 1 || (eqb r 2 || (eqb r 4 || eqb r 8))
+
+-- P13: "N times r is at most 1,024."
+unfoldable pub mostReadings : ℕ
+mostReadings = 1_024

@@ -1,19 +1,22 @@
--- What section 9 of the rules refuses of a plan: refusals 2 to 8.
+-- What section 9 of the rules refuses of a plan: refusals 2 to 8, and 16.
 --
 --   badLevels, badFactors, badCounts           refusals 2, 3 and 4
 --   badWord, badSign, badWords                 refusal 5; refusal 6 is `repeated` of words
 --   dependent                                  refusal 7
 --   factorWord, losesFactor                    refusal 8
---   wordRefusals, planRefusals, planRefused    these refusals; the lowest number that applies to a plan, 0 where it is accepted
+--   badRepeats                                 refusal 16
+--   wordRefusals, twoToEight, planRefusals     these refusals
+--   planRefused                                the first number that applies to a plan, 0 where it is accepted
 --   withPlan p refusals                        the lowest number of a call that takes a plan and has further refusals of its own
---   runCount p, spacingAt p f                  the number of runs, and the spacing of the factor at position f, for any plan
+--   runCount p, readingCount p                 the number of runs, and that of readings, for any plan
+--   spacingAt p f                              the spacing of the factor at position f, for any plan
 --   confoundedAccepted p w                     whether the effect of w is confounded, for any plan
 --   checkOutcome                               the cases of the check's answer
 use mathlib.Core.Bool.{Bool, false, not, cond, _||_}
-use mathlib.Core.List.{List, [], _∷_}
-use Prim.Native.Nat.{ℕ}
+use mathlib.Core.List.{List, [], _∷_, _++_}
+use Prim.Native.Nat.{ℕ, _*_}
 use lib.Dec.{eqb, leb, ltb}
-use Rattle.contrasts.specs.Limits.{mostTwo, mostThree, mostAdded, mostBlocks}
+use Rattle.contrasts.specs.Limits.{mostTwo, mostThree, mostAdded, mostBlocks, isRepeats, mostReadings}
 use Rattle.contrasts.specs.Passes.{spacing}
 use Rattle.plan.specs.declared.types.Plan.{Plan}
 use Rattle.plan.specs.declared.types.Check.{Check}
@@ -64,6 +67,10 @@ factorWord w words = eqb (letters w) 1 || among w words
 unfoldable pub losesFactor : List ℕ → List ℕ → Bool
 losesFactor words blocks = someCombination blocks (λ w. factorWord w words)
 
+-- N16: "r not allowed or N times r too large", of n runs
+unfoldable pub badRepeats : ℕ → ℕ → Bool
+badRepeats n r = not (isRepeats r) || ltb mostReadings (n * r)
+
 -- N5 to N8: the refusals on the words, for themselves
 abbrev pub wordRefusals : ℕ → List ℕ → List ℕ → List ℕ → List Refusal
 wordRefusals k words signs blocks =
@@ -74,12 +81,16 @@ wordRefusals k words signs blocks =
     ∷ []
 
 -- L3: "The plan check gives 2 to 8"
-abbrev pub planRefusals : Plan → List Refusal
-planRefusals p =
+abbrev pub twoToEight : Plan → List Refusal
+twoToEight p =
     refusal 2 (badLevels (p .levels))
     ∷ refusal 3 (badFactors (p .levels) (p .k))
     ∷ refusal 4 (badCounts (p .levels) (p .added) (p .blocks))
     ∷ wordRefusals (p .k) (addedWords p) (addedSigns p) (blockWords p)
+
+-- L12: "16 [..] after 8"
+abbrev pub planRefusals : Plan → List Refusal
+planRefusals p = twoToEight p ++ (refusal 16 (badRepeats (runsOf p) (p .repeats)) ∷ [])
 
 -- L1, L3
 unfoldable pub planRefused : Plan → ℕ
@@ -98,6 +109,10 @@ confoundedAccepted p w = cond (eqb (planRefused p) 0) (confoundedIn p w) false
 -- the number of runs, and 0 where levels or k are out of range
 unfoldable pub runCount : Plan → ℕ
 runCount p = cond (badLevels (p .levels) || badFactors (p .levels) (p .k)) 0 (runsOf p)
+
+-- the number of readings, and 0 where there are no runs
+unfoldable pub readingCount : Plan → ℕ
+readingCount p = runCount p * p .repeats
 
 -- T7: how far apart the values of the factor at position f lie, "levels to the power f", and 0 where there is none or `runCount` is 0
 unfoldable pub spacingAt : Plan → ℕ → ℕ

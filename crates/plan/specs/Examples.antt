@@ -1,8 +1,10 @@
 -- The small inputs of the table of refusals, 2 to 8, and the starred run on block words AD and ABC, computed over the definitions.
 --
 --   A, AB, C, BC, ABC, AD, CD, BCD      words by their letters
---   plan levels k words signs blocks    a plan with these words, whose other places hold 0 (`filled`)
+--   plan levels k words signs blocks    a plan with these words, whose other places hold 0 (`filled`), and whose runs are made once
+--   made r p                            the plan p with its runs made r times
 --   small-inputs, other-refused         the numbers of plans that are refused
+--   repeats-refused                     plans that are refused for their repeats, or for more
 --   all-accepted, BCD-lost              plans that are accepted, and the confounded effects of one
 --   by-choice                           what the choices of some words combine to
 --   of-any-plan                         how many runs there are, and how far apart a factor's values lie, for any plan
@@ -16,13 +18,13 @@ use Rattle.algebra.specs.Naturals.{Σℕ}
 use Rattle.algebra.specs.Bits.{bits}
 use Rattle.algebra.specs.Search.{some}
 use Rattle.algebra.specs.Tab.{tab, tabFrom}
-use Rattle.contrasts.specs.Limits.{mostTwo, mostThree}
+use Rattle.contrasts.specs.Limits.{mostTwo, mostThree, isRepeats, mostReadings}
 use Rattle.contrasts.specs.Factors.{two, three}
 use Rattle.contrasts.specs.Totals.{size}
 use Rattle.words.specs.Words.{letters, beyond, times, combined, any, among, repeated}
 use Rattle.plan.specs.declared.types.Plan.{Plan}
 use Rattle.plan.specs.Plan.{factorsOf, someCombination, combinesTo, confoundedIn}
-use Rattle.plan.specs.Check.{badLevels, badFactors, badCounts, badWord, badSign, badWords, dependent, factorWord, losesFactor, planRefused, runCount, spacingAt}
+use Rattle.plan.specs.Check.{badLevels, badFactors, badCounts, badWord, badSign, badWords, dependent, factorWord, losesFactor, badRepeats, planRefused, runCount, readingCount, spacingAt}
 
 -- ---- words by their letters
 
@@ -62,6 +64,19 @@ plan levels k words signs blocks = record {
   signs = filled 6 signs;
   blocks = length blocks;
   blockwords = filled 4 blocks;
+  repeats = 1;
+}
+
+abbrev pub made : ℕ → Plan → Plan
+made r p = record {
+  levels = p .levels;
+  k = p .k;
+  added = p .added;
+  words = p .words;
+  signs = p .signs;
+  blocks = p .blocks;
+  blockwords = p .blockwords;
+  repeats = r;
 }
 
 -- ---- refusals
@@ -108,10 +123,29 @@ other-refused : map planRefused others ≡ 3 ∷ 3 ∷ 4 ∷ 4 ∷ 5 ∷ 5 ∷ 5
 unfolding planRefused badLevels badFactors mostTwo mostThree badCounts badWords badWord badSign repeated dependent losesFactor factorWord any among beyond letters combined times someCombination combinesTo some bits Σℕ
 other-refused = refl
 
+-- N16, L12: runs made 0, 3, 16 and 255 times; too many readings, at two levels and at three; and plans to which 2, 3 and 8 apply too, which
+-- come before it
+abbrev badlyRepeated : List Plan
+badlyRepeated =
+    made 0 (plan 2 2 [] [] [])
+    ∷ made 3 (plan 2 2 [] [] [])
+    ∷ made 16 (plan 2 2 [] [] [])
+    ∷ made 255 (plan 3 2 [] [] [])
+    ∷ made 2 (plan 2 10 [] [] [])
+    ∷ made 8 (plan 3 5 [] [] [])
+    ∷ made 3 (plan 4 1 [] [] [])
+    ∷ made 3 (plan 3 7 [] [] [])
+    ∷ made 3 (plan 2 3 [] [] (AB ∷ ABC ∷ []))
+    ∷ []
+
+repeats-refused : map planRefused badlyRepeated ≡ 16 ∷ 16 ∷ 16 ∷ 16 ∷ 16 ∷ 16 ∷ 2 ∷ 3 ∷ 8 ∷ []
+unfolding planRefused badLevels badFactors mostTwo mostThree badCounts badWords badWord badSign repeated dependent losesFactor factorWord any among beyond letters combined times someCombination combinesTo some bits Σℕ badRepeats isRepeats mostReadings factorsOf size two three
+repeats-refused = refl
+
 -- ---- accepted plans
 
 -- X7: "k = 4, block words AD, ABC: accepted, BCD confounded too."; P2: the largest plans of both level counts;
--- X5: D = ABC with either sign
+-- X5: D = ABC with either sign; P12, P13: the largest plans whose runs are made eight and four times
 abbrev acceptedPlans : List Plan
 acceptedPlans =
     plan 2 4 [] [] (AD ∷ ABC ∷ [])
@@ -119,10 +153,12 @@ acceptedPlans =
     ∷ plan 3 6 [] [] []
     ∷ plan 2 3 (ABC ∷ []) (0 ∷ []) []
     ∷ plan 2 3 (ABC ∷ []) (1 ∷ []) []
+    ∷ made 8 (plan 2 7 [] [] [])
+    ∷ made 4 (plan 3 5 [] [] [])
     ∷ []
 
-all-accepted : map planRefused acceptedPlans ≡ 0 ∷ 0 ∷ 0 ∷ 0 ∷ 0 ∷ []
-unfolding planRefused badLevels badFactors mostTwo mostThree badCounts badWords badWord badSign repeated dependent losesFactor factorWord any among beyond letters combined times someCombination combinesTo some bits Σℕ
+all-accepted : map planRefused acceptedPlans ≡ 0 ∷ 0 ∷ 0 ∷ 0 ∷ 0 ∷ 0 ∷ 0 ∷ []
+unfolding planRefused badLevels badFactors mostTwo mostThree badCounts badWords badWord badSign repeated dependent losesFactor factorWord any among beyond letters combined times someCombination combinesTo some bits Σℕ badRepeats isRepeats mostReadings factorsOf size two three
 all-accepted = refl
 
 -- X7: of the sixteen effects of that plan just AD, ABC and BCD are confounded
@@ -139,13 +175,14 @@ by-choice = refl
 
 -- ---- for the crates above, of any plan
 
--- three two-level factors, two three-level ones, levels 4; the third factor of three at three levels, and a fourth, which is not there
+-- three two-level factors, two three-level ones, levels 4; three two-level factors with four readings a run; the third factor of three at three levels, and a fourth, which is not there
 of-any-plan : runCount (plan 2 3 [] [] [])
     ∷ runCount (plan 3 2 [] [] [])
     ∷ runCount (plan 4 2 [] [] [])
+    ∷ readingCount (made 4 (plan 2 3 [] [] []))
     ∷ spacingAt (plan 3 3 [] [] []) 2
     ∷ spacingAt (plan 3 3 [] [] []) 3
     ∷ []
-    ≡ 8 ∷ 9 ∷ 0 ∷ 9 ∷ 0 ∷ []
-unfolding runCount spacingAt badLevels badFactors mostTwo mostThree factorsOf size two three
+    ≡ 8 ∷ 9 ∷ 0 ∷ 32 ∷ 9 ∷ 0 ∷ []
+unfolding runCount readingCount spacingAt badLevels badFactors mostTwo mostThree factorsOf size two three
 of-any-plan = refl

@@ -3,19 +3,24 @@
 --   addedWords p, addedSigns p, blockWords p    the words and signs that the plan's counts admit
 --   factorsOf p                                 its base factors, A first
 --   runsOf p                                    how many runs it has
+--   allReadings p                               how many readings, with every run made as often as the plan says
+--   runSumsOf p xs                              the sum of each run's readings
+--   denominatorOf p, divisorOf p e              the table's denominator, and the divisor of an effect
 --   allLetters p                                how many factors it has, base and added
 --   someCombination ws f                        f holds of a combination of one or more of the words
 --   combinesTo w ws                             one of those combinations is w
 --   confoundedIn p w                            the effect of the word w is confounded
 use mathlib.Core.Bool.{Bool, _&&_}
 use mathlib.Core.List.{List}
-use Prim.Native.Nat.{ℕ, _+_, _^_}
+use Prim.Native.Nat.{ℕ, _+_, _*_, _^_}
 use lib.Dec.{eqb, ltb}
+use lib.IntN.{ℤ}
 use lib.ListN.{length, take, replicate}
 use Rattle.algebra.specs.Search.{some}
 use Rattle.contrasts.specs.Factor.{Factor}
 use Rattle.contrasts.specs.Factors.{ofLevels}
-use Rattle.contrasts.specs.Totals.{size}
+use Rattle.contrasts.specs.Totals.{size, divisor*, denominator}
+use Rattle.contrasts.specs.Columns.{runSumsIn}
 use Rattle.plan.specs.declared.types.Plan.{Plan}
 use Rattle.words.specs.Words.{combined}
 
@@ -38,6 +43,22 @@ factorsOf p = replicate (p .k) (ofLevels (p .levels))
 -- R1: "There are N runs: levels to the power k."
 abbrev pub runsOf : Plan → ℕ
 runsOf p = size (factorsOf p)
+
+-- R10: "N times r" readings
+abbrev pub allReadings : Plan → ℕ
+allReadings p = runsOf p * p .repeats
+
+-- T29: "passes work on the run sums"
+abbrev pub runSumsOf : Plan → List ℤ → List ℤ
+runSumsOf p xs = runSumsIn (runsOf p) (p .repeats) xs
+
+-- T30: "The denominator, all divisors [..] are multiplied by r."
+abbrev pub denominatorOf : Plan → ℕ
+denominatorOf p = p .repeats * denominator (factorsOf p)
+
+-- T30
+abbrev pub divisorOf : Plan → ℕ → ℕ
+divisorOf p e = p .repeats * divisor* (factorsOf p) e
 
 -- P5: "Base factors have letters from A on, added factors the letters that follow."
 abbrev pub allLetters : Plan → ℕ

@@ -1,4 +1,4 @@
-// The plan check: the lowest of the numbers 2 to 8 that applies.
+// The plan check: the lowest of the numbers 2 to 8 that applies, and after these 16.
 ghost use mathlib.Core.Path.{_≡_};
 ghost use Prim.Native.Nat.{_≤_};
 ghost use lib.ListN.{length, take};
@@ -7,13 +7,15 @@ use super::conditions::any_bad_word;
 use super::conditions::bad_counts;
 use super::conditions::bad_factors;
 use super::conditions::bad_levels;
+use super::conditions::bad_repeats;
 use super::conditions::combines_to;
 use super::conditions::loses_factor;
+use super::counts::runs;
 use super::types::Check;
 use super::types::Plan;
 use words::is_repeated;
 ghost use Rattle.plan.specs.Outcome.{outcome, lowest};
-ghost use Rattle.plan.specs.Check.{badWords, wordRefusals, planRefused, checkOutcome};
+ghost use Rattle.plan.specs.Check.{badWords, wordRefusals, twoToEight, planRefused, checkOutcome};
 
 // Refusal 5, of the added words, the signs and the block words.
 fn bad_words(k: usize, words: &[u16], signs: &[u8], blocks: &[u16]) -> bool
@@ -64,8 +66,8 @@ fn lowest_of_arrays(
 }
 
 // The lowest of the numbers 2 to 8 that applies, and 0 where none does.
-pub fn lowest(p: Plan) -> u8
-    ensures { λ r. ⌜ r ≡ planRefused p ⌝ }
+fn two_to_eight(p: Plan) -> u8
+    ensures { λ r. ⌜ r ≡ lowest (twoToEight p) ⌝ }
 {
     if bad_levels(p.levels) {
         return 2;
@@ -87,6 +89,20 @@ pub fn lowest(p: Plan) -> u8
         p.blocks as usize,
         blockwords,
     )
+}
+
+// The first of the numbers 2 to 8 and 16 that applies, and 0 where none does.
+pub fn lowest(p: Plan) -> u8
+    ensures { λ r. ⌜ r ≡ planRefused p ⌝ }
+{
+    let n = two_to_eight(p);
+    if n != 0 {
+        return n;
+    }
+    if bad_repeats(runs(p), p.repeats) {
+        return 16;
+    }
+    0
 }
 
 // Whether the plan is accepted, and the number of the refusal where it is not.

@@ -1,6 +1,6 @@
-// The conditions of refusals 2 to 8 of the table of refusals, a function each.
+// The conditions of refusals 2 to 8 and 16 of the table of refusals, a function each.
 ghost use mathlib.Core.Path.{_≡_};
-ghost use Prim.Native.Nat.{_^_, _≤_};
+ghost use Prim.Native.Nat.{_*_, _^_, _≤_};
 ghost use lib.ListN.{length};
 use words::combine;
 use words::count_letters;
@@ -8,7 +8,8 @@ use words::has_beyond;
 use words::is_among;
 ghost use Rattle.words.specs.Words.{any};
 ghost use Rattle.plan.specs.Plan.{combinesTo};
-ghost use Rattle.plan.specs.Check.{badLevels, badFactors, badCounts, badWord, badSign, factorWord, losesFactor};
+ghost use Rattle.contrasts.specs.Limits.{isRepeats};
+ghost use Rattle.plan.specs.Check.{badLevels, badFactors, badCounts, badWord, badSign, factorWord, losesFactor, badRepeats};
 
 // Refusal 2.
 pub fn bad_levels(levels: u8) -> bool
@@ -134,4 +135,39 @@ pub fn loses_factor(added: &[u16], blocks: &[u16]) -> bool
         chosen += 1;
     }
     false
+}
+
+// Whether a run may be made so often.
+fn is_repeats(repeats: u8) -> bool
+    ensures { λ r. ⌜ r ≡ isRepeats repeats ⌝ }
+{
+    if repeats == 1 {
+        return true;
+    }
+    if repeats == 2 {
+        return true;
+    }
+    if repeats == 4 {
+        return true;
+    }
+    repeats == 8
+}
+
+// How many readings so many runs have, each made so often.
+pub fn times(runs: usize, repeats: u8) -> usize
+    requires { ⌜ runs ≤ 1024 ⌝ }
+    ensures { λ r. ⌜ r ≡ runs * repeats ⌝ }
+{
+    runs * (repeats as usize)
+}
+
+// Refusal 16, of a plan of so many runs.
+pub fn bad_repeats(runs: usize, repeats: u8) -> bool
+    requires { ⌜ runs ≤ 1024 ⌝ }
+    ensures { λ r. ⌜ r ≡ badRepeats runs repeats ⌝ }
+{
+    if is_repeats(repeats) {
+        return 1024 < times(runs, repeats);
+    }
+    true
 }

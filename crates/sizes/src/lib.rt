@@ -1,13 +1,12 @@
 // The sizes and limits of a plan, for the crates above, for any plan.
 //
-//   runs(p)              how many runs there are
-//   spacing(p, factor)   how far apart the values of a factor lie
-//   reading_limit(p)     how large a reading may be
-//   is_beyond(x, limit)  whether a number is beyond a limit
-mod counts;
+//   runs(p), reading_count(p), spacing(p, factor)   of the crate `plan`
+//   reading_limit(p)                                how large a reading may be
+//   is_beyond(x, limit)                             whether a number is beyond a limit
 mod limits;
 
-pub use counts::runs;
-pub use counts::spacing;
 pub use limits::is_beyond;
 pub use limits::reading_limit;
+pub use plan::reading_count;
+pub use plan::runs;
+pub use plan::spacing;

@@ -2,6 +2,7 @@
 --
 --   Σ-cong, Σ-ext      equal terms, below n or everywhere, give equal sums
 --   Σ-unit, Σ-zero     the sum of one term; of zeros
+--   Σ-const            the sum of n terms that are the same
 --   Σ-add              the sum of sums
 --   Σ-mul, Σ-mul-r     a common factor, on the left or right
 --   Σ-prod             the product of two sums
@@ -10,10 +11,11 @@
 --   Σ-digits, Σ-split  the sum over l * n numbers, by their lowest digit to the base l and the rest
 --   cond-*ℤ            a factor goes under a test
 --   Σ-one, Σ-at        a sum with one term only
-use mathlib.Core.Path.{_≡_, refl, sym, _∙_}
+use mathlib.Core.Path.{_≡_, refl, sym, ap, _∙_}
 use mathlib.Core.Bool.{Bool, true, false, cond}
 use Prim.Native.Nat.{ℕ, zero, suc, _+_, _*_, _/_, _%_, _<_, _≤_}
 use native.Mathlib.Nat.{add-zero, add-suc, mul-zero, mul-suc, mul-comm, lt-suc-self, le-step}
+use native.Mathlib.Numerals.{add-one}
 use native.Mathlib.Omega.{arith}
 use native.Mathlib.Decide.{ℕ-discrete}
 use borrow.Author.Tests.{eq-eqb, ne-eqb}
@@ -52,6 +54,14 @@ unfolding Σ
 
 pub Σ-mul-r : (c : ℤ) (n : ℕ) (f : ℕ → ℤ) → Σ n (λ i. f i *ℤ c) ≡ Σ n f *ℤ c
 Σ-mul-r c n f = Σ-ext n (λ i. *ℤ-comm (f i) c) ∙ Σ-mul c n f ∙ *ℤ-comm c (Σ n f)
+
+ones : (n : ℕ) → Σ n (λ i. pos 1) ≡ pos n
+unfolding Σ
+ones zero = refl
+ones (suc n) = rw (ones n) (ap pos (add-one n))
+
+pub Σ-const : (n : ℕ) (c : ℤ) → Σ n (λ i. c) ≡ pos n *ℤ c
+Σ-const n c = Σ-ext n (λ i. sym (one-*ℤ c)) ∙ Σ-mul-r c n (λ i. pos 1) ∙ rw (ones n) refl
 
 pub Σ-prod : (m n : ℕ) (f g : ℕ → ℤ) → Σ m f *ℤ Σ n g ≡ Σ m (λ i. Σ n (λ j. f i *ℤ g j))
 Σ-prod m n f g = sym (Σ-mul-r (Σ n g) m f) ∙ Σ-ext m (λ i. sym (Σ-mul (f i) n g))

@@ -14,23 +14,26 @@ use lib.ListN.{length, take, drop, getD, length-drop}
 use lib.Seq.{take-all, drop-drop}
 use Rattle.numerals.specs.Numbers.{big}
 use Rattle.fields.specs.Fields.{Fields, end, cut, field, first, parse, fieldsOf, bodies, bodyAt}
-use Rattle.fields.specs.Tags.{badFrom, badFields}
-use Rattle.fields.specs.Laws.Passed.{Known, one, two, three, four, five, passes, all-pass, once}
+use Rattle.fields.specs.Tags.{tagRules, placeOf, badFrom, badFields}
+use Rattle.fields.specs.Laws.Passed.{Known, one, two, three, six, four, five, known, passes, all-pass, counted}
 use Rattle.fields.specs.Laws.Lengths.{spanOf, Spanned, span-none, span-parse}
 
-no-more : (fs : Fields) → badFrom 5 fs ≡ false → length (bodies 5 fs) ≡ 0 → spanOf fs ≡ 0
+-- 6 is the place of tag 5, the last
+no-more : (fs : Fields) → badFrom 6 fs ≡ false → length (bodies 5 fs) ≡ 0 → spanOf fs ≡ 0
 unfolding badFrom bodies spanOf
 no-more end e h = refl
 no-more cut e h = refl
 no-more (field t body rest) e h =
-    let p = passes 5 t body rest e in
-    by (p .1) (p .0) h
+    let p = passes 6 t body rest e in
+    by (known t (length body) (p .admitted)) (p .risen) h
   where
-    by : Known t (length body) → 5 ≤ t → length (cond (eqb t 5) (body ∷ bodies 5 rest) (bodies 5 rest)) ≡ 0 → 3 + length body + spanOf rest ≡ 0
-    by (one p q) l d = absurd (omega (arith, p, l))
-    by (two p q) l d = absurd (omega (arith, p, l))
-    by (three p q) l d = absurd (omega (arith, p, l))
-    by (four p q) l d = absurd (omega (arith, p, l))
+    by : Known t (length body) → 6 ≤ placeOf tagRules t → length (cond (eqb t 5) (body ∷ bodies 5 rest) (bodies 5 rest)) ≡ 0
+        → 3 + length body + spanOf rest ≡ 0
+    by (one p q) l d = absurd (omega (arith, rw p at l))
+    by (two p q) l d = absurd (omega (arith, rw p at l))
+    by (three p q) l d = absurd (omega (arith, rw p at l))
+    by (six p q) l d = absurd (omega (arith, rw p at l))
+    by (four p q) l d = absurd (omega (arith, rw p at l))
     by (five p) l d = absurd (omega (arith, rw p at d))
 
 -- ---- bytes that end a list
@@ -80,21 +83,24 @@ first-last rest g h (t ∷ a ∷ b ∷ s) last e c = by (leb n (length s)) refl 
     after : (body : List ℕ) → Ends body s → Ends body (t ∷ a ∷ b ∷ s)
     after body w = ends-after t body (a ∷ b ∷ s) (ends-after a body (b ∷ s) (ends-after b body s w))
 
-    here : t ≡ 5 → n ≤ length s → badFrom t (rest (drop n s)) ≡ false → length (take n s ∷ more) ≡ 1 → Ends (take n s) (t ∷ a ∷ b ∷ s)
+    place : ℕ
+    place = placeOf tagRules t
+
+    here : t ≡ 5 → n ≤ length s → badFrom place (rest (drop n s)) ≡ false → length (take n s ∷ more) ≡ 1 → Ends (take n s) (t ∷ a ∷ b ∷ s)
     here p l f d =
         let z : spanOf (rest (drop n s)) ≡ 0 = no-more (rest (drop n s)) (rw p at f) (omega (arith, d)) in
-        let m : length s ≤ n = omega (arith, l, z, g (drop n s) t f, length-drop n s) in
+        let m : length s ≤ n = omega (arith, l, z, g (drop n s) place f, length-drop n s) in
         after (take n s) (rw (take-all n s m) (ends-whole s))
 
-    of-tag : (five : Bool) → eqb t 5 ≡ five → n ≤ length s → badFrom t (rest (drop n s)) ≡ false → length (cond five (take n s ∷ more) more) ≡ 1
+    of-tag : (five : Bool) → eqb t 5 ≡ five → n ≤ length s → badFrom place (rest (drop n s)) ≡ false → length (cond five (take n s ∷ more) more) ≡ 1
         → Ends (getD (cond five (take n s ∷ more) more) 0 []) (t ∷ a ∷ b ∷ s)
     of-tag true p l f k = here (eqb-true t 5 p) l f k
-    of-tag false p l f k = after (getD more 0 []) (ends-part n (getD more 0 []) s l (h (drop n s) t f k))
+    of-tag false p l f k = after (getD more 0 []) (ends-part n (getD more 0 []) s l (h (drop n s) place f k))
 
     by : (w : Bool) → leb n (length s) ≡ w → badFrom last (cond w whole cut) ≡ false → length (bodies 5 (cond w whole cut)) ≡ 1
         → Ends (getD (bodies 5 (cond w whole cut)) 0 []) (t ∷ a ∷ b ∷ s)
     by false d f k = absurd (true≢false f)
-    by true d f k = of-tag (eqb t 5) refl (leb-true n (length s) d) (passes last t (take n s) (rest (drop n s)) f .2) k
+    by true d f k = of-tag (eqb t 5) refl (leb-true n (length s) d) (passes last t (take n s) (rest (drop n s)) f .others) k
 
 last-none : (r : List ℕ) (last : ℕ) → Lasts (λ s. cut) r last
 unfolding badFrom
@@ -107,4 +113,4 @@ last-parse (suc f) s last e c = first-last (parse f) (span-parse f) (last-parse 
 
 pub five-last : (s : List ℕ) → badFields (fieldsOf s) ≡ false → Ends (bodyAt 5 0 (fieldsOf s)) s
 unfolding fieldsOf bodyAt
-five-last s e = last-parse (length s) s 0 (all-pass (fieldsOf s) e) (once (fieldsOf s) e .2)
+five-last s e = last-parse (length s) s 0 (all-pass (fieldsOf s) e) (counted (fieldsOf s) e .fives)

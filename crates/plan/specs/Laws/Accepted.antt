@@ -3,14 +3,16 @@
 --   Accepted p                                   the plan's levels, counts, words and confounded effects are as the rules ask
 --   accepted                                     so they are where the check gives no number
 --   levels-known, factors-known, counts-known    what refusals 2, 3 and 4 say where they do not apply
+--   repeats-known                                and 16
+--   before-repeats, AfterWords, after-words      16 comes after the others: what is known of the plan where these do not apply
 --   levels-small                                 two or three levels are at most three
 --   signs-small                                  a sign is 0 or 1, and 0 is read past the end
 --   at-most-ten, sizes                           the most factors, as a number; the bounds of an accepted plan's counts
 use mathlib.Core.Path.{_≡_, refl, sym, ap, _∙_}
 use mathlib.Core.Logic.{_⊎_, inl, inr}
-use mathlib.Core.Bool.{Bool, true, false, cond, _||_, true≢false}
-use mathlib.Core.List.{List}
-use Prim.Native.Nat.{ℕ, _<_, _≤_}
+use mathlib.Core.Bool.{Bool, true, false, cond, not, _||_, true≢false}
+use mathlib.Core.List.{List, [], _∷_, _++_}
+use Prim.Native.Nat.{ℕ, _*_, _<_, _≤_}
 use native.Mathlib.Omega.{arith}
 use native.Mathlib.Decide.{decLt}
 use lib.Dec.{eqb, ltb}
@@ -20,13 +22,14 @@ use borrow.Author.Tests.{eqb-true, eqb-false, ltb-false, not-false}
 use Rattle.algebra.specs.Laws.Tests.{neither}
 use Rattle.algebra.specs.Laws.Search.{none-at}
 use Rattle.algebra.specs.Laws.Tab.{getD-past}
-use Rattle.contrasts.specs.Limits.{mostTwo, mostThree}
+use Rattle.contrasts.specs.Limits.{mostTwo, mostThree, isRepeats, mostReadings}
 use Rattle.plan.specs.declared.types.Plan.{Plan}
 use Rattle.words.specs.Words.{letters, beyond, any, among, repeated, combined}
-use Rattle.plan.specs.Plan.{addedWords, addedSigns, blockWords, combinesTo, confoundedIn}
+use Rattle.plan.specs.Plan.{addedWords, addedSigns, blockWords, combinesTo, confoundedIn, runsOf, allReadings}
+use Rattle.plan.specs.Outcome.{Refusal, refusal, lowest}
 use Rattle.plan.specs.Laws.Answers.{passed}
 use Rattle.plan.specs.Laws.Combinations.{the-combination, each-fails}
-use Rattle.plan.specs.Check.{badLevels, badFactors, badCounts, badWord, badSign, badWords, dependent, factorWord, losesFactor, planRefused}
+use Rattle.plan.specs.Check.{badLevels, badFactors, badCounts, badWord, badSign, badWords, dependent, factorWord, losesFactor, badRepeats, twoToEight, planRefused}
 
 -- ---- what each condition says where it does not hold
 
@@ -79,6 +82,12 @@ counts-known n a b e =
         let z = neither (ltb 0 a) (ltb 0 b) d in
         (omega (arith, ltb-false 0 a (z .0)), omega (arith, ltb-false 0 b (z .1)))
 
+pub repeats-known : (n r : ℕ) → badRepeats n r ≡ false → (isRepeats r ≡ true) × (n * r ≤ mostReadings)
+unfolding badRepeats
+repeats-known n r e =
+    let b = neither (not (isRepeats r)) (ltb mostReadings (n * r)) e in
+    (not-false (isRepeats r) (b .0), ltb-false mostReadings (n * r) (b .1))
+
 -- ---- the record
 
 pub record Accepted (p : Plan) : Type 0 where
@@ -93,6 +102,7 @@ pub record Accepted (p : Plan) : Type 0 where
   pub apart : (i j : ℕ) → i < j → j < length (addedWords p) → getD (addedWords p) i 0 ≡ getD (addedWords p) j 0 → ⊥
   -- a confounded effect is neither empty nor one letter nor an added factor's word
   pub lost : (w : ℕ) → confoundedIn p w ≡ true → (w ≡ 0 → ⊥) × (letters w ≡ 1 → ⊥) × (among w (addedWords p) ≡ false)
+  pub repeats : (isRepeats (p .repeats) ≡ true) × (allReadings p ≤ mostReadings)
 
 -- ---- what refusals 5 to 8 say of the words
 
@@ -147,6 +157,7 @@ accepted p e =
     let l6 = passed (repeated (addedWords p)) 6 _ (omega arith) (l5 .1) in
     let l7 = passed (dependent (blockWords p)) 7 _ (omega arith) (l6 .1) in
     let l8 = passed (losesFactor (addedWords p) (blockWords p)) 8 _ (omega arith) (l7 .1) in
+    let l16 = passed (badRepeats (runsOf p) (p .repeats)) 16 _ (omega arith) (l8 .1) in
     let w = parts (p .k) (addedWords p) (addedSigns p) (blockWords p) (l5 .0) in
     record {
       levels = levels-known (p .levels) (l2 .0);
@@ -157,6 +168,40 @@ accepted p e =
       blocks = words-of (p .k) 1 (blockWords p) (w .2);
       apart = apart-of (addedWords p) (l6 .0);
       lost = lost-of (addedWords p) (blockWords p) (l7 .0) (l8 .0);
+      repeats = repeats-known (runsOf p) (p .repeats) (l16 .0);
+    }
+
+-- ---- 16 after the others
+
+-- the first of some refusals is the first of more after them
+first-of : (refusals further : List Refusal) {n : ℕ} → n ≡ lowest refusals → (n ≡ 0 → ⊥) → n ≡ lowest (refusals ++ further)
+first-of [] further e h = absurd (h e)
+first-of (refusal m true ∷ rest) further e h = e
+first-of (refusal m false ∷ rest) further e h = first-of rest further e h
+
+pub before-repeats : (p : Plan) {n : ℕ} → n ≡ lowest (twoToEight p) → (n ≡ 0 → ⊥) → n ≡ planRefused p
+unfolding planRefused
+before-repeats p e h = first-of (twoToEight p) (refusal 16 (badRepeats (runsOf p) (p .repeats)) ∷ []) e h
+
+pub record AfterWords (p : Plan) : Type 0 where
+  pub levels : badLevels (p .levels) ≡ false
+  pub factors : badFactors (p .levels) (p .k) ≡ false
+  pub decided : planRefused p ≡ cond (badRepeats (runsOf p) (p .repeats)) 16 0
+
+pub after-words : (p : Plan) → lowest (twoToEight p) ≡ 0 → AfterWords p
+unfolding planRefused
+after-words p e =
+    let l2 = passed (badLevels (p .levels)) 2 _ (omega arith) e in
+    let l3 = passed (badFactors (p .levels) (p .k)) 3 _ (omega arith) (l2 .1) in
+    let l4 = passed (badCounts (p .levels) (p .added) (p .blocks)) 4 _ (omega arith) (l3 .1) in
+    let l5 = passed (badWords (p .k) (addedWords p) (addedSigns p) (blockWords p)) 5 _ (omega arith) (l4 .1) in
+    let l6 = passed (repeated (addedWords p)) 6 _ (omega arith) (l5 .1) in
+    let l7 = passed (dependent (blockWords p)) 7 _ (omega arith) (l6 .1) in
+    let l8 = passed (losesFactor (addedWords p) (blockWords p)) 8 _ (omega arith) (l7 .1) in
+    record {
+      levels = l2 .0;
+      factors = l3 .0;
+      decided = rw (l2 .0, l3 .0, l4 .0, l5 .0, l6 .0, l7 .0, l8 .0) refl;
     }
 
 pub signs-small : {p : Plan} → Accepted p → (j : ℕ) → getD (addedSigns p) j 0 ≤ 1

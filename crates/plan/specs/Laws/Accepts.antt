@@ -13,11 +13,11 @@ use lib.Seq.{length-take-le, getD-take}
 use borrow.Author.Tests.{eq-eqb, ne-eqb, le-ltb}
 use Rattle.algebra.specs.Laws.Tests.{none}
 use Rattle.algebra.specs.Laws.Search.{some-false}
-use Rattle.contrasts.specs.Limits.{mostTwo, mostThree}
+use Rattle.contrasts.specs.Limits.{mostTwo, mostThree, mostReadings}
 use Rattle.words.specs.Words.{letters, any, among, repeated, combined}
 use Rattle.plan.specs.declared.types.Plan.{Plan}
-use Rattle.plan.specs.Plan.{addedWords, addedSigns, blockWords, combinesTo, confoundedIn}
-use Rattle.plan.specs.Check.{badLevels, badFactors, badCounts, badWord, badSign, badWords, dependent, factorWord, losesFactor, planRefused}
+use Rattle.plan.specs.Plan.{addedWords, addedSigns, blockWords, combinesTo, confoundedIn, runsOf, allReadings}
+use Rattle.plan.specs.Check.{badLevels, badFactors, badCounts, badWord, badSign, badWords, dependent, factorWord, losesFactor, badRepeats, planRefused}
 use Rattle.plan.specs.Laws.Combinations.{combination, no-combination}
 use Rattle.plan.specs.Laws.Accepted.{Accepted}
 
@@ -80,7 +80,11 @@ module _ {p : Plan} (a : Accepted p) where
       no-combination (blockWords p) _
       (λ c h l. none (ne-eqb (letters (combined 0 c (blockWords p))) 1 (a .lost _ (lost c h l) .1)) (a .lost _ (lost c h l) .2))
 
+  repeats-right : badRepeats (runsOf p) (p .repeats) ≡ false
+  unfolding badRepeats
+  repeats-right = rw (a .repeats .0) (le-ltb mostReadings (allReadings p) (a .repeats .1))
+
 pub accepts : (p : Plan) → Accepted p → planRefused p ≡ 0
 unfolding planRefused
 accepts p a =
-    rw (levels-right a, factors-right a, counts-right a, words-right a, apart-right a, independent-right a, clear-right a) refl
+    rw (levels-right a, factors-right a, counts-right a, words-right a, apart-right a, independent-right a, clear-right a, repeats-right a) refl

@@ -20,11 +20,12 @@ pub record Alike (p q : Plan) : Type 0 where
   pub signs : addedSigns p ≡ addedSigns q
   pub blocks : p .blocks ≡ q .blocks
   pub blockwords : blockWords p ≡ blockWords q
+  pub repeats : p .repeats ≡ q .repeats
 
 module _ {p q : Plan} (a : Alike p q) where
   pub same-refused : planRefused p ≡ planRefused q
-  unfolding planRefused
-  same-refused = rw (a .words, a .signs, a .blockwords, a .levels, a .k, a .added, a .blocks) refl
+  unfolding planRefused factorsOf
+  same-refused = rw (a .words, a .signs, a .blockwords, a .levels, a .k, a .added, a .blocks, a .repeats) refl
 
   pub same-factors : factorsOf p ≡ factorsOf q
   unfolding factorsOf

@@ -1,23 +1,28 @@
 -- The limits of a plan.
 --
 --   limit-two, limit-three      the limit of readings, by the levels
---   plan-roomy                  of an accepted plan: from readings within their limit values and numerators do not leave theirs
+--   plan-roomy                  of an accepted plan: from run sums within their limit values and numerators do not leave theirs
+--   plan-rounds                 nor do the numbers of the rounds of the check
 --   some-reading, reading-fits  the limit of readings is not 0, and fits an i32
 --   reading-admitted            a reading is a value that a pass admits
 --   numerator-fits              the limit of numerators fits an i64
 use mathlib.Core.Path.{_≡_, refl}
 use mathlib.Core.Logic.{_⊎_, inl, inr}
-use Prim.Native.Nat.{_^_, _<_, _≤_}
+use Prim.Native.Nat.{_-_, _*_, _^_, _<_, _≤_}
+use native.Mathlib.Omega.{arith}
 use borrow.Author.Tests.{eq-eqb, ne-eqb}
 use lib.Dec.{eqb, lit<, lit≤}
+use lib.ListN.{replicate}
 use Rattle.algebra.specs.Laws.Tests.{either}
-use Rattle.contrasts.specs.Limits.{twoReadingLimit, threeReadingLimit, twoNumeratorLimit, threeNumeratorLimit, valueLimit}
-use Rattle.contrasts.specs.Laws.Limits.{Roomy, two-roomy, three-roomy}
+use Rattle.contrasts.specs.Limits.{twoReadingLimit, threeReadingLimit, twoNumeratorLimit, threeNumeratorLimit, valueLimit, mostReadings}
+use Rattle.contrasts.specs.Factors.{two, three}
+use Rattle.contrasts.specs.Totals.{size}
+use Rattle.contrasts.specs.Laws.Limits.{Roomy, two-roomy, three-roomy, three-rounds}
 use Rattle.plan.specs.declared.types.Plan.{Plan}
 use Rattle.plan.specs.Plan.{factorsOf}
 use Rattle.plan.specs.Check.{planRefused}
-use Rattle.plan.specs.Limits.{readingLimit, numeratorLimit}
-use Rattle.plan.specs.Laws.Accepted.{accepted}
+use Rattle.plan.specs.Limits.{readingLimit, runLimit, numeratorLimit}
+use Rattle.plan.specs.Laws.Accepted.{Accepted, accepted}
 use Rattle.plan.specs.Laws.Sizes.{factors-two, factors-three}
 
 pub limit-two : (p : Plan) → p .levels ≡ 2 → readingLimit p ≡ twoReadingLimit
@@ -28,13 +33,26 @@ pub limit-three : (p : Plan) → (p .levels ≡ 2 → ⊥) → readingLimit p �
 unfolding readingLimit
 limit-three p h = rw (ne-eqb (p .levels) 2 h) refl
 
-pub plan-roomy : (p : Plan) → planRefused p ≡ 0 → Roomy (factorsOf p) (readingLimit p) (numeratorLimit p)
-unfolding readingLimit numeratorLimit
-plan-roomy p z = by (accepted p z .levels)
-  where
-    by : (p .levels ≡ 2) ⊎ (p .levels ≡ 3) → Roomy (factorsOf p) (readingLimit p) (numeratorLimit p)
-    by (inl e) = rw (factors-two p e, eq-eqb (p .levels) 2 e) (two-roomy (p .k) (accepted p z .factors .1))
-    by (inr e) = rw (factors-three p e, e) (three-roomy (p .k) (accepted p z .factors .2 e))
+module _ (p : Plan) (z : planRefused p ≡ 0) where
+  abbrev ok : Accepted p
+  ok = accepted p z
+
+  few-two : p .levels ≡ 2 → size (replicate (p .k) two) * p .repeats ≤ mostReadings
+  few-two e = rw (← (factors-two p e)) (ok .repeats .1)
+
+  few-three : p .levels ≡ 3 → size (replicate (p .k) three) * p .repeats ≤ mostReadings
+  few-three e = rw (← (factors-three p e)) (ok .repeats .1)
+
+  pub plan-roomy : Roomy (factorsOf p) (runLimit p) (numeratorLimit p)
+  unfolding readingLimit numeratorLimit
+  plan-roomy = by (ok .levels)
+    where
+      by : (p .levels ≡ 2) ⊎ (p .levels ≡ 3) → Roomy (factorsOf p) (runLimit p) (numeratorLimit p)
+      by (inl e) = rw (factors-two p e, eq-eqb (p .levels) 2 e) (two-roomy (p .k) (p .repeats) (ok .factors .1) (ok .repeats .0) (few-two e))
+      by (inr e) = rw (factors-three p e, ne-eqb (p .levels) 2 (omega arith)) (three-roomy (p .k) (p .repeats) (ok .factors .2 e) (ok .repeats .0) (few-three e))
+
+  pub plan-rounds : p .levels ≡ 3 → 5 ^ (p .k - 1) * runLimit p ≤ valueLimit
+  plan-rounds e = rw (limit-three p (omega arith)) (three-rounds (p .k) (p .repeats) (ok .factors .2 e) (ok .repeats .0) (few-three e))
 
 -- ---- of any plan
 

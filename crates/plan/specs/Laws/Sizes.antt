@@ -7,9 +7,13 @@
 --   plan-kind                               the factor of the plan's levels has so many
 --   spacing-power                           the values of the factor at position f lie levels to the power f apart
 --   RunsTwo, RunsThree, runs-known          what `runs` gives of any plan: 0, or the number of runs at two or at three levels
---   runs-few                                there are at most 1,024 runs
+--   runs-within                             of any plan there are at most 1,024
+--   count-is                                beyond refusals 2 and 3 it is their number
+--   runs-few, readings-few                  there are at most 1,024 runs, and readings
+--   some-repeat                             a run is made once or more
 --   letters-few                             there are at most 16 letters, base and added
---   run-count, spacing-is, confounded-is    what `runs`, `spacing` and `confounded` give of an accepted plan
+--   run-count, reading-count                what `runs` and `reading_count` give of an accepted plan
+--   spacing-is, confounded-is               and `spacing` and `confounded`
 --   power-room, power-more                  the loop that multiplies
 use mathlib.Core.Path.{_≡_, refl, sym, ap, _∙_}
 use mathlib.Core.Logic.{_⊎_, inl, inr}
@@ -20,14 +24,15 @@ use native.Mathlib.Numerals.{add-one}
 use native.Mathlib.Omega.{arith}
 use lib.ListN.{replicate, length-take}
 use borrow.Author.Tests.{eq-eqb, lt-leb}
-use Rattle.contrasts.specs.Limits.{mostTwo, mostThree}
+use Rattle.contrasts.specs.Limits.{mostTwo, mostThree, mostReadings}
 use Rattle.contrasts.specs.Factors.{two, three, ofLevels}
 use Rattle.contrasts.specs.Passes.{spacing}
 use Rattle.contrasts.specs.Laws.Replicated.{size-alike, spacing-alike}
 use Rattle.contrasts.specs.Laws.Levels.{kind-of}
+use Rattle.contrasts.specs.Laws.Limits.{repeats-few}
 use Rattle.plan.specs.declared.types.Plan.{Plan}
-use Rattle.plan.specs.Plan.{factorsOf, runsOf, allLetters, confoundedIn}
-use Rattle.plan.specs.Check.{badLevels, badFactors, planRefused, runCount, spacingAt, confoundedAccepted}
+use Rattle.plan.specs.Plan.{factorsOf, runsOf, allReadings, allLetters, confoundedIn}
+use Rattle.plan.specs.Check.{badLevels, badFactors, planRefused, runCount, readingCount, spacingAt, confoundedAccepted}
 use Rattle.plan.specs.Laws.Accepted.{Accepted, accepted, at-most-ten, levels-known, factors-known}
 use Rattle.plan.specs.Laws.Accepts.{levels-right, factors-right}
 
@@ -96,22 +101,36 @@ runs-known p = by (badLevels (p .levels)) (badFactors (p .levels) (p .k)) refl r
     by false true d e = inl (rw (d, e) refl)
     by false false d e = inr (inside (levels-known (p .levels) d) (factors-known (p .levels) (p .k) e) (rw (d, e) refl))
 
-pub run-count : (p : Plan) → planRefused p ≡ 0 → runCount p ≡ runsOf p
-unfolding runCount
-run-count p e = let a = accepted p e in rw (levels-right a, factors-right a) refl
-
-pub runs-few : (p : Plan) → planRefused p ≡ 0 → runsOf p ≤ 1024
-runs-few p ok = by (runs-known p)
+pub runs-within : (p : Plan) → runCount p ≤ 1024
+runs-within p = by (runs-known p)
   where
-    c : runsOf p ≡ runCount p
-    c = sym (run-count p ok)
-
-    by : (runCount p ≡ 0) ⊎ (RunsTwo p ⊎ RunsThree p) → runsOf p ≤ 1024
-    by (inl z) = omega (arith, c, z)
-    by (inr (inl t)) = rw (c ∙ t .count) (pow-le-pow-right {n = 2} (omega arith) {i = p .k} {j = 10} (t .most))
+    by : (runCount p ≡ 0) ⊎ (RunsTwo p ⊎ RunsThree p) → runCount p ≤ 1024
+    by (inl z) = omega (arith, z)
+    by (inr (inl t)) = rw (t .count) (pow-le-pow-right {n = 2} (omega arith) {i = p .k} {j = 10} (t .most))
     by (inr (inr t)) =
         let s : 3 ^ p .k ≤ 729 = pow-le-pow-right {n = 3} (omega arith) {i = p .k} {j = 6} (t .most) in
-        rw (c ∙ t .count) (omega (arith, s))
+        rw (t .count) (omega (arith, s))
+
+pub count-is : (p : Plan) → badLevels (p .levels) ≡ false → badFactors (p .levels) (p .k) ≡ false → runCount p ≡ runsOf p
+unfolding runCount
+count-is p d e = rw (d, e) refl
+
+pub run-count : (p : Plan) → planRefused p ≡ 0 → runCount p ≡ runsOf p
+run-count p e = let a = accepted p e in count-is p (levels-right a) (factors-right a)
+
+pub reading-count : (p : Plan) → planRefused p ≡ 0 → readingCount p ≡ allReadings p
+unfolding readingCount
+reading-count p e = rw (run-count p e) refl
+
+pub runs-few : (p : Plan) → planRefused p ≡ 0 → runsOf p ≤ 1024
+runs-few p ok = rw (run-count p ok) at (runs-within p)
+
+pub readings-few : (p : Plan) → planRefused p ≡ 0 → allReadings p ≤ 1024
+unfolding mostReadings
+readings-few p ok = accepted p ok .repeats .1
+
+pub some-repeat : (p : Plan) → planRefused p ≡ 0 → (0 < p .repeats) × (p .repeats ≤ 8)
+some-repeat p ok = repeats-few (p .repeats) (accepted p ok .repeats .0)
 
 pub letters-few : (p : Plan) → Accepted p → allLetters p ≤ 16
 letters-few p a = omega (arith, at-most-ten (p .k) (a .factors .1), a .counts .0, length-take (p .added) (p .words))

@@ -1,4 +1,5 @@
 use mathlib.Core.Path.{_≡_, refl, sym, _∙_}
+use borrow.Author.Tests.{eq-eqb, ne-eqb}
 use Rattle.plan.specs.Check.{planRefused}
 use Rattle.plan.specs.Laws.Answers.{plan-first, after-plan}
 use Rattle.columns.specs.Inner.Judged.{lengthsRefused}
@@ -17,15 +18,11 @@ lengths-refused-spec =
     (tie.spec
     (λ c κs. tt)
     (λ c. plan-first _ _ (c .before .lowest .ensures) (c .if1 .taken))
+    (λ c. rw (after-plan _ _ (ok (c .before)), ne-eqb _ _ (c .if2 .taken)) refl)
     (λ c κs. tt)
     (λ c.
-    let accepted = ok (c .before .before) in
-    rw (after-plan _ _ accepted, wrong _ accepted (c .before .runs .ensures) _ (c .if2 .taken)) refl)
+    let accepted = ok (c .before .before .before) in
+    rw (after-plan _ _ accepted, eq-eqb _ _ (c .before .before .if2 .left), wrong _ accepted (c .before .runs .ensures) _ (c .if3 .taken)) refl)
     (λ c.
     let accepted = ok (c .before .before .before) in
-    let runs-is = c .before .before .runs .ensures in
-    rw (after-plan _ _ accepted, right _ accepted runs-is _ (c .before .if2 .left), wrong _ accepted runs-is _ (c .if3 .taken)) refl)
-    (λ c.
-    let accepted = ok (c .before .before .before) in
-    let runs-is = c .before .before .runs .ensures in
-    rw (after-plan _ _ accepted, right _ accepted runs-is _ (c .before .if2 .left), right _ accepted runs-is _ (c .if3 .left)) refl))
+    rw (after-plan _ _ accepted, eq-eqb _ _ (c .before .before .if2 .left), right _ accepted (c .before .runs .ensures) _ (c .if3 .left)) refl))

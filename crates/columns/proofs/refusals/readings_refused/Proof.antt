@@ -1,19 +1,33 @@
-use mathlib.Core.Path.{refl, sym, _∙_}
+use mathlib.Core.Path.{_≡_, refl, sym, _∙_}
+use mathlib.Core.Bool.{_||_}
+use lib.ListN.{length}
 use Rattle.algebra.specs.Laws.Tests.{is}
-use Rattle.columns.specs.Laws.Lengths.{by-lengths, by-values}
+use Rattle.columns.specs.Inner.Judged.{lengthsRefused}
+use Rattle.columns.specs.Laws.Lengths.{by-readings, by-lengths, by-values}
+use Rattle.columns.specs.Refusals.{wrongReadings, wrongLength, readingsRefused}
 use Rattle.columns.proofs.refusals.readings_refused.Statement.{statement}
 use Rattle.columns.proofs.refusals.readings_refused.Tie as tie
 
+-- what the lengths say
+by-plan : (c : tie.After-lengths-refused)
+    → let args = c .before .before .args in
+    c .lengths-refused .result ≡ lengthsRefused (args .p) (wrongReadings (args .p) (length (args .readings .now)) || wrongLength (args .p) (length (args .totals .now)))
+by-plan c =
+    let args = c .before .before .args in
+    by-readings (args .p) (length (args .readings .now)) (length (args .totals .now)) (c .lengths-refused .ensures) (c .before .reading-count .ensures)
+
 pub readings-refused-spec : {M : Type 1} → statement M
+unfolding readingsRefused
 readings-refused-spec =
     tie.close
     (tie.spec
     (λ c κs. tt)
-    (λ c. by-lengths _ _ _ _ (c .before .lengths-refused .ensures) (c .if1 .taken))
+    (λ c κs. tt)
+    (λ c. by-lengths _ _ _ _ (by-plan (c .before)) (c .if1 .taken))
     (λ c κs. tt)
     (λ c.
-    let lengths-fine = sym (c .before .before .before .lengths-refused .ensures) ∙ c .before .before .if1 .left in
+    let lengths-fine = sym (by-plan (c .before .before .before)) ∙ c .before .before .if1 .left in
     sym (by-values _ _ _ _ lengths-fine ∙ rw (is (c .before .any-reading-beyond .ensures) (c .if2 .taken)) refl))
     (λ c.
-    let lengths-fine = sym (c .before .before .before .lengths-refused .ensures) ∙ c .before .before .if1 .left in
+    let lengths-fine = sym (by-plan (c .before .before .before)) ∙ c .before .before .if1 .left in
     sym (by-values _ _ _ _ lengths-fine ∙ rw (is (c .before .any-reading-beyond .ensures) (c .if2 .left)) refl)))

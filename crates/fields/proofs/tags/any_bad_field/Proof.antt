@@ -32,15 +32,22 @@ any-bad-field-spec =
     let inv = c .before .before .before .loop .inv in
     passed-cut inv (c .before .before .loop-test .taken) (c .before .field-end .ensures) (c .if1 .taken))
     (λ c. omega arith)
-    (λ c. passed-falling (c .before .before .before .before .before .loop .inv) (on (c .before .before)) (omega (arith, c .if2 .taken)))
-    (λ c. omega (arith, on (c .before .before)))
-    (λ c. omega (arith, on (c .before .before)))
     (λ c κs. tt)
     (λ c.
-    let whole = c .before .before .before .before in
-    passed-unknown (whole .before .before .before .loop .inv) (on whole) (omega (arith, c .before .before .if2 .left)) refl (is (c .before .is-bad .ensures) (c .if3 .taken)))
-    (λ c. omega (arith, on (c .before .before .before .before)))
+    let whole = c .before .before .before in
+    passed-falling (whole .before .before .before .loop .inv) (on whole) (c .before .place .ensures) (omega (arith, c .if2 .taken)))
+    (λ c. omega (arith, on (c .before .before .before)))
+    (λ c. omega (arith, on (c .before .before .before)))
+    (λ c κs. tt)
     (λ c.
-    let whole = c .before .before .before .before in
-    passed-one (whole .before .before .before .loop .inv) (on whole) (omega (arith, c .before .before .if2 .left)) refl (is (c .before .is-bad .ensures) (c .if3 .left)))
+    let risen = c .before .before in
+    let whole = risen .before .before .before in
+    passed-unknown (whole .before .before .before .loop .inv) (on whole) (risen .before .place .ensures) (omega (arith, risen .if2 .left)) refl
+    (is (c .before .is-bad .ensures) (c .if3 .taken)))
+    (λ c. omega (arith, on (c .before .before .before .before .before)))
+    (λ c.
+    let risen = c .before .before in
+    let whole = risen .before .before .before in
+    passed-one (whole .before .before .before .loop .inv) (on whole) (risen .before .place .ensures) (omega (arith, risen .if2 .left)) refl
+    (is (c .before .is-bad .ensures) (c .if3 .left)))
     (λ c. passed-all (c .before .loop .inv) (c .loop-test .left)))

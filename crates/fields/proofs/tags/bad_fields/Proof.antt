@@ -4,7 +4,7 @@ use native.Mathlib.Omega.{arith}
 use Rattle.algebra.specs.Laws.Tests.{is}
 use Rattle.fields.specs.Fields.{fieldsOf}
 use Rattle.fields.specs.Tags.{badFrom, badFields}
-use Rattle.fields.proofs.Judging.{not-one, not-four, by-five}
+use Rattle.fields.proofs.Judging.{not-one, two-sixes, not-four, by-five}
 use Rattle.fields.proofs.tags.bad_fields.Statement.{statement}
 use Rattle.fields.proofs.tags.bad_fields.Tie as tie
 
@@ -24,9 +24,19 @@ bad-fields-spec =
     (λ c κs. tt)
     (λ c.
     let one = c .before .before in
-    not-four _ (fine (one .before .before)) (one .before .count .ensures) (one .if2 .left) (c .before .count2 .ensures) (λ e. omega (arith, e, c .if3 .taken)))
+    two-sixes _ (fine (one .before .before)) (one .before .count .ensures) (one .if2 .left) (c .before .count2 .ensures) (omega (arith, c .if3 .taken)))
     (λ c κs. tt)
     (λ c.
-    let one = c .before .before .before in
-    let fours = c .before .before .count2 .ensures in
-    by-five _ (fine (one .before .before)) (one .before .count .ensures) (one .if2 .left) fours (omega (arith, c .before .if3 .left)) (c .count3 .ensures)))
+    let few = c .before .before in
+    let one = few .before .before in
+    let sixes = few .before .count2 .ensures in
+    not-four _ (fine (one .before .before)) (one .before .count .ensures) (one .if2 .left) sixes (omega (arith, few .if3 .left)) (c .before .count3 .ensures)
+    (λ e. omega (arith, e, c .if4 .taken)))
+    (λ c κs. tt)
+    (λ c.
+    let few = c .before .before .before in
+    let one = few .before .before in
+    let sixes = few .before .count2 .ensures in
+    let fours = c .before .before .count3 .ensures in
+    by-five _ (fine (one .before .before)) (one .before .count .ensures) (one .if2 .left) sixes (omega (arith, few .if3 .left)) fours
+    (omega (arith, c .before .if4 .left)) (c .count4 .ensures)))

@@ -13,7 +13,12 @@ is-bad-spec =
     (λ c. rw (ne-eqb _ 1 (c .before .before .if1 .left), ne-eqb _ 2 (c .before .if2 .left), eq-eqb _ 3 (c .if3 .taken)) refl)
     (λ c.
     let not-one = ne-eqb _ 1 (c .before .before .before .if1 .left) in
-    rw (not-one, ne-eqb _ 2 (c .before .before .if2 .left), ne-eqb _ 3 (c .before .if3 .left), eq-eqb _ 4 (c .if4 .taken)) refl)
+    rw (not-one, ne-eqb _ 2 (c .before .before .if2 .left), ne-eqb _ 3 (c .before .if3 .left), eq-eqb _ 6 (c .if4 .taken)) refl)
     (λ c.
-    let not-one = ne-eqb _ 1 (c .before .before .before .if1 .left) in
-    rw (not-one, ne-eqb _ 2 (c .before .before .if2 .left), ne-eqb _ 3 (c .before .if3 .left), ne-eqb _ 4 (c .if4 .left)) (search itself)))
+    let not-one = ne-eqb _ 1 (c .before .before .before .before .if1 .left) in
+    let not-two = ne-eqb _ 2 (c .before .before .before .if2 .left) in
+    rw (not-one, not-two, ne-eqb _ 3 (c .before .before .if3 .left), ne-eqb _ 6 (c .before .if4 .left), eq-eqb _ 4 (c .if5 .taken)) refl)
+    (λ c.
+    let not-one = ne-eqb _ 1 (c .before .before .before .before .if1 .left) in
+    let not-two = ne-eqb _ 2 (c .before .before .before .if2 .left) in
+    rw (not-one, not-two, ne-eqb _ 3 (c .before .before .if3 .left), ne-eqb _ 6 (c .before .if4 .left), ne-eqb _ 4 (c .if5 .left)) (search itself)))

@@ -1,40 +1,36 @@
-use mathlib.Core.Path.{_≡_, refl}
-use mathlib.Core.Bool.{false}
-use native.Mathlib.Omega.{arith}
+use mathlib.Core.Path.{_≡_, refl, sym, ap, _∙_}
 use borrow.Author.Needs.{needs}
-use Rattle.plan.specs.Check.{badLevels, badFactors, badCounts, planRefused}
-use Rattle.plan.specs.Laws.Accepted.{counts-known}
 use Rattle.algebra.specs.Laws.Tests.{is}
+use Rattle.plan.specs.Plan.{runsOf}
+use Rattle.plan.specs.Check.{badRepeats}
+use Rattle.plan.specs.Laws.Accepted.{before-repeats, AfterWords, after-words}
+use Rattle.plan.specs.Laws.Sizes.{runs-within, count-is}
 use Rattle.plan.proofs.checks.lowest.Statement.{statement}
 use Rattle.plan.proofs.checks.lowest.Tie as tie
 
--- what is known beyond each test
-levels-fine : (c : tie.Else1) → badLevels (c .before .before .args .p .levels) ≡ false
-levels-fine c = is (c .before .bad-levels .ensures) (c .if1 .left)
+-- beyond the first test 2 to 8 do not apply
+past : (c : tie.Else1) → AfterWords (c .before .before .args .p)
+past c = after-words _ (sym (c .before .two-to-eight .ensures) ∙ c .if1 .left)
 
-factors-fine : (c : tie.Else2) → badFactors (c .before .before .before .before .args .p .levels) (c .before .before .before .before .args .p .k) ≡ false
-factors-fine c = is (c .before .bad-factors .ensures) (c .if2 .left)
-
-counts-fine : (c : tie.Else3) → let p = c .before .before .before .before .before .before .args .p in badCounts (p .levels) (p .added) (p .blocks) ≡ false
-counts-fine c = is (c .before .bad-counts .ensures) (c .if3 .left)
+-- then 16 decides, by the number of runs
+by-repeats : (c : tie.After-bad-repeats)
+    → let p = c .before .before .before .before .args .p in c .bad-repeats .result ≡ badRepeats (runsOf p) (p .repeats)
+by-repeats c =
+    let a = past (c .before .before) in
+    let runs-is = c .before .runs .ensures ∙ count-is _ (a .levels) (a .factors) in
+    c .bad-repeats .ensures ∙ ap (λ n. badRepeats n (c .before .before .before .before .args .p .repeats)) runs-is
 
 pub lowest-spec : {M : Type 1} → statement M
-unfolding planRefused
 lowest-spec =
     tie.close
     (tie.spec
     (λ c κs. search needs)
-    (λ c. rw (is (c .before .bad-levels .ensures) (c .if1 .taken)) refl)
+    (λ c. before-repeats _ (c .before .two-to-eight .ensures) (c .if1 .taken))
     (λ c κs. search needs)
-    (λ c. rw (levels-fine (c .before .before), is (c .before .bad-factors .ensures) (c .if2 .taken)) refl)
-    (λ c κs. search needs)
-    (λ c. rw (levels-fine (c .before .before .before .before), factors-fine (c .before .before), is (c .before .bad-counts .ensures) (c .if3 .taken)) refl)
-    (λ c. search needs)
-    (λ c. search needs)
-    (λ c. search needs)
-    (λ c κs.
-    let few = counts-known _ _ _ (counts-fine (c .before .before .before .before .before .before)) in
-    omega (arith, few .0, few .1))
+    (λ c κs. rw (c .runs .ensures) (runs-within _))
     (λ c.
-    let past = c .before .before .before .before .before .before .before in
-    rw (levels-fine (past .before .before .before .before), factors-fine (past .before .before), counts-fine past) (c .lowest-of-arrays .ensures)))
+    let a = past (c .before .before .before) in
+    sym (a .decided ∙ rw (is (by-repeats (c .before)) (c .if2 .taken)) refl))
+    (λ c.
+    let a = past (c .before .before .before) in
+    sym (a .decided ∙ rw (is (by-repeats (c .before)) (c .if2 .left)) refl)))

@@ -2,9 +2,9 @@ use mathlib.Core.Path.{_≡_, sym, ap, _∙_}
 use Prim.Native.Nat.{_-_, _^_, _≤_}
 use native.Mathlib.Nat.{pow-zero}
 use native.Mathlib.Omega.{arith}
 use Rattle.plan.specs.Laws.Sizes.{power-room, power-more}
-use Rattle.sizes.proofs.counts.to_the_power.Statement.{statement}
-use Rattle.sizes.proofs.counts.to_the_power.Tie as tie
+use Rattle.plan.proofs.counts.to_the_power.Statement.{statement}
+use Rattle.plan.proofs.counts.to_the_power.Tie as tie
 
 abbrev Inv-loop : tie.InvT-loop
 Inv-loop base k n₀ i₀ n i = (i ≤ k) × (n ≡ base ^ i)

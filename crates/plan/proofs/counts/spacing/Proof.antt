@@ -3,12 +3,12 @@ use mathlib.Core.Bool.{false}
 use native.Mathlib.Omega.{arith}
 use borrow.Author.Needs.{needs}
 use borrow.Author.Tests.{le-leb, lt-leb}
 use Rattle.plan.specs.Check.{badLevels, badFactors, spacingAt}
 use Rattle.plan.specs.Laws.Accepted.{levels-known, levels-small, factors-known, at-most-ten}
 use Rattle.plan.specs.Laws.Sizes.{spacing-power}
 use Rattle.algebra.specs.Laws.Tests.{is}
-use Rattle.sizes.proofs.counts.spacing.Statement.{statement}
-use Rattle.sizes.proofs.counts.spacing.Tie as tie
+use Rattle.plan.proofs.counts.spacing.Statement.{statement}
+use Rattle.plan.proofs.counts.spacing.Tie as tie
 
 -- what is known beyond each test
 levels-fine : (c : tie.Else1) → badLevels (c .before .before .args .p .levels) ≡ false

@@ -1,10 +1,11 @@
-// How many runs a plan has, and how far apart the values of a factor lie.
+// How many runs and readings a plan has, and how far apart the values of a factor lie.
 ghost use mathlib.Core.Path.{_≡_};
 ghost use Prim.Native.Nat.{_^_, _≤_};
-use plan::Plan;
-use plan::bad_factors;
-use plan::bad_levels;
-ghost use Rattle.plan.specs.Check.{runCount, spacingAt};
+use super::conditions::bad_factors;
+use super::conditions::bad_levels;
+use super::conditions::times;
+use super::types::Plan;
+ghost use Rattle.plan.specs.Check.{runCount, readingCount, spacingAt};
 
 // The base multiplied k times.
 fn to_the_power(base: usize, k: usize) -> usize
@@ -31,6 +32,13 @@ pub fn runs(p: Plan) -> usize
         return 0;
     }
     to_the_power(p.levels as usize, p.k as usize)
+}
+
+// How many readings there are: so many for each run as it is made. 0 where `runs` is.
+pub fn reading_count(p: Plan) -> usize
+    ensures { λ r. ⌜ r ≡ readingCount p ⌝ }
+{
+    times(runs(p), p.repeats)
 }
 
 // How many places apart the values of a factor lie in a column of runs, and 0 where there is no such factor or `runs` is 0.

@@ -1,12 +1,12 @@
 use mathlib.Core.Path.{_≡_, refl, sym, _∙_}
 use mathlib.Core.Bool.{false}
 use borrow.Author.Needs.{needs}
 use Rattle.plan.specs.Check.{badLevels, badFactors, runCount}
 use Rattle.plan.specs.Laws.Accepted.{levels-known, levels-small, factors-known, at-most-ten}
 use Rattle.plan.specs.Laws.Sizes.{runs-power}
 use Rattle.algebra.specs.Laws.Tests.{is}
-use Rattle.sizes.proofs.counts.runs.Statement.{statement}
-use Rattle.sizes.proofs.counts.runs.Tie as tie
+use Rattle.plan.proofs.counts.runs.Statement.{statement}
+use Rattle.plan.proofs.counts.runs.Tie as tie
 
 -- what is known beyond each test
 levels-fine : (c : tie.Else1) → badLevels (c .before .before .args .p .levels) ≡ false
