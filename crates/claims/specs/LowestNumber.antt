@@ -1,4 +1,5 @@
--- L1: "The lowest number that applies is returned alone".
+-- L1: "The lowest number that applies is returned alone"; L12: "an order of checks named in a request goes before lowest first". So the
+-- number of each call is the first, in the one order of checks (`order` of crate `plan`), that applies to it.
 --
 --   onPlan p further               the refusals of a call on a plan: the plan's own, and the call's
 --   onSheet fs narrow              those of a call on a sheet: refusal 1, the plan's own, and the sheet's

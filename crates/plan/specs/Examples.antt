@@ -8,13 +8,15 @@
 --   all-accepted, BCD-lost              plans that are accepted, and the confounded effects of one
 --   by-choice                           what the choices of some words combine to
 --   of-any-plan                         how many runs there are, and how far apart a factor's values lie, for any plan
+--   lower-first                         of the numbers 1 to 13 the lower comes first in the order of checks
 use mathlib.Core.Path.{_≡_, refl}
-use mathlib.Core.Bool.{_||_}
+use mathlib.Core.Bool.{true, _||_}
 use mathlib.Core.List.{List, [], _∷_, _++_, map}
-use Prim.Native.Nat.{ℕ, _-_}
-use lib.Dec.{eqb}
+use Prim.Native.Nat.{ℕ, suc, _-_}
+use lib.Dec.{eqb, ltb}
 use lib.ListN.{length, replicate}
 use Rattle.algebra.specs.Naturals.{Σℕ}
+use Rattle.algebra.specs.Tests.{every}
 use Rattle.algebra.specs.Bits.{bits}
 use Rattle.algebra.specs.Search.{some}
 use Rattle.algebra.specs.Tab.{tab, tabFrom}
@@ -24,6 +26,7 @@ use Rattle.contrasts.specs.Totals.{size}
 use Rattle.words.specs.Words.{letters, beyond, times, combined, any, among, repeated}
 use Rattle.plan.specs.declared.types.Plan.{Plan}
 use Rattle.plan.specs.Plan.{factorsOf, someCombination, combinesTo, confoundedIn}
+use Rattle.plan.specs.Outcome.{rank}
 use Rattle.plan.specs.Check.{badLevels, badFactors, badCounts, badWord, badSign, badWords, dependent, factorWord, losesFactor, badRepeats, planRefused, runCount, readingCount, spacingAt}
 
 -- ---- words by their letters
@@ -186,3 +189,10 @@ of-any-plan : runCount (plan 2 3 [] [] [])
     ≡ 8 ∷ 9 ∷ 0 ∷ 32 ∷ 9 ∷ 0 ∷ []
 unfolding runCount readingCount spacingAt badLevels badFactors mostTwo mostThree factorsOf size two three
 of-any-plan = refl
+
+-- ---- the order of checks
+
+-- L1, L12: of any two of the numbers 1 to 13 the lower comes first, so that of these the first that applies is the lowest
+lower-first : every 13 (λ i. every i (λ j. ltb (rank (suc j)) (rank (suc i)))) ≡ true
+unfolding every rank
+lower-first = refl

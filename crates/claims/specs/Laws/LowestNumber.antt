@@ -10,7 +10,7 @@ use lib.IntN.{ℤ}
 use lib.ListN.{length}
 use Rattle.plan.specs.declared.types.Plan.{Plan}
 use Rattle.plan.specs.Check.{planRefusals, planRefused, withPlan}
-use Rattle.plan.specs.Outcome.{Refusal, refusal, lowest, Lowest}
+use Rattle.plan.specs.Outcome.{Refusal, refusal, lowest, rank, Lowest}
 use Rattle.plan.specs.Plan.{runsOf}
 use Rattle.plan.specs.Limits.{readingLimit}
 use Rattle.plan.specs.Laws.Lowest.{is-lowest, with-plan, lowest-with-plan}
@@ -31,9 +31,9 @@ use Rattle.exported.specs.Whole.{wholePlan}
 use Rattle.exported.specs.Handed.{wrongRoom, roomRefused, callRefused}
 use Rattle.claims.specs.LowestNumber.{onPlan, onSheet, onBytes, tableRefusalsC, LowestNumber}
 
--- each list has its numbers written out, so that they rise is computed
+-- each list has its numbers written out, so that they stand in the order of checks is computed
 of-sheet : (fs : Fields) (narrow : Bool) → Lowest (refusedWith fs (planIn fs) narrow) (onSheet fs narrow)
-unfolding refusedWith
+unfolding refusedWith rank
 of-sheet fs narrow = rw (with-plan (planIn fs) (sheetRefusals fs (planIn fs) narrow)) (is-lowest (onSheet fs narrow) tt)
 
 -- a sheet that is too long is refused as one whose fields are bad
@@ -63,7 +63,7 @@ of-table p readings marks column rows figures checks = by (wrongRoom (length fig
     by false = refl
 
 pub lowest-number : LowestNumber
-unfolding planRefused runRefused aliasRefused estimateRefused passRefused columnsRefused tableRefused readRefused marksRefused
+unfolding planRefused runRefused aliasRefused estimateRefused passRefused columnsRefused tableRefused readRefused marksRefused rank
 lowest-number =
     record {
       check = λ p. is-lowest (planRefusals p) tt;
