@@ -3,9 +3,11 @@
 --   wrongLength p n                    refusal 11: a column of n places is not N long
 --   wrongReadings p n                  refusal 11: n readings are not N times r
 --   anyBeyond limit xs                 refusal 12: a column that has a value beyond a limit
---   columnsRefusals wrong limit xs     the refusals, besides those of the plan, of a call that reads the column xs and writes another
---   columnsRefused limit p xs ys       the first number that applies to one that reads values, 0 where it is done
---   readingsRefused p xs ys            and to one that reads readings
+--   lengthsThenValues wrong limit xs   the refusals, besides those of the plan, of a call that reads the column xs and writes another
+--   columnsRefusals limit p xs ys      those of one that reads values, and writes the column ys
+--   columnsRefused limit p xs ys       its first number that applies, 0 where it is done
+--   readingsRefusals p xs ys           those of one that reads readings
+--   readingsRefused p xs ys            and its number
 --   answerOutcome                      the cases of the answer
 use mathlib.Core.Bool.{Bool, not, _||_}
 use mathlib.Core.List.{List, [], _∷_}
@@ -37,14 +39,22 @@ anyBeyond limit xs = some (length xs) (λ i. isBeyond limit (read xs i))
 
 -- N11, N12: a call that reads one column and writes another goes by their lengths, and by the values that it reads; the column that it
 -- writes may hold any
-abbrev pub columnsRefusals : Bool → ℕ → List ℤ → List Refusal
-columnsRefusals wrong limit xs = refusal 11 wrong ∷ refusal 12 (anyBeyond limit xs) ∷ []
+abbrev pub lengthsThenValues : Bool → ℕ → List ℤ → List Refusal
+lengthsThenValues wrong limit xs = refusal 11 wrong ∷ refusal 12 (anyBeyond limit xs) ∷ []
+
+-- of values
+abbrev pub columnsRefusals : ℕ → Plan → List ℤ → List ℤ → List Refusal
+columnsRefusals limit p xs ys = lengthsThenValues (wrongLength p (length xs) || wrongLength p (length ys)) limit xs
 
 unfoldable pub columnsRefused : ℕ → Plan → List ℤ → List ℤ → ℕ
-columnsRefused limit p xs ys = withPlan p (columnsRefusals (wrongLength p (length xs) || wrongLength p (length ys)) limit xs)
+columnsRefused limit p xs ys = withPlan p (columnsRefusals limit p xs ys)
+
+-- of readings
+abbrev pub readingsRefusals : Plan → List ℤ → List ℤ → List Refusal
+readingsRefusals p xs ys = lengthsThenValues (wrongReadings p (length xs) || wrongLength p (length ys)) (readingLimit p) xs
 
 unfoldable pub readingsRefused : Plan → List ℤ → List ℤ → ℕ
-readingsRefused p xs ys = withPlan p (columnsRefusals (wrongReadings p (length xs) || wrongLength p (length ys)) (readingLimit p) xs)
+readingsRefused p xs ys = withPlan p (readingsRefusals p xs ys)
 
 -- F12: what a call makes is in the column, so the answer has no values
 abbrev pub answerOutcome : Answer → Outcome Unit

@@ -7,9 +7,10 @@ use fours::both_over;
 use fours::put_fours;
 use nines::both_three_over;
 use nines::put_nines;
-ghost use Rattle.contrasts.specs.Columns.{totalsOf};
+use repeats::sum_runs;
+ghost use Rattle.contrasts.specs.Columns.{totalsOf, runSumsIn};
 ghost use Rattle.contrasts.specs.Factors.{ofLevels};
-ghost use Rattle.passes.specs.Ready.{PassReadings};
+ghost use Rattle.passes.specs.Ready.{PassReadings, RunReadings};
 ghost use Rattle.passes.specs.Inner.Lent.{SeveralFactors};
 
 // One factor after the other, A first, in place.
@@ -62,8 +63,8 @@ fn three_level_passes(k: usize, readings: &[i32], column: &mut [i64])
     }
 }
 
-// The totals of readings that are not refused.
-pub fn form_totals(levels: usize, k: usize, readings: &[i32], column: &mut [i64])
+// Of runs that are made once.
+fn once(levels: usize, k: usize, readings: &[i32], column: &mut [i64])
     requires { ⌜ PassReadings levels k (now readings) × (length (now column) ≡ length (now readings)) ⌝ }
     ensures { λ _. ⌜ now (column .exit) ≡ totalsOf (replicate k (ofLevels levels)) (now (readings .entry)) ⌝ }
 {
@@ -74,5 +75,18 @@ pub fn form_totals(levels: usize, k: usize, readings: &[i32], column: &mut [i64]
         two_level_passes(k, readings, column);
     } else {
         three_level_passes(k, readings, column);
+    }
+}
+
+// The totals of readings that are not refused: those of the sums of runs.
+pub fn form_totals(levels: usize, k: usize, repeats: usize, readings: &[i32], column: &mut [i64])
+    requires { ⌜ RunReadings levels k repeats (now readings) (now column) ⌝ }
+    ensures { λ _. ⌜ now (column .exit) ≡ totalsOf (replicate k (ofLevels levels)) (runSumsIn (length (now (column .entry))) repeats (now (readings .entry))) ⌝ }
+{
+    if repeats == 1 {
+        once(levels, k, readings, column);
+    } else {
+        sum_runs(readings, repeats, column);
+        all_passes(levels, k, column);
     }
 }

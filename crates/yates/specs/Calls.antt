@@ -13,10 +13,9 @@ use Rattle.contrasts.specs.Columns.{passOf, totalsOf}
 use Rattle.contrasts.specs.Limits.{valueLimit}
 use Rattle.plan.specs.declared.types.Plan.{Plan}
 use Rattle.plan.specs.Check.{withPlan}
-use Rattle.plan.specs.Limits.{readingLimit}
 use Rattle.plan.specs.Outcome.{Refusal, refusal, written}
-use Rattle.plan.specs.Plan.{factorsOf}
-use Rattle.columns.specs.Refusals.{wrongLength, anyBeyond, columnsRefusals, columnsRefused}
+use Rattle.plan.specs.Plan.{factorsOf, runSumsOf}
+use Rattle.columns.specs.Refusals.{wrongLength, anyBeyond, readingsRefusals, readingsRefused}
 
 -- L9: "the pass 10, 11, 12"
 -- N10: "pass factor [..] not a base factor"; N11: "pass or step column not N";
@@ -31,13 +30,13 @@ passRefused p f xs = withPlan p (passRefusals p f xs)
 unfoldable pub passColumn : Plan → ℕ → List ℤ → List ℤ
 passColumn p f xs = written (passRefused p f xs) (passOf (factorsOf p) f xs) xs
 
--- N11: "readings, totals [..] not N [..] long"; N12: "reading beyond [its limit] either way", by the plan's levels
+-- N11: readings not N times r, totals not N long; N12: "reading beyond [its limit] either way", by the plan's levels
 abbrev pub totalsRefusals : Plan → List ℤ → List ℤ → List Refusal
-totalsRefusals p readings totals = columnsRefusals (readingLimit p) p readings totals
+totalsRefusals p readings totals = readingsRefusals p readings totals
 
 abbrev pub totalsRefused : Plan → List ℤ → List ℤ → ℕ
-totalsRefused p readings totals = columnsRefused (readingLimit p) p readings totals
+totalsRefused p readings totals = readingsRefused p readings totals
 
--- T2: "Totals are i64, N of them."
+-- T2: "Totals are i64, N of them."; T29: "passes work on the run sums"
 unfoldable pub totalsColumn : Plan → List ℤ → List ℤ → List ℤ
-totalsColumn p readings totals = written (totalsRefused p readings totals) (totalsOf (factorsOf p) readings) totals
+totalsColumn p readings totals = written (totalsRefused p readings totals) (totalsOf (factorsOf p) (runSumsOf p readings)) totals

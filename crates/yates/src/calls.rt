@@ -53,7 +53,13 @@ pub fn totals(p: Plan, readings: &[i32], totals: &mut [i64]) -> Answer
 {
     let n = readings_refused(p, readings, totals);
     if n == 0 {
-        form_totals(p.levels as usize, p.k as usize, readings, totals);
+        form_totals(
+            p.levels as usize,
+            p.k as usize,
+            p.repeats as usize,
+            readings,
+            totals,
+        );
         return Answer::Done;
     }
     Answer::Refused(n)

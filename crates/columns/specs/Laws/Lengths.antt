@@ -19,7 +19,7 @@ use Rattle.plan.specs.Plan.{runsOf}
 use Rattle.plan.specs.Laws.Answers.{passed, plan-passed, plan-first, after-plan}
 use Rattle.plan.specs.Laws.Sizes.{run-count, reading-count}
 use Rattle.columns.specs.Inner.Judged.{lengthsRefused}
-use Rattle.columns.specs.Refusals.{wrongLength, wrongReadings, anyBeyond, columnsRefusals}
+use Rattle.columns.specs.Refusals.{wrongLength, wrongReadings, anyBeyond, lengthsThenValues}
 
 module _ (p : Plan) (ok : planRefused p ≡ 0) {n : ℕ} (e : n ≡ runCount p) (m : ℕ) where
   pub wrong : (m ≡ n → ⊥) → wrongLength p m ≡ true
@@ -49,7 +49,7 @@ module _ (p : Plan) (read written : ℕ) {n r : ℕ} (number : r ≡ lengthsRefu
   by-readings e = number ∙ same p _ _ (λ ok. rw (e, reading-count p ok) refl)
 
 module _ (p : Plan) (wrong : Bool) (limit : ℕ) (xs : List ℤ) where
-  pub by-lengths : {n : ℕ} → n ≡ lengthsRefused p wrong → (n ≡ 0 → ⊥) → n ≡ withPlan p (columnsRefusals wrong limit xs)
+  pub by-lengths : {n : ℕ} → n ≡ lengthsRefused p wrong → (n ≡ 0 → ⊥) → n ≡ withPlan p (lengthsThenValues wrong limit xs)
   unfolding lengthsRefused
   by-lengths {n} e h = by (ℕ-discrete (planRefused p) 0)
     where
@@ -57,11 +57,11 @@ module _ (p : Plan) (wrong : Bool) (limit : ℕ) (xs : List ℤ) where
       refusal-11 true m d = d
       refusal-11 false m d = absurd (h d)
 
-      by : Dec (planRefused p ≡ 0) → n ≡ withPlan p (columnsRefusals wrong limit xs)
+      by : Dec (planRefused p ≡ 0) → n ≡ withPlan p (lengthsThenValues wrong limit xs)
       by (yes d) = refusal-11 wrong (cond (anyBeyond limit xs) 12 0) (e ∙ after-plan p _ d) ∙ sym (after-plan p _ d)
       by (no d) = e ∙ sym (plan-first p _ refl d) ∙ plan-first p _ refl d
 
-  pub by-values : lengthsRefused p wrong ≡ 0 → withPlan p (columnsRefusals wrong limit xs) ≡ cond (anyBeyond limit xs) 12 0
+  pub by-values : lengthsRefused p wrong ≡ 0 → withPlan p (lengthsThenValues wrong limit xs) ≡ cond (anyBeyond limit xs) 12 0
   unfolding lengthsRefused
   by-values e =
       let q = plan-passed p _ e in

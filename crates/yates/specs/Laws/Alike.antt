@@ -2,16 +2,15 @@
 --
 --   same-pass, same-pass-column        plans that agree as far as their counts reach get the same number of a pass, and the same column
 --   same-totals, same-totals-column    and so of the totals
-use mathlib.Core.Path.{_≡_, refl, ap, _∙_}
+use mathlib.Core.Path.{_≡_, refl}
 use mathlib.Core.List.{List}
 use Prim.Native.Nat.{ℕ}
 use lib.IntN.{ℤ}
 use Rattle.plan.specs.declared.types.Plan.{Plan}
 use Rattle.plan.specs.Check.{withPlan}
-use Rattle.plan.specs.Limits.{readingLimit}
-use Rattle.plan.specs.Laws.Alike.{Alike, same-refused as same-plan-refused, same-factors, same-limit}
-use Rattle.columns.specs.Refusals.{wrongLength, columnsRefused}
-use Rattle.columns.specs.Laws.Alike.{same-columns}
+use Rattle.plan.specs.Laws.Alike.{Alike, same-refused as same-plan-refused, same-factors}
+use Rattle.columns.specs.Refusals.{wrongLength}
+use Rattle.columns.specs.Laws.Alike.{same-readings}
 use Rattle.yates.specs.Calls.{passRefused, passColumn, totalsRefused, totalsColumn}
 
 module _ {p q : Plan} (a : Alike p q) where
@@ -24,8 +23,8 @@ module _ {p q : Plan} (a : Alike p q) where
   same-pass-column f xs = rw (same-pass f xs, same-factors a) refl
 
   pub same-totals : (readings totals : List ℤ) → totalsRefused p readings totals ≡ totalsRefused q readings totals
-  same-totals readings totals = same-columns a (readingLimit p) readings totals ∙ ap (λ limit. columnsRefused limit q readings totals) (same-limit a)
+  same-totals readings totals = same-readings a readings totals
 
   pub same-totals-column : (readings totals : List ℤ) → totalsColumn p readings totals ≡ totalsColumn q readings totals
   unfolding totalsColumn
-  same-totals-column readings totals = rw (same-totals readings totals, same-factors a) refl
+  same-totals-column readings totals = rw (same-totals readings totals, same-factors a, a .repeats) refl
