@@ -3,7 +3,7 @@
 -- effect totals.
 --
 --   afterCalls p calls column    the column after a list of pass calls, each on what the last one left
---   Readings p column            a column of N readings within the limit
+--   RunSums p column             a column of N run sums within r times the reading limit
 --   EachOnce p calls             the list names each base factor once; other numbers may stand anywhere in it
 --   call calls n                 the factor that call n asks for
 --   found p calls column n       the column that it finds
@@ -25,7 +25,7 @@ use Rattle.plan.specs.declared.types.Plan.{Plan}
 use Rattle.plan.specs.Check.{planRefused}
 use Rattle.plan.specs.Outcome.{Outcome, given, refused, outcome}
 use Rattle.plan.specs.Plan.{factorsOf, runsOf}
-use Rattle.plan.specs.Limits.{readingLimit}
+use Rattle.plan.specs.Limits.{runLimit}
 use Rattle.yates.specs.Calls.{passRefused, passColumn}
 
 -- D3.3: "Each call works on what the last one left, and nobody else writes": `passColumn` is what the pass call promises to leave
@@ -33,10 +33,11 @@ unfoldable pub afterCalls : Plan → List ℕ → List ℤ → List ℤ
 afterCalls p [] column = column
 afterCalls p (f ∷ fs) column = afterCalls p fs (passColumn p f column)
 
--- D3.1: "a column with one place per run that starts as readings within the limit"
-pub record Readings (p : Plan) (column : List ℤ) : Type 0 where
+-- D3.1: "a column with one place per run", which "now starts as run sums within r times the reading limit"; with r = 1 these are the
+-- readings
+pub record RunSums (p : Plan) (column : List ℤ) : Type 0 where
   pub whole : length column ≡ runsOf p
-  pub within : AllWithin (readingLimit p) column
+  pub within : AllWithin (runLimit p) column
 
 -- D3.2: "names each base factor exactly once"
 abbrev pub EachOnce : Plan → List ℕ → Type 0
@@ -70,10 +71,10 @@ pub record InAnyOrder (p : Plan) (column : List ℤ) (calls : List ℕ) : Type 0
   -- D3.6: "and the column ends, place by place, as the report's effect totals"
   pub ends : afterCalls p calls column ≡ totalsOf (factorsOf p) column
 
--- for every accepted plan, every column of N readings within the limit, and every list of calls that names each base factor once
+-- for every accepted plan, every column of N run sums within r times the reading limit, and every list of calls that names each base factor once
 abbrev pub AnyOrder : Type 0
 AnyOrder =
     (p : Plan) → planRefused p ≡ 0
-    → (column : List ℤ) → Readings p column
+    → (column : List ℤ) → RunSums p column
     → (calls : List ℕ) → EachOnce p calls
     → InAnyOrder p column calls

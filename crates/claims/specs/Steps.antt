@@ -16,7 +16,7 @@ use Rattle.plan.specs.Check.{planRefused}
 use Rattle.plan.specs.Outcome.{Outcome, given, outcome}
 use Rattle.plan.specs.Plan.{factorsOf, runsOf}
 use Rattle.steps.specs.Step.{stepRefused, stepColumn}
-use Rattle.claims.specs.AnyOrder.{Readings}
+use Rattle.claims.specs.AnyOrder.{RunSums}
 
 -- `stepColumn` is what the step call promises to leave in the column that it is lent to write
 unfoldable pub afterSteps : Plan → (ℕ → List ℤ) → List ℤ → ℕ → List ℤ
@@ -35,10 +35,10 @@ pub record InSteps (p : Plan) (lent : ℕ → List ℤ) (column : List ℤ) : Ty
   pub answers : (n : ℕ) → n < p .k → answer p lent column n ≡ given tt
   pub ends : afterSteps p lent column (p .k) ≡ totalsOf (factorsOf p) column
 
--- for every accepted plan, every column of N readings within the limit, and whatever columns of N are lent
+-- for every accepted plan, every column of N run sums within r times the reading limit, and whatever columns of N are lent
 abbrev pub Steps : Type 0
 Steps =
     (p : Plan) → planRefused p ≡ 0
-    → (column : List ℤ) → Readings p column
+    → (column : List ℤ) → RunSums p column
     → (lent : ℕ → List ℤ) → Lent p lent
     → InSteps p lent column

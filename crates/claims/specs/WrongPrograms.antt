@@ -45,7 +45,7 @@ use Rattle.anova.specs.declared.types.Figures.{Figures}
 use Rattle.anova.specs.Table.{tableRefused, tableFigures, tableTotals, tableRows}
 use Rattle.printing.specs.Printed.{printed, printRefused}
 use Rattle.promises.specs.Promised.{Left, Tabled, Printed, promisedCheck, promisedPass, promisedTotals, promisedTable, promisedEstimate, promisedMarks, promisedPrint}
-use Rattle.claims.specs.AnyOrder.{Readings, ownPass}
+use Rattle.claims.specs.AnyOrder.{RunSums, ownPass}
 
 -- ---- to keep a promise
 
@@ -265,7 +265,7 @@ pub record WrongPrograms : Type 0 where
   pub not-B : firstDoesAll 1 four 1 fourTotals .column ≡ ownPass four 1 fourTotals → ⊥
   pub ends-so : afterTold firstDoesAll 0 four (0 ∷ 1 ∷ []) readings ≡ fourTotals
   -- and so does every list of calls that begins with a base factor's: its end alone does not tell
-  pub ends-right : (p : Plan) → planRefused p ≡ 0 → (column : List ℤ) → Readings p column → (f : ℕ) → f < p .k → (fs : List ℕ)
+  pub ends-right : (p : Plan) → planRefused p ≡ 0 → (column : List ℤ) → RunSums p column → (f : ℕ) → f < p .k → (fs : List ℕ)
       → afterTold firstDoesAll 0 p (f ∷ fs) column ≡ totalsOf (factorsOf p) column
   -- C10, C11: "one with invented degrees or check numbers (demand 2)"
   pub invented-degrees : (m k b e : ℕ) → KeepsTable (inventedDegrees m k b e) → ⊥

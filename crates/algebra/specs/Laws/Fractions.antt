@@ -1,6 +1,8 @@
 -- Fractions with a common denominator.
 --
---   shared    fractions that have a common denominator, added up: their numerators over it
+--   shared-sum    fractions that have a common denominator, added up: their numerators over it
+--   shared        where these come to a whole number, so does the sum
+--   shared-two    and so of two sums
 use mathlib.Core.Path.{_≡_, ap, _∙_}
 use Prim.Native.Nat.{ℕ, zero, suc, _+_, _*_, _<_, _≤_}
 use native.Mathlib.Nat.{mul-comm, mul-pos, zero-mul, mul-right-comm, eq-of-mul-eq-mul-right}
@@ -31,6 +33,9 @@ module _ (n : ℕ) (f : ℕ → Fraction) (w : ℕ → ℕ) (d : ℕ) (some : 0 
       one-more (sumOf k f .top) (sumOf k f .bottom) (f k .top) (f k .bottom) (w k) d (Σℕ k (λ e. f e .top * w e))
       (share k (omega arith)) (so-far k (omega arith))
 
+  pub shared-sum : (0 < sumOf n f .bottom) × (sumOf n f .top * d ≡ Σℕ n (λ e. f e .top * w e) * sumOf n f .bottom)
+  shared-sum = (bottoms n (omega arith), so-far n (omega arith))
+
   pub shared : (m : ℕ) → Σℕ n (λ e. f e .top * w e) ≡ d * m → Is (sumOf n f) m
   shared m h =
       record {
@@ -39,3 +44,19 @@ module _ (n : ℕ) (f : ℕ → Fraction) (w : ℕ → ℕ) (d : ℕ) (some : 0 
             eq-of-mul-eq-mul-right d some (sumOf n f .top) (m * sumOf n f .bottom)
             (so-far n (omega arith) ∙ rw h (rw (mul-comm d m) (mul-right-comm m d (sumOf n f .bottom))));
       }
+
+pub shared-two : (q r : Fraction) (a b d m : ℕ) → 0 < d → (0 < q .bottom) × (q .top * d ≡ a * q .bottom) → (0 < r .bottom) × (r .top * d ≡ b * r .bottom)
+    → a + b ≡ d * m → Is (plus q r) m
+unfolding plus
+shared-two q r a b d m some first second h =
+    record {
+      bottom = mul-pos (first .0) (second .0);
+      top = eq-of-mul-eq-mul-right d some (q .top * r .bottom + r .top * q .bottom) (m * (q .bottom * r .bottom)) joined;
+    }
+  where
+    joined : (q .top * r .bottom + r .top * q .bottom) * d ≡ m * (q .bottom * r .bottom) * d
+    joined =
+        let one : q .top * d * r .bottom ≡ a * q .bottom * r .bottom = ap (λ (x : ℕ). x * r .bottom) (first .1) in
+        let other : r .top * d * q .bottom ≡ b * r .bottom * q .bottom = ap (λ (x : ℕ). x * q .bottom) (second .1) in
+        let all : (a + b) * (q .bottom * r .bottom) ≡ d * m * (q .bottom * r .bottom) = ap (λ (x : ℕ). x * (q .bottom * r .bottom)) h in
+        omega (arith, one, other, all)

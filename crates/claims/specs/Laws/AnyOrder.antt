@@ -28,7 +28,7 @@ use Rattle.plan.specs.Laws.Answers.{unwritten, written-new}
 use Rattle.plan.specs.Laws.Limits.{plan-roomy}
 use Rattle.yates.specs.Calls.{passRefused, passColumn}
 use Rattle.yates.specs.Laws.Admitted.{PassAdmitted, pass-admits, pass-ten}
-use Rattle.claims.specs.AnyOrder.{afterCalls, Readings, EachOnce, call, found, answer, doneOrTen, ownPass, AnyOrder}
+use Rattle.claims.specs.AnyOrder.{afterCalls, RunSums, EachOnce, call, found, answer, doneOrTen, ownPass, AnyOrder}
 
 after-more : (p : Plan) (calls : List ℕ) (xs : List ℤ) (n : ℕ) → n < length calls
     → found p calls xs (suc n) ≡ passColumn p (call calls n) (found p calls xs n)
@@ -37,7 +37,7 @@ after-more p [] xs n h = absurd (omega arith)
 after-more p (f ∷ fs) xs zero h = refl
 after-more p (f ∷ fs) xs (suc n) h = after-more p fs (passColumn p f xs) n (omega arith)
 
-module _ (p : Plan) (ok : planRefused p ≡ 0) (xs : List ℤ) (start : Readings p xs) (calls : List ℕ) (once : EachOnce p calls) where
+module _ (p : Plan) (ok : planRefused p ≡ 0) (xs : List ℤ) (start : RunSums p xs) (calls : List ℕ) (once : EachOnce p calls) where
   -- the column after n passes, as a list and as a column
   passed : ℕ → List ℤ
   passed n = passesOf (factorsOf p) (take n calls) xs

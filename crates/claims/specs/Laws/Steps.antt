@@ -26,7 +26,7 @@ use Rattle.plan.specs.Laws.Answers.{written-new}
 use Rattle.plan.specs.Laws.Limits.{plan-roomy}
 use Rattle.columns.specs.Laws.Admitted.{Columns, admits}
 use Rattle.steps.specs.Step.{stepRefused, stepColumn}
-use Rattle.claims.specs.AnyOrder.{Readings}
+use Rattle.claims.specs.AnyOrder.{RunSums}
 use Rattle.claims.specs.Steps.{afterSteps, Lent, answer, Steps}
 
 -- a step needs a factor, so k is the number after another
@@ -37,7 +37,7 @@ fits-each F (suc k) some ok xs whole within t h =
     rw (steps-alike (suc k) t F xs h whole)
     (within-tab _ valueLimit _ (steps-fit F k ok (read xs) (λ r _. within r) t h))
 
-module _ (p : Plan) (ok : planRefused p ≡ 0) (xs : List ℤ) (start : Readings p xs) (lent : ℕ → List ℤ) (room : Lent p lent) where
+module _ (p : Plan) (ok : planRefused p ≡ 0) (xs : List ℤ) (start : RunSums p xs) (lent : ℕ → List ℤ) (room : Lent p lent) where
   stepped : ℕ → List ℤ
   stepped n = stepsOf (runsOf p) (replicate n (ofLevels (p .levels))) xs
 

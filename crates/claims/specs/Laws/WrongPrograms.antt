@@ -45,7 +45,7 @@ use Rattle.sheet.specs.Sheet.{refusedWith, marksRefused, marksOf}
 use Rattle.printing.specs.Printed.{printed, printRefused, textOf}
 use Rattle.printing.specs.Examples.{rulesSheet, rules-text, threeSheet, three-text}
 use Rattle.promises.specs.Promised.{promisedEstimate}
-use Rattle.claims.specs.AnyOrder.{Readings, ownPass}
+use Rattle.claims.specs.AnyOrder.{RunSums, ownPass}
 use Rattle.claims.specs.WrongPrograms.{PassCall, KeepsPass, KeepsTable, KeepsPrint, constantTable, figuresBy, untouchedPass, doesAll, firstDoesAll, doesAllAtA, afterTold, four, readings, fourTotals, zeros, allKept, pooled, blank, WrongPrograms, rowsOfKind, threeLevels, threeReadings}
 
 -- ---- what the promises come to at the named inputs, computed
@@ -166,7 +166,7 @@ unfolding afterTold
 idle n p [] column = refl
 idle n p (f ∷ fs) column = idle (suc n) p fs column
 
-all-at-once : (p : Plan) → planRefused p ≡ 0 → (column : List ℤ) → Readings p column → (f : ℕ) → f < p .k → (fs : List ℕ)
+all-at-once : (p : Plan) → planRefused p ≡ 0 → (column : List ℤ) → RunSums p column → (f : ℕ) → f < p .k → (fs : List ℕ)
     → afterTold firstDoesAll 0 p (f ∷ fs) column ≡ totalsOf (factorsOf p) column
 unfolding afterTold
 all-at-once p ok column start f base fs =

@@ -5,6 +5,7 @@
 --   sums-within              they are within r times the limit of the readings
 --   about-means              all deviations squared, of n runs
 --   sums-least               the squares of the run sums are at most r times those of the readings: those about the means are never negative
+--   deviations-are           all deviations squared, of the runs of a plan
 --   within-is                the squares about the means as code forms them
 --   once-none                of runs made once there are none
 --   all-squares              "the numerators of all N effects and the numerator of these squares over the new denominator add up"
@@ -118,20 +119,20 @@ module _ (Fs : List Factor) (r : ℕ) (some : 0 < r) (xs : List ℤ) (whole : le
   unfolding squaresOf
   sums-squared = rw (sums-long (size Fs) r xs) (Σℕ-cong (size Fs) (λ i h. ap sq (sums-read (size Fs) r xs i h)))
 
-  all-readings : deviations + r * squaresOf sums ≡ r * (r * squaresOf xs)
+  all-deviations : deviations + r * squaresOf sums ≡ r * (r * squaresOf xs)
   unfolding squaresOf
-  all-readings = rw (sums-squared, whole, mul-comm (size Fs) r) (about-means (size Fs) r (read xs))
+  all-deviations = rw (sums-squared, whole, mul-comm (size Fs) r) (about-means (size Fs) r (read xs))
 
   -- "never negative": r times the one is at most r times the other, so the one is at most the other
   pub sums-least : squaresOf sums ≤ r * squaresOf xs
-  sums-least = le-of-mul-le-mul-left {k = r} (omega (arith, all-readings)) some
+  sums-least = le-of-mul-le-mul-left {k = r} (omega (arith, all-deviations)) some
 
-  part : (a b c : ℕ) → a + r * b ≡ r * c → a ≡ r * (c - b)
-  part a b c e = omega (arith, e, mul-sub r c b)
+  pub deviations-are : deviations ≡ r * (r * squaresOf xs - squaresOf sums)
+  deviations-are = omega (arith, all-deviations, mul-sub r (r * squaresOf xs) (squaresOf sums))
 
   pub within-is : withinRuns Fs r (read xs) ≡ denominator Fs * (r * squaresOf xs - squaresOf sums)
   unfolding withinRuns
-  within-is = ap (λ n. denominator Fs * n) (div-eq-of-eq-mul-right some (part deviations (squaresOf sums) (r * squaresOf xs) all-readings))
+  within-is = ap (λ n. denominator Fs * n) (div-eq-of-eq-mul-right some deviations-are)
 
   pub all-squares : Σℕ (size Fs) (numerator Fs (read sums)) + withinRuns Fs r (read xs) ≡ r * denominator Fs * squaresOf xs
   unfolding squared squaresOf
