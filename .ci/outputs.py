@@ -2,7 +2,8 @@
 # and published figures with what the reference program makes of the readings. Exits with 1 at a difference.
 #
 #   crates/worked_plans/stdout    the plans of AMCP 706-112, Tables 12-3 and 12-4: published/amcp.py
-#   crates/worked_totals/stdout   steps, totals and passes of the published examples and at the limits: published/examples.py
+#   crates/worked_totals/stdout   steps, totals and passes of the published examples, at the limits and with repeats:
+#                                 published/examples.py
 #   crates/worked_answers/stdout  refused and accepted tables, estimates, aliases and effects: cases/answers.py
 #   crates/worked_answers/stdin   the records of these, which that program reads
 #   crates/worked_sheets/stdout   answers of the two calls that take a sheet: cases/sheet_cases.py

@@ -33,15 +33,16 @@ from threading import Timer
 sys.path.insert(0, str(Path(__file__).resolve().parent.parent))
 
 from reference.cases import compare
-from reference.cases.answers import LEVELS_NAMED, SIDES, about_limit
+from reference.cases.answers import SIDES, about_limit, named
 from reference.cases.compare import difference
 from reference.cases.csv_cases import EXAMPLES, FOLDER
 from reference.cases.sheet_cases import Numbers
 from reference.cases.text_cases import RULES_SHEET, RULES_TEXT
+from reference.published.analyses import MOST_REPEATED
 from reference.rules import sheet_bytes
 from reference.rules import text as text_rules
 from reference.rules.table import row_count
-from reference.rules.totals import MOST_FACTORS, MOST_READING, Plan, run_count
+from reference.rules.totals import MOST_FACTORS, MOST_READING, Plan, reading_count
 
 COUNT, SEED = 500, 5187
 TIME_LIMIT = 20
@@ -105,13 +106,13 @@ def stored():
 
 
 def limited(plan):
-    """Runs on sheets of a plan: all readings at a limit; and one, in the first, a middle and the last run, at a limit of
+    """Runs on sheets of a plan: all readings at a limit; and one, at the first, a middle and the last place, at a limit of
     either level count or one beyond it, where the others are 0."""
-    top, runs = MOST_READING[plan.levels], run_count(plan.levels, plan.k)
-    columns = [("all readings %d" % (sign * top), [sign * top] * runs) for _, sign in SIDES]
+    top, count = MOST_READING[plan.levels], reading_count(plan)
+    columns = [("all readings %d" % (sign * top), [sign * top] * count) for _, sign in SIDES]
     for size in [limit + more for limit in MOST_READING.values() for more in (0, 1)]:
-        columns += [("%s %d" % (name, sum(readings)), readings) for name, _, readings in about_limit([0] * runs, size)]
-    return [of_sheet("%s, k = %d, %s" % (LEVELS_NAMED[plan.levels], plan.k, name),
+        columns += [("%s %d" % (name, sum(readings)), readings) for name, _, readings in about_limit([0] * count, size)]
+    return [of_sheet("%s, k = %d, %s" % (named(plan), plan.k, name),
                      sheet_bytes.write(plan, readings, [0] * row_count(plan.k))) for name, readings in columns]
 
 
@@ -237,6 +238,7 @@ def all_runs(program):
     if text_rules.answer(longest) or len(longest) != MOST:
         sys.exit("the longest sheet is not lawful or not of %d bytes" % MOST)
     plans = [Plan(levels, k) for levels, most in MOST_FACTORS.items() for k in (1, most)]
+    plans += [plan for most in MOST_REPEATED.values() for plan in most]
     about_limits = [run for plan in plans for run in limited(plan)]
     for run in sized(contents) + stored() + about_limits + parted(numbers, longest) + failing():
         yield run.name, complaints_of(program, run)

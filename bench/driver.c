@@ -2,11 +2,12 @@
 
    Passes: a column is set from the readings, and the pass of each factor is called on it; the setting is counted, on every side alike.
    Totals: one call, from the readings to the totals of all effects.
-   Tables: one call, from the readings and marks to totals, rows, figures and checks; every third row but the mean is marked.
+   Tables: one call, from the readings and marks to totals, rows, figures and checks; every third row but the mean is marked. One row has
+   runs that are made eight times.
    First every side must give the same answers and columns, also where it refuses. Then the sides take turns in short batches, so that other
    work on the machine falls on all of them; a side's time is that of its fastest batch.
 
-   Writes a line for each call and plan: call, levels, k, N, and the ns of each side. Exit status: 0, and 2 where the sides differ. */
+   Writes a line for each call and plan: call, levels, k, repeats, N, and the ns of each side. Exit status: 0, and 2 where the sides differ. */
 #define _POSIX_C_SOURCE 200809L
 #include <stdint.h>
 #include <stdio.h>
@@ -15,8 +16,9 @@
 #include <time.h>
 
 typedef uint8_t pass_call(uint8_t levels, uint8_t k, size_t factor, int64_t *column, size_t length);
-typedef uint8_t totals_call(uint8_t levels, uint8_t k, const int32_t *readings, size_t readings_length, int64_t *totals, size_t totals_length);
-typedef uint8_t table_call(uint8_t levels, uint8_t k, const int32_t *readings, size_t readings_length, const uint8_t *marks,
+typedef uint8_t totals_call(uint8_t levels, uint8_t k, uint8_t repeats, const int32_t *readings, size_t readings_length, int64_t *totals,
+                            size_t totals_length);
+typedef uint8_t table_call(uint8_t levels, uint8_t k, uint8_t repeats, const int32_t *readings, size_t readings_length, const uint8_t *marks,
                            size_t marks_length, int64_t *totals, size_t totals_length, uint64_t *rows, size_t rows_length,
                            uint64_t *figures, size_t figures_length, int64_t *checks, size_t checks_length);
 
@@ -31,6 +33,10 @@ static table_call *const tables[SIDES] = {anova_table, plain_anova_table, native
 
 enum { MOST = 1024, ROOM = MOST + 1, FIGURES = 11, CHECKS = 2, BATCHES = 30, BATCH_NS = 500000 };
 static const int64_t TWO_READING_LIMIT = 1000000, THREE_READING_LIMIT = 100000, VALUE_LIMIT = 1024000000;
+
+/* Numbers of repeats, allowed or not. */
+static const uint8_t REPEATS[] = {1, 2, 4, 8, 0, 3, 5, 16, 255};
+enum { ALLOWED = 4, ALL_REPEATS = sizeof REPEATS / sizeof *REPEATS };
 
 /* One place of each for all sides, so that none has a better one. */
 static _Alignas(64) int32_t readings[ROOM];
@@ -101,47 +107,54 @@ static void compare_pass(unsigned levels, unsigned k, size_t factor, size_t leng
     compared++;
 }
 
-static void compare_totals(unsigned levels, unsigned k, size_t readings_length, size_t totals_length)
+static void compare_totals(unsigned levels, unsigned k, unsigned repeats, size_t readings_length, size_t totals_length)
 {
     static int64_t wanted[ROOM];
     memset(column, 0x55, sizeof column);
-    uint8_t number = totals[RATTLE](levels, k, readings, readings_length, column, totals_length);
+    uint8_t number = totals[RATTLE](levels, k, repeats, readings, readings_length, column, totals_length);
     memcpy(wanted, column, sizeof column);
     for (int side = PLAIN; side < SIDES; side++) {
         memset(column, 0x55, sizeof column);
-        if (totals[side](levels, k, readings, readings_length, column, totals_length) != number || memcmp(column, wanted, sizeof column) != 0)
+        if (totals[side](levels, k, repeats, readings, readings_length, column, totals_length) != number ||
+            memcmp(column, wanted, sizeof column) != 0)
             differ("totals", levels, k);
     }
     compared++;
 }
 
-static uint8_t call_table(int side, unsigned levels, unsigned k, const size_t lengths[6])
+static uint8_t call_table(int side, unsigned levels, unsigned k, unsigned repeats, const size_t lengths[6])
 {
-    return tables[side](levels, k, readings, lengths[0], marks, lengths[1], made.totals, lengths[2], made.rows, lengths[3], made.figures,
-                        lengths[4], made.checks, lengths[5]);
+    return tables[side](levels, k, repeats, readings, lengths[0], marks, lengths[1], made.totals, lengths[2], made.rows, lengths[3],
+                        made.figures, lengths[4], made.checks, lengths[5]);
 }
 
 /* All that the call writes is compared, also beyond the lengths that it was given. */
-static void compare_table(unsigned levels, unsigned k, const size_t lengths[6])
+static void compare_table(unsigned levels, unsigned k, unsigned repeats, const size_t lengths[6])
 {
     static struct made wanted;
     memset(&made, 0x55, sizeof made);
-    uint8_t number = call_table(RATTLE, levels, k, lengths);
+    uint8_t number = call_table(RATTLE, levels, k, repeats, lengths);
     memcpy(&wanted, &made, sizeof made);
     for (int side = PLAIN; side < SIDES; side++) {
         memset(&made, 0x55, sizeof made);
-        if (call_table(side, levels, k, lengths) != number || memcmp(&made, &wanted, sizeof made) != 0)
+        if (call_table(side, levels, k, repeats, lengths) != number || memcmp(&made, &wanted, sizeof made) != 0)
             differ("table", levels, k);
     }
     compared++;
 }
 
-/* Values and readings at a limit and beside it, of either level count, in a plan of k factors. */
-static void compare_about_limits(unsigned levels, unsigned k)
+/* As many as fit, of a number of readings, runs or rows. */
+static size_t fitting(size_t count)
 {
-    size_t n = runs_of(levels, k), rows = runs_of(2, k);
-    const size_t places[] = {0, 1, 17, n - 2, n - 1, n};
-    const size_t lengths[] = {n, rows, n, rows, FIGURES, CHECKS};
+    return count < MOST ? count : MOST;
+}
+
+/* Values and readings at a limit and beside it, of either level count, in a plan of k factors. */
+static void compare_about_limits(unsigned levels, unsigned k, unsigned repeats)
+{
+    size_t n = runs_of(levels, k), count = n * repeats, rows = runs_of(2, k);
+    const size_t places[] = {0, 1, 17, n - 2, n - 1, n, count - 1, count};
+    const size_t lengths[] = {count, rows, n, rows, FIGURES, CHECKS};
     for (size_t p = 0; p < sizeof places / sizeof *places; p++)
         for (int64_t over = -1; over <= 1; over++)
             for (int sign = -1; sign <= 1; sign += 2) {
@@ -154,30 +167,30 @@ static void compare_about_limits(unsigned levels, unsigned k)
                 int32_t reading = readings[at];
                 for (unsigned of = 2; of <= 3; of++) {
                     readings[at] = (int32_t)(sign * (reading_limit(of) + over));
-                    compare_totals(levels, k, n, n);
-                    compare_table(levels, k, lengths);
+                    compare_totals(levels, k, repeats, count, n);
+                    compare_table(levels, k, repeats, lengths);
                 }
                 readings[at] = sign < 0 ? INT32_MIN : INT32_MAX;
-                compare_totals(levels, k, n, n);
-                compare_table(levels, k, lengths);
+                compare_totals(levels, k, repeats, count, n);
+                compare_table(levels, k, repeats, lengths);
                 readings[at] = reading;
             }
 }
 
 /* Tables of a plan: with several marks, and with each length one too small and one too great. */
-static void compare_tables(unsigned levels, unsigned k, size_t n)
+static void compare_tables(unsigned levels, unsigned k, unsigned repeats)
 {
-    size_t rows = runs_of(2, k) < MOST ? runs_of(2, k) : MOST;
-    size_t lengths[6] = {n, rows, n, rows, FIGURES, CHECKS};
+    size_t runs = runs_of(levels, k), rows = fitting(runs_of(2, k));
+    size_t lengths[6] = {fitting(runs * repeats), rows, fitting(runs), rows, FIGURES, CHECKS};
     for (size_t rest = 0; rest <= 3; rest++) {
         take_marks(rest);
-        compare_table(levels, k, lengths);
+        compare_table(levels, k, repeats, lengths);
     }
     for (int i = 0; i < 6; i++) {
         size_t length = lengths[i];
         for (size_t other = length == 0 ? 0 : length - 1; other <= length + 1; other++) {
             lengths[i] = other;
-            compare_table(levels, k, lengths);
+            compare_table(levels, k, repeats, lengths);
         }
         lengths[i] = length;
     }
@@ -185,36 +198,53 @@ static void compare_tables(unsigned levels, unsigned k, size_t n)
         for (int mark = 1; mark <= 2; mark++) {
             uint8_t before = marks[row];
             marks[row] = (uint8_t)mark;
-            compare_table(levels, k, lengths);
+            compare_table(levels, k, repeats, lengths);
             marks[row] = before;
         }
+}
+
+/* Passes, totals and tables of a plan, with lengths one too small and one too great; and as many readings as runs. */
+static void compare_plan(unsigned levels, unsigned k, unsigned repeats)
+{
+    size_t n = fitting(runs_of(levels, k)), count = fitting(runs_of(levels, k) * repeats);
+    for (size_t length = n == 0 ? 0 : n - 1; length <= n + 1; length++) {
+        if (repeats == 1)
+            for (size_t factor = 0; factor <= k + 1; factor++)
+                compare_pass(levels, k, factor, length);
+        compare_totals(levels, k, repeats, count, length);
+    }
+    for (size_t length = count == 0 ? 0 : count - 1; length <= count + 1; length++)
+        compare_totals(levels, k, repeats, length, n);
+    compare_totals(levels, k, repeats, n, n);
+    compare_tables(levels, k, repeats);
+}
+
+/* All readings at one limit, or at both in turn, where numbers grow largest. */
+static void compare_at_limits(unsigned levels, int first, int second)
+{
+    for (size_t i = 0; i < ROOM; i++)
+        readings[i] = (int32_t)((i % 2 == 0 ? first : second) * reading_limit(levels));
+    for (unsigned k = 1; k <= (levels == 2 ? 10 : 6); k++)
+        for (int i = 0; i < ALLOWED; i++)
+            compare_tables(levels, k, REPEATS[i]);
 }
 
 static void compare_sides(void)
 {
     for (unsigned levels = 0; levels <= 5; levels++)
-        for (unsigned k = 0; k <= 11; k++) {
-            size_t n = runs_of(levels, k);
-            if (n > MOST)
-                n = MOST;
-            for (size_t length = n == 0 ? 0 : n - 1; length <= n + 1; length++) {
-                for (size_t factor = 0; factor <= k + 1; factor++)
-                    compare_pass(levels, k, factor, length);
-                compare_totals(levels, k, length, n);
-                compare_totals(levels, k, n, length);
-            }
-            compare_tables(levels, k, n);
-        }
-    compare_about_limits(2, 7);
-    compare_about_limits(3, 4);
-    /* All readings at a limit, where numbers grow largest. */
-    for (unsigned levels = 2; levels <= 3; levels++)
-        for (int sign = -1; sign <= 1; sign += 2) {
-            for (size_t i = 0; i < ROOM; i++)
-                readings[i] = (int32_t)(sign * reading_limit(levels));
-            for (unsigned k = 1; k <= (levels == 2 ? 10 : 6); k++)
-                compare_tables(levels, k, runs_of(levels, k));
-        }
+        for (unsigned k = 0; k <= 11; k++)
+            for (int i = 0; i < ALL_REPEATS; i++)
+                compare_plan(levels, k, REPEATS[i]);
+    compare_about_limits(2, 7, 1);
+    compare_about_limits(3, 4, 1);
+    compare_about_limits(2, 7, 8);
+    compare_about_limits(3, 4, 8);
+    compare_about_limits(3, 5, 4);
+    for (unsigned levels = 2; levels <= 3; levels++) {
+        compare_at_limits(levels, -1, -1);
+        compare_at_limits(levels, 1, 1);
+        compare_at_limits(levels, 1, -1);
+    }
     take_readings();
 }
 
@@ -229,44 +259,51 @@ static int64_t now(void)
 
 static uint8_t answers;
 
-static void work(int kind, int side, unsigned levels, unsigned k, size_t n)
+/* What is timed: the passes of all factors, the totals or the table of a plan. */
+enum kind { PASSES, TOTALS, TABLE };
+struct timed {
+    enum kind kind;
+    unsigned levels, k, repeats;
+};
+
+static void work(const struct timed *of, int side, size_t n)
 {
-    if (kind == 0) {
+    if (of->kind == PASSES) {
         memcpy(column, values, n * sizeof *column);
-        for (size_t factor = 0; factor < k; factor++)
-            answers |= passes[side](levels, k, factor, column, n);
-    } else if (kind == 1) {
-        answers |= totals[side](levels, k, readings, n, column, n);
+        for (size_t factor = 0; factor < of->k; factor++)
+            answers |= passes[side](of->levels, of->k, factor, column, n);
+    } else if (of->kind == TOTALS) {
+        answers |= totals[side](of->levels, of->k, of->repeats, readings, n * of->repeats, column, n);
     } else {
-        const size_t rows = (size_t)1 << k, lengths[6] = {n, rows, n, rows, FIGURES, CHECKS};
-        answers |= call_table(side, levels, k, lengths);
+        const size_t rows = (size_t)1 << of->k, lengths[6] = {n * of->repeats, rows, n, rows, FIGURES, CHECKS};
+        answers |= call_table(side, of->levels, of->k, of->repeats, lengths);
     }
 }
 
-static int64_t batch(int kind, int side, unsigned levels, unsigned k, size_t n, long turns)
+static int64_t batch(const struct timed *of, int side, size_t n, long turns)
 {
     int64_t from = now();
     for (long i = 0; i < turns; i++)
-        work(kind, side, levels, k, n);
+        work(of, side, n);
     return now() - from;
 }
 
 /* The time of each side in ns. */
-static void measure(int kind, unsigned levels, unsigned k, double ns[SIDES])
+static void measure(const struct timed *of, double ns[SIDES])
 {
-    size_t n = runs_of(levels, k);
+    size_t n = runs_of(of->levels, of->k);
     long turns[SIDES];
     int64_t least[SIDES];
     for (int side = 0; side < SIDES; side++) {
         turns[side] = 1;
-        while (batch(kind, side, levels, k, n, turns[side]) < BATCH_NS)
+        while (batch(of, side, n, turns[side]) < BATCH_NS)
             turns[side] *= 2;
         least[side] = INT64_MAX;
     }
     for (int b = 0; b < BATCHES; b++)
         for (int turn = 0; turn < SIDES; turn++) {
             int side = (b + turn) % SIDES;
-            int64_t t = batch(kind, side, levels, k, n, turns[side]);
+            int64_t t = batch(of, side, n, turns[side]);
             if (t < least[side])
                 least[side] = t;
         }
@@ -277,19 +314,20 @@ static void measure(int kind, unsigned levels, unsigned k, double ns[SIDES])
 int main(void)
 {
     static const char *const names[] = {"passes", "totals", "table"};
-    static const unsigned plans[][2] = {{2, 10}, {3, 6}};
+    static const struct timed all[] = {{PASSES, 2, 10, 1}, {PASSES, 3, 6, 1}, {TOTALS, 2, 10, 1}, {TOTALS, 3, 6, 1},
+                                       {TABLE, 2, 10, 1},  {TABLE, 3, 6, 1},  {TABLE, 2, 7, 8}};
 
     take_readings();
     compare_sides();
     take_marks(0);
     printf("compared %ld\n", compared);
-    for (int kind = 0; kind < 3; kind++)
-        for (int p = 0; p < 2; p++) {
-            unsigned levels = plans[p][0], k = plans[p][1];
-            double ns[SIDES];
-            measure(kind, levels, k, ns);
-            printf("%s %u %u %zu %.1f %.1f %.1f\n", names[kind], levels, k, runs_of(levels, k), ns[RATTLE], ns[PLAIN], ns[NATIVE]);
-        }
+    for (size_t i = 0; i < sizeof all / sizeof *all; i++) {
+        const struct timed *of = &all[i];
+        double ns[SIDES];
+        measure(of, ns);
+        printf("%s %u %u %u %zu %.1f %.1f %.1f\n", names[of->kind], of->levels, of->k, of->repeats, runs_of(of->levels, of->k), ns[RATTLE],
+               ns[PLAIN], ns[NATIVE]);
+    }
     if (answers != 0) {
         fprintf(stderr, "driver: a timed call was refused\n");
         return 2;

@@ -8,7 +8,7 @@
 #define WITH(side, name) JOIN(side, name)
 #define NAME(name) WITH(SIDE, name)
 
-enum { TWO_READING_LIMIT = 1000000, THREE_READING_LIMIT = 100000, VALUE_LIMIT = 1024000000 };
+enum { TWO_READING_LIMIT = 1000000, THREE_READING_LIMIT = 100000, VALUE_LIMIT = 1024000000, MOST_READINGS = 1024 };
 
 static size_t power(size_t base, size_t n)
 {
@@ -18,13 +18,15 @@ static size_t power(size_t base, size_t n)
     return product;
 }
 
-static uint8_t plan_number(uint8_t levels, uint8_t k)
+static uint8_t plan_number(uint8_t levels, uint8_t k, uint8_t repeats)
 {
     if (levels != 2 && levels != 3)
         return 2;
     if (k == 0 || k > (levels == 2 ? 10 : 6))
         return 3;
-    return 0;
+    if (repeats != 1 && repeats != 2 && repeats != 4 && repeats != 8)
+        return 16;
+    return power(levels, k) * repeats > MOST_READINGS ? 16 : 0;
 }
 
 /* First and second become their sum, and first minus second. */
@@ -59,11 +61,28 @@ static void pass_over(uint8_t levels, size_t spacing, int64_t *column, size_t le
             stretch_three(part, part + spacing, part + 2 * spacing, spacing);
 }
 
-/* The readings become the totals of all effects. */
-static void form_totals(uint8_t levels, uint8_t k, const int32_t *readings, int64_t *totals, size_t runs)
+static int64_t run_sum(uint8_t repeats, const int32_t *run)
 {
-    for (size_t i = 0; i < runs; i++)
-        totals[i] = readings[i];
+    int64_t sum = 0;
+    for (uint8_t j = 0; j < repeats; j++)
+        sum += run[j];
+    return sum;
+}
+
+/* The column becomes the sum of the readings of each run. */
+static void take_runs(uint8_t repeats, const int32_t *readings, int64_t *column, size_t runs)
+{
+    if (repeats == 1)
+        for (size_t i = 0; i < runs; i++)
+            column[i] = readings[i];
+    else
+        for (size_t i = 0; i < runs; i++)
+            column[i] = run_sum(repeats, readings + i * repeats);
+}
+
+/* The run sums become the totals of all effects. */
+static void form_totals(uint8_t levels, uint8_t k, int64_t *totals, size_t runs)
+{
     size_t spacing = 1;
     for (uint8_t f = 0; f < k; f++) {
         pass_over(levels, spacing, totals, runs);
@@ -71,10 +90,10 @@ static void form_totals(uint8_t levels, uint8_t k, const int32_t *readings, int6
     }
 }
 
-static int any_reading_beyond(uint8_t levels, const int32_t *readings, size_t runs)
+static int any_reading_beyond(uint8_t levels, const int32_t *readings, size_t count)
 {
     int32_t limit = levels == 2 ? TWO_READING_LIMIT : THREE_READING_LIMIT;
-    for (size_t i = 0; i < runs; i++)
+    for (size_t i = 0; i < count; i++)
         if (readings[i] > limit || readings[i] < -limit)
             return 1;
     return 0;
@@ -82,7 +101,7 @@ static int any_reading_beyond(uint8_t levels, const int32_t *readings, size_t ru
 
 uint8_t NAME(yates_pass)(uint8_t levels, uint8_t k, size_t factor, int64_t *column, size_t length)
 {
-    uint8_t number = plan_number(levels, k);
+    uint8_t number = plan_number(levels, k, 1);
     if (number != 0)
         return number;
     if (factor >= k)
@@ -96,17 +115,19 @@ uint8_t NAME(yates_pass)(uint8_t levels, uint8_t k, size_t factor, int64_t *colu
     return 0;
 }
 
-uint8_t NAME(yates_totals)(uint8_t levels, uint8_t k, const int32_t *readings, size_t readings_length, int64_t *totals, size_t totals_length)
+uint8_t NAME(yates_totals)(uint8_t levels, uint8_t k, uint8_t repeats, const int32_t *readings, size_t readings_length, int64_t *totals,
+                           size_t totals_length)
 {
-    uint8_t number = plan_number(levels, k);
+    uint8_t number = plan_number(levels, k, repeats);
     if (number != 0)
         return number;
     size_t runs = power(levels, k);
-    if (readings_length != runs || totals_length != runs)
+    if (readings_length != runs * repeats || totals_length != runs)
         return 11;
-    if (any_reading_beyond(levels, readings, runs))
+    if (any_reading_beyond(levels, readings, readings_length))
         return 12;
-    form_totals(levels, k, readings, totals, runs);
+    take_runs(repeats, readings, totals, runs);
+    form_totals(levels, k, totals, runs);
     return 0;
 }
 
@@ -151,24 +172,34 @@ static const uint32_t divisors[729] = {
 };
 
 /* What the totals must add up to. At three levels the column is used for the rounds. */
-static int64_t check_number(uint8_t levels, uint8_t k, const int32_t *readings, int64_t *column, size_t runs)
+static int64_t check_number(uint8_t levels, uint8_t k, uint8_t repeats, const int32_t *readings, int64_t *column, size_t runs)
 {
     if (levels == 2)
-        return (int64_t)runs * readings[0];
-    for (size_t i = 0; i < runs; i++)
-        column[i] = readings[i];
+        return (int64_t)runs * run_sum(repeats, readings);
+    take_runs(repeats, readings, column, runs);
     for (size_t sets = runs / 3; k > 0; k--, sets /= 3)
         for (size_t i = 0; i < sets; i++)
             column[i] = 3 * column[3 * i] - column[3 * i + 1] + column[3 * i + 2];
     return column[0];
 }
 
-static uint64_t sum_of_squares(const int32_t *readings, size_t runs)
+static uint64_t sum_of_squares(const int32_t *readings, size_t count)
 {
     uint64_t sum = 0;
-    for (size_t i = 0; i < runs; i++)
+    for (size_t i = 0; i < count; i++)
         sum += (uint64_t)((int64_t)readings[i] * readings[i]);
     return sum;
+}
+
+/* Repeats times the squares of readings about their run's mean, from the squares of all readings and the run sums. */
+static uint64_t within_runs(uint8_t repeats, uint64_t squares, const int64_t *run_sums, size_t runs)
+{
+    if (repeats == 1)
+        return 0;
+    uint64_t of_sums = 0;
+    for (size_t i = 0; i < runs; i++)
+        of_sums += (uint64_t)(run_sums[i] * run_sums[i]);
+    return repeats * squares - of_sums;
 }
 
 /* Numerators and degrees of the kinds of rows, and the sum of the totals. */
@@ -224,19 +255,19 @@ static struct sums walk_three(uint8_t k, const int64_t *totals, const uint8_t *m
     return sums;
 }
 
-uint8_t NAME(anova_table)(uint8_t levels, uint8_t k, const int32_t *readings, size_t readings_length, const uint8_t *marks,
-                          size_t marks_length, int64_t *totals, size_t totals_length, uint64_t *rows, size_t rows_length,
-                          uint64_t *figures, size_t figures_length, int64_t *checks, size_t checks_length)
+uint8_t NAME(anova_table)(uint8_t levels, uint8_t k, uint8_t repeats, const int32_t *readings, size_t readings_length,
+                          const uint8_t *marks, size_t marks_length, int64_t *totals, size_t totals_length, uint64_t *rows,
+                          size_t rows_length, uint64_t *figures, size_t figures_length, int64_t *checks, size_t checks_length)
 {
-    uint8_t number = plan_number(levels, k);
+    uint8_t number = plan_number(levels, k, repeats);
     if (number != 0)
         return number;
     if (figures_length != FIGURES || checks_length != CHECKS)
         return 11;
-    size_t runs = power(levels, k), row_count = (size_t)1 << k;
-    if (readings_length != runs || totals_length != runs || rows_length != row_count || marks_length != row_count)
+    size_t runs = power(levels, k), count = runs * repeats, row_count = (size_t)1 << k;
+    if (readings_length != count || totals_length != runs || rows_length != row_count || marks_length != row_count)
         return 11;
-    if (any_reading_beyond(levels, readings, runs))
+    if (any_reading_beyond(levels, readings, count))
         return 12;
     for (size_t row = 0; row < row_count; row++)
         if (marks[row] > 1)
@@ -244,17 +275,22 @@ uint8_t NAME(anova_table)(uint8_t levels, uint8_t k, const int32_t *readings, si
     if (marks[0] == 1)
         return 13;
 
-    checks[1] = check_number(levels, k, readings, totals, runs);
-    form_totals(levels, k, readings, totals, runs);
+    checks[1] = check_number(levels, k, repeats, readings, totals, runs);
+    take_runs(repeats, readings, totals, runs);
+    uint64_t squares = sum_of_squares(readings, count), within = within_runs(repeats, squares, totals, runs);
+    form_totals(levels, k, totals, runs);
     struct sums sums = levels == 2 ? walk_two(totals, marks, rows, runs) : walk_three(k, totals, marks, rows, runs, row_count);
     checks[0] = sums.totals;
-    figures[0] = levels == 2 ? runs : runs * row_count;
+    uint64_t over = levels == 2 ? runs : runs * row_count;
+    sums.degrees[ERROR] += count - runs;
+    sums.numerators[ERROR] += over * within;
+    figures[0] = over * repeats;
     static const int order[] = {MEAN, KEPT, BLOCKS, ERROR};
     for (int i = 0; i < KINDS; i++) {
         figures[1 + 2 * i] = sums.degrees[order[i]];
         figures[2 + 2 * i] = sums.numerators[order[i]];
     }
-    figures[9] = runs;
-    figures[10] = figures[0] * sum_of_squares(readings, runs);
+    figures[9] = count;
+    figures[10] = figures[0] * squares;
     return 0;
 }

@@ -2,8 +2,8 @@
 
      whole PROGRAM EMPTY SHEET..
 
-   EMPTY is a file of no bytes: a run on it is the start and the end of a process. Each SHEET is that of a plan with no added factors and no
-   block words. A run has its sheet as standard input and writes to /dev/null; its time is from before the process is made until it has
+   EMPTY is a file of no bytes: a run on it is the start and the end of a process. Each SHEET is that of a plan with no added factors, no
+   block words and no repeats. A run has its sheet as standard input and writes to /dev/null; its time is from before the process is made until it has
    ended. The sheets take turns, a run and a batch of table calls each, so that other work on the machine falls on all of them.
 
    Writes how often each sheet was run, and a line for each: levels, k, N, bytes, the best and the median time of a run, and the best and the
@@ -21,9 +21,9 @@
 
 extern char **environ;
 
-uint8_t anova_table(uint8_t levels, uint8_t k, const int32_t *readings, size_t readings_length, const uint8_t *marks, size_t marks_length,
-                    int64_t *totals, size_t totals_length, uint64_t *rows, size_t rows_length, uint64_t *figures, size_t figures_length,
-                    int64_t *checks, size_t checks_length);
+uint8_t anova_table(uint8_t levels, uint8_t k, uint8_t repeats, const int32_t *readings, size_t readings_length, const uint8_t *marks,
+                    size_t marks_length, int64_t *totals, size_t totals_length, uint64_t *rows, size_t rows_length, uint64_t *figures,
+                    size_t figures_length, int64_t *checks, size_t checks_length);
 
 enum { RUNS = 2000, CALLS = 20, MOST = 1024, LONGEST = 5187, MOST_SHEETS = 8, FIGURES = 11, CHECKS = 2 };
 
@@ -63,7 +63,7 @@ static void take_sheet(struct sheet *sheet, char *path)
         sheet->rows *= 2;
     }
     if (sheet->runs > MOST || bytes[5] != 4 || sheet->bytes != 5 + 3 + 4 * sheet->runs + 3 + sheet->rows)
-        fail(path, "not a sheet without words");
+        fail(path, "not a sheet without words and repeats");
     for (size_t i = 0; i < sheet->runs; i++) {
         const uint8_t *at = bytes + 8 + 4 * i;
         sheet->readings[i] = (int32_t)((uint32_t)at[0] << 24 | (uint32_t)at[1] << 16 | (uint32_t)at[2] << 8 | at[3]);
@@ -103,7 +103,7 @@ static double time_call(const struct sheet *sheet)
     uint8_t answers = 0;
     double from = now();
     for (int i = 0; i < CALLS; i++)
-        answers |= anova_table(sheet->levels, sheet->k, sheet->readings, sheet->runs, sheet->marks, sheet->rows, totals, sheet->runs, rows,
+        answers |= anova_table(sheet->levels, sheet->k, 1, sheet->readings, sheet->runs, sheet->marks, sheet->rows, totals, sheet->runs, rows,
                                sheet->rows, figures, FIGURES, checks, CHECKS);
     double time = (now() - from) / CALLS;
     if (answers != 0)

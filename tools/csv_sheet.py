@@ -9,7 +9,9 @@
 #   factors,3           k, the number of base factors, once
 #   added,ABC,0         an added factor: its word, and its sign, 0 or 1
 #   block,AC            a block word
+#   repeats,2           how often each run is made, 1, 2, 4 or 8, once or not at all; 1 where there is no such line
 #   run,0,1,0,17        a run: the levels of A, B, C and so on, 0 for low, and the reading; each run once, in any order
+#   run,0,1,0,17,19     the same with as many readings as repeats
 #   error,AB            a row that is pooled as error
 #
 # Added factors and block words stand in the sheet in the order of their lines. A cell that begins with # and all after
@@ -41,15 +43,16 @@ from reference.rules import sheet_bytes
 from reference.rules import table as table_rules
 from reference.rules import text as text_rules
 from reference.rules import totals as totals_rules
-from reference.rules.sheet_bytes import ADDED, BLOCK, BODY_LENGTHS, MARKS, ONCE, PLAN, READING_LENGTH, READINGS, TAGS
+from reference.rules.sheet_bytes import (ADDED, AT_MOST_ONCE, BLOCK, BODY_LENGTHS, MARKS, ONCE, PLAN, READING_LENGTH, READINGS,
+                                         REPEATS, TAGS)
 from reference.rules.table import row_label
-from reference.rules.totals import MOST_READING, Plan
+from reference.rules.totals import MOST_READING, MOST_READINGS, Plan
 
 # number counts from 1; the first of the cells says what the line is.
 Line = namedtuple("Line", "number cells")
 
 # The first cells, and how many cells there are then; for a run it depends on the factors.
-CELLS = {"levels": 2, "factors": 2, "added": 3, "block": 2, "run": None, "error": 2}
+CELLS = {"levels": 2, "factors": 2, "added": 3, "block": 2, "repeats": 2, "run": None, "error": 2}
 
 LETTERS = "ABCDEFGHIJKLMNOP"
 MOST_BYTE = 255
@@ -92,14 +95,20 @@ def of_kind(lines, kind):
     return [line for line in lines if line.cells[0] == kind]
 
 
-def only(lines, kind):
-    """The one line with a first cell."""
+def at_most_one(lines, kind):
+    """The one line with a first cell, None if there is none."""
     found = of_kind(lines, kind)
-    if not found:
-        raise NotUnderstood("there is no line that begins with %s" % kind)
     if len(found) > 1:
         stop(found[1], "%s is already in line %d" % (kind, found[0].number))
-    return found[0]
+    return found[0] if found else None
+
+
+def only(lines, kind):
+    """The one line with a first cell."""
+    found = at_most_one(lines, kind)
+    if not found:
+        raise NotUnderstood("there is no line that begins with %s" % kind)
+    return found
 
 
 def whole(line, cell, least, most):
@@ -128,26 +137,43 @@ def size_of(lines):
     return levels, k
 
 
-def run_of(line, levels, k):
+def repeats_of(lines, levels, k):
+    """Repeats, 1 where no line has them. A field of a sheet holds so many readings, or the lines are not understood."""
+    line = at_most_one(lines, "repeats")
+    repeats = whole(line, line.cells[1], 0, MOST_BYTE) if line else 1
+    if READING_LENGTH * totals_rules.run_count(levels, k) * repeats > MOST_BODY:
+        stop(line, "no sheet holds %d readings for each run of %d factors at %d levels" % (repeats, k, levels))
+    return repeats
+
+
+def count_text(count, name):
+    """How many of a name there are, the name alone for one."""
+    return name if count == 1 else "%d %ss" % (count, name)
+
+
+def run_of(line, plan):
     """The number of the run of a line."""
-    if len(line.cells) != k + 2:
-        stop(line, "%d cells, wanted %d: run, %d levels, reading" % (len(line.cells), k + 2, k))
-    return sum(whole(line, cell, 0, levels - 1) * levels ** factor for factor, cell in enumerate(line.cells[1:-1]))
+    wanted = 1 + plan.k + plan.repeats
+    if len(line.cells) != wanted:
+        stop(line, "%d cells, wanted %d: run, %d levels, %s" % (
+            len(line.cells), wanted, plan.k, count_text(plan.repeats, "reading")))
+    return sum(whole(line, cell, 0, plan.levels - 1) * plan.levels ** factor
+               for factor, cell in enumerate(line.cells[1:1 + plan.k]))
 
 
-def readings_of(lines, levels, k):
-    """The readings by run."""
+def readings_of(lines, plan):
+    """The readings, run by run."""
     found = {}
     for line in of_kind(lines, "run"):
-        run = run_of(line, levels, k)
+        run = run_of(line, plan)
         if run in found:
             stop(line, "the run is already in line %d" % found[run][0].number)
-        found[run] = line, whole(line, line.cells[-1], -2 ** 31, 2 ** 31 - 1)
-    for run in range(totals_rules.run_count(levels, k)):
+        found[run] = line, [whole(line, cell, -2 ** 31, 2 ** 31 - 1) for cell in line.cells[1 + plan.k:]]
+    for run in range(totals_rules.run_count(plan.levels, plan.k)):
         if run not in found:
-            levels_text = ",".join(str(digit) for digit in totals_rules.digits(levels, k, run))
+            levels_text = ",".join(str(digit) for digit in totals_rules.digits(plan.levels, plan.k, run))
             raise NotUnderstood("there is no line for the run %s" % levels_text)
-    return [found[run][1] for run in sorted(found)]
+    return [reading for run in sorted(found) for reading in found[run][1]]
 
 
 def marks_of(lines, k):
@@ -171,12 +197,13 @@ def make(text):
     added = tuple((word(line, line.cells[1]), whole(line, line.cells[2], 0, MOST_BYTE))
                   for line in of_kind(lines, "added"))
     blocks = tuple(word(line, line.cells[1]) for line in of_kind(lines, "block"))
-    return sheet_bytes.write(Plan(levels, k, added, blocks), readings_of(lines, levels, k), marks_of(lines, k))
+    plan = Plan(levels, k, added, blocks, repeats_of(lines, levels, k))
+    return sheet_bytes.write(plan, readings_of(lines, plan), marks_of(lines, k))
 
 
 # ---- why a sheet is refused ----
 
-# By number. docs/USING.md has the limits of 12 too.
+# By number. docs/USING.md has the limits of 12 and 16 too.
 CAUSES = {
     2: "levels other than 2 or 3",
     3: "k out of range, which is 1 to 10 at two levels and 1 to 6 at three",
@@ -185,7 +212,8 @@ CAUSES = {
     6: "two added factors with one word",
     7: "some one or more block words combine to the empty word",
     8: "a confounded effect is one letter or an added factor's word",
-    11: "readings or marks not as many as there are runs or rows",
+    16: "repeats other than 1, 2, 4 or 8, over {:,} readings, or a field 6 that holds 1".format(MOST_READINGS),
+    11: "readings or marks not as many as there are runs, times repeats, or rows",
     12: "a reading beyond {:,} either way at two levels, or beyond {:,} at three".format(MOST_READING[2], MOST_READING[3]),
     13: "a mark over 1, or mark 1 on the mean or a blocks row",
 }
@@ -209,9 +237,11 @@ def field_causes(own_sheet):
     tags = [tag for tag, _ in fields]
     found = ["more than 5,187 bytes"] if len(own_sheet) > text_rules.MOST_SHEET else []
     found += ["tag %d is unknown" % tag for tag in sorted(set(tags) - set(TAGS))]
-    found += ["tag %d comes after tag %d" % (after, before) for before, after in zip(tags, tags[1:]) if after < before]
+    known = [tag for tag in tags if tag in TAGS]
+    found += ["tag %d comes after tag %d" % (after, before) for before, after in zip(known, known[1:])
+              if TAGS.index(after) < TAGS.index(before)]
     found += ["tag %d is absent" % tag for tag in ONCE if tag not in tags]
-    found += ["tag %d comes %d times" % (tag, tags.count(tag)) for tag in ONCE if tags.count(tag) > 1]
+    found += ["tag %d comes %d times" % (tag, tags.count(tag)) for tag in ONCE + AT_MOST_ONCE if tags.count(tag) > 1]
     found += ["a field %d has %d bytes, wanted %d" % (tag, len(body), BODY_LENGTHS[tag])
               for tag, body in fields if len(body) != BODY_LENGTHS.get(tag, len(body))]
     found += ["a field 4 has %d bytes, not a multiple of 4" % len(body)
@@ -220,13 +250,17 @@ def field_causes(own_sheet):
 
 
 def places(refused, contents):
-    """The counts, readings or marks for which a sheet is refused with 11, 12 or 13."""
+    """The counts, readings or marks for which a sheet is refused with 16, 11, 12 or 13."""
     plan, readings, marks = contents
+    runs, rows = totals_rules.run_count(plan.levels, plan.k), table_rules.row_count(plan.k)
+    if refused == 16:
+        return ["%d runs, repeats %d" % (runs, plan.repeats)]
     if refused == 11:
-        runs, rows = totals_rules.run_count(plan.levels, plan.k), table_rules.row_count(plan.k)
-        return ["%d readings for %d runs, %d marks for %d rows" % (len(readings), runs, len(marks), rows)]
+        return ["%d readings for %d runs%s, %d marks for %d rows" % (
+            len(readings), runs, " of %d each" % plan.repeats if plan.repeats > 1 else "", len(marks), rows)]
     if refused == 12:
-        return ["run %d has %d" % own for own in enumerate(readings) if abs(own[1]) > MOST_READING[plan.levels]]
+        return ["run %d has %d" % (place // plan.repeats, reading) for place, reading in enumerate(readings)
+                if abs(reading) > MOST_READING[plan.levels]]
     kinds = table_rules.row_kinds(plan, [0] * len(marks))
     return ["row %s has mark %d" % (row_label(row), mark) for row, mark in enumerate(marks)
             if mark > 1 or mark == 1 and kinds[row] != table_rules.KEPT]
@@ -237,7 +271,8 @@ def causes(own_sheet):
     refused = text_rules.answer(own_sheet)
     if refused in (totals_rules.DONE, 1):
         return field_causes(own_sheet)
-    found = places(refused, sheet_bytes.contents_of(sheet_bytes.fields_of(own_sheet))) if refused in (11, 12, 13) else []
+    named = refused in (16, 11, 12, 13)
+    found = places(refused, sheet_bytes.contents_of(sheet_bytes.fields_of(own_sheet))) if named else []
     return [CAUSES[refused]] + found[:MOST_PLACES] + ["and others"] * (len(found) > MOST_PLACES)
 
 
@@ -277,15 +312,17 @@ def added_line(plan, place):
 
 def accepted_lines(plan, readings, marks):
     """The lines of an accepted sheet."""
-    lines = ["# %d runs, %d rows" % (len(readings), len(marks)), "levels,%d" % plan.levels, "factors,%d" % plan.k]
+    runs = totals_rules.runs_of(plan.repeats, readings)
+    lines = ["# %d runs, %d rows" % (len(runs), len(marks)), "levels,%d" % plan.levels, "factors,%d" % plan.k]
     lines += [added_line(plan, place) for place in range(len(plan.added))]
     lines += ["block," + row_label(own_word) for own_word in plan.blocks]
     if plan.blocks:
         lines += passed_over("lost to blocks", [row_label(row) for row in sorted(totals_rules.confounded(plan.blocks))])
-    lines += passed_over("after run the levels of these, then the reading", LETTERS[:plan.k])
-    for run, reading in enumerate(readings):
+    lines += ["repeats,%d" % plan.repeats] if plan.repeats > 1 else []
+    lines += passed_over("after run the levels of these, then the " + count_text(plan.repeats, "reading"), LETTERS[:plan.k])
+    for run, own in enumerate(runs):
         names = ["# " + treatment(plan, run)] if plan.levels == 2 else []
-        lines.append(",".join(map(str, ["run", *totals_rules.digits(plan.levels, plan.k, run), reading, *names])))
+        lines.append(",".join(map(str, ["run", *totals_rules.digits(plan.levels, plan.k, run), *own, *names])))
     return lines + ["error," + row_label(row) for row, mark in enumerate(marks) if mark]
 
 
@@ -297,6 +334,8 @@ def field_lines(tag, body):
         return passed_over("added factor, word and sign", [word_text(sheet_bytes.number_of(body[:2])), body[2]])
     if tag == BLOCK and len(body) == BODY_LENGTHS[BLOCK]:
         return passed_over("block word", [word_text(sheet_bytes.number_of(body))])
+    if tag == REPEATS and len(body) == BODY_LENGTHS[REPEATS]:
+        return passed_over("repeats", body)
     if tag == READINGS and len(body) % READING_LENGTH == 0:
         count = len(body) // READING_LENGTH
         return passed_over("%d readings" % count, struct.unpack(">%di" % count, body))

@@ -5,7 +5,7 @@
 #
 # The program reads records, one for each table, refused or accepted, then one for each estimate, for each alias, and for
 # each plan whose effects are tried: length, a byte, and so many bytes. These are a sheet, which has readings and marks for
-# a table alone, and a field 6: the call, a byte, 1 for the table, 2 for the estimate, 3 for the alias, 4 for the effects,
+# a table alone, and a field 9: the call, a byte, 1 for the table, 2 for the estimate, 3 for the alias, 4 for the effects,
 # and what else the call takes. For a table it is how many totals and rows are lent, a byte each; for an estimate the
 # effect, two bytes, and its total, eight bytes in two's complement; for an alias the effect, two bytes; all big-endian; for
 # effects nothing.
@@ -22,7 +22,8 @@
 #
 # Defined here:
 #   TOP              the limit of a reading, by levels; LEVELS_NAMED, SIDES: level counts and the two limits in words
-#   about_limit      readings with one of a size, either way, in the first, a middle and the last run
+#   named            levels and repeats of a plan in words
+#   about_limit      readings with one of a size, either way, at the first, a middle and the last place
 #   ACCEPTED         accepted inputs of the table call: readings at the limits or, at two levels, beyond those of three
 #   REFUSALS         refused inputs of the table call: every refusal of the rules, and inputs to which several apply
 #   ESTIMATES        inputs of the estimate call: a plan, an effect and a total
@@ -60,9 +61,10 @@ Alias = namedtuple("Alias", "plan effect outcome")
 # What is tried of an effect of a plan.
 Effect = namedtuple("Effect", "row divisor weight")
 
-# The most readings, totals and rows that the program can lend; the tag of the field that names the call, and the calls.
-MOST_LENT = 8
-REST = 6
+# The most readings, and the most totals and rows, that the program can lend; the tag of the field that names the call, and
+# the calls.
+MOST_READINGS_LENT, MOST_LENT = 32, 8
+REST = 9
 TABLE, ESTIMATE, ALIAS, EFFECT = 1, 2, 3, 4
 
 # The limit of a reading, by levels.
@@ -75,18 +77,29 @@ FOUR, EIGHT = [3, 5, 4, 8], [1, 2, 3, 4, 5, 6, 7, 8]
 AB, AC, BC, ABC = (row_number(label) for label in "AB AC BC ABC".split())
 
 
+def usual_runs(plan):
+    """A reading for each run: 1 to 8 for three factors, 2, 5, 3 for one at three levels, 3, 5 for one at two, else 3, 5, 4,
+    8."""
+    if plan.k == 1:
+        return [2, 5, 3] if plan.levels == 3 else FOUR[:2]
+    return EIGHT if plan.k == 3 else FOUR
+
+
 def usual_readings(plan):
-    """Readings 1 to 8 for three factors, 2, 5, 3 for one at three levels, else 3, 5, 4, 8."""
-    return EIGHT if plan.k == 3 else [2, 5, 3] if (plan.levels, plan.k) == (3, 1) else FOUR
+    """For each run that reading, and the next ones above it where the run is made several times; not where repeats are
+    refused."""
+    repeats = plan.repeats if plan.repeats in totals_rules.REPEATS else 1
+    return [reading + repeat for reading in usual_runs(plan) for repeat in range(repeats)]
 
 
 def attempt(number, why, plan, readings=None, marks=None, totals_length=None, rows_length=None):
     """An input of the table call that is refused with a number, or accepted where that is 0. What is not said: usual
-    readings; marks 0; totals as many as these readings, rows as many as marks."""
-    usual = usual_readings(plan)
-    rows = 2 if len(usual) == 3 else len(usual)
-    return TableInput(number, why, plan, usual if readings is None else readings, [0] * rows if marks is None else marks,
-                      len(usual) if totals_length is None else totals_length, rows if rows_length is None else rows_length)
+    readings; marks 0; totals as many as their runs, rows as many as marks."""
+    runs = len(usual_runs(plan))
+    rows = 2 if runs == 3 else runs
+    return TableInput(number, why, plan, usual_readings(plan) if readings is None else readings,
+                      [0] * rows if marks is None else marks,
+                      runs if totals_length is None else totals_length, rows if rows_length is None else rows_length)
 
 
 # ---- tables with a reading about the limits ----
@@ -95,9 +108,14 @@ LEVELS_NAMED = {2: "two levels", 3: "three levels"}
 SIDES = ("upper limit", 1), ("lower limit", -1)
 
 
+def named(plan):
+    """Levels of a plan in words, and repeats where there are any."""
+    return LEVELS_NAMED[plan.levels] + (", %d repeats" % plan.repeats if plan.repeats != 1 else "")
+
+
 def about_limit(readings, size):
-    """The readings with one of a size, either way, in the first, a middle and the last run in turn; before them in words
-    which run it is, and which limit the size is about."""
+    """The readings with one of a size, either way, at the first, a middle and the last place in turn; before them in words
+    which place it is, and which limit the size is about."""
     places = ("first", 0), ("middle", len(readings) // 2), ("last", len(readings) - 1)
     return [("%s reading" % name, limit, [*readings[:place], sign * size, *readings[place + 1:]])
             for limit, sign in SIDES for name, place in places]
@@ -105,27 +123,39 @@ def about_limit(readings, size):
 
 def tables_about_limit(number, where, plan, size):
     """Inputs with such a reading; where says how it lies to the limit."""
-    return [attempt(number, "%s, %s %s" % (LEVELS_NAMED[plan.levels], name, where % limit), plan, readings)
+    return [attempt(number, "%s, %s %s" % (named(plan), name, where % limit), plan, readings)
             for name, limit, readings in about_limit(usual_readings(plan), size)]
 
 
 def tables_at_limit(plan):
     """Inputs with all readings at a limit."""
-    return [attempt(DONE, "%s, all readings at the %s" % (LEVELS_NAMED[plan.levels], limit), plan,
+    return [attempt(DONE, "%s, all readings at the %s" % (named(plan), limit), plan,
                     [sign * TOP[plan.levels]] * len(usual_readings(plan))) for limit, sign in SIDES]
 
 
 TWO, ONE_OF_THREE, BLOCKED = Plan(2, 2), Plan(3, 1), Plan(2, 3, (), (AB, BC))
 
+# The same with repeats.
+TWO_2, TWO_8, ONE_4, ONE_OF_THREE_2, ONE_OF_THREE_8 = (
+    Plan(2, 2, repeats=2), Plan(2, 2, repeats=8), Plan(2, 1, repeats=4), Plan(3, 1, repeats=2), Plan(3, 1, repeats=8))
+BLOCKED_2 = BLOCKED._replace(repeats=2)
+REPEATED = [TWO_2, TWO_8, ONE_4, ONE_OF_THREE_2, ONE_OF_THREE_8]
+
 # The first has the small input of 12.
 BEYOND_LIMITS = (tables_about_limit(12, "one beyond the %s", ONE_OF_THREE, TOP[3] + 1)
                  + tables_about_limit(12, "one beyond the %s", TWO, TOP[2] + 1)
-                 + tables_about_limit(12, "at the %s of two levels", ONE_OF_THREE, TOP[2]))
+                 + tables_about_limit(12, "at the %s of two levels", ONE_OF_THREE, TOP[2])
+                 + tables_about_limit(12, "one beyond the %s", ONE_OF_THREE_2, TOP[3] + 1)
+                 + tables_about_limit(12, "one beyond the %s", TWO_2, TOP[2] + 1))
 
 ACCEPTED = (tables_about_limit(DONE, "at the %s", ONE_OF_THREE, TOP[3])
             + tables_about_limit(DONE, "at the %s", TWO, TOP[2])
             + tables_about_limit(DONE, "one beyond the %s of three levels", TWO, TOP[3] + 1)
-            + tables_at_limit(ONE_OF_THREE) + tables_at_limit(TWO))
+            + tables_at_limit(ONE_OF_THREE) + tables_at_limit(TWO)
+            + tables_about_limit(DONE, "at the %s", ONE_OF_THREE_2, TOP[3])
+            + tables_about_limit(DONE, "at the %s", TWO_2, TOP[2])
+            + [own for plan in REPEATED for own in tables_at_limit(plan)]
+            + [attempt(DONE, "%s, k = %d" % (named(plan), plan.k), plan) for plan in REPEATED + [BLOCKED_2]])
 
 
 # ---- refusals of the table call ----
@@ -199,6 +229,47 @@ REFUSALS = [
             readings=[3, 5, 4, TOP[3] + 1], marks=[0, 2, 0, 0]),
     attempt(13, "two levels, readings at the limit, mark 1 on row 0", TWO, readings=[TOP[2]] * 4, marks=[1, 0, 0, 0]),
     attempt(13, "three levels, readings at the limit, mark 1 on row 0", ONE_OF_THREE, readings=[-TOP[3]] * 3, marks=[1, 0]),
+] + [
+    attempt(16, "%d repeats" % repeats, TWO._replace(repeats=repeats)) for repeats in (3, 0, 5, 16, 255)
+] + [
+    attempt(16, "three levels, 3 repeats", Plan(3, 1, repeats=3)),
+    attempt(16, "k = 10, 2 repeats", Plan(2, 10, repeats=2)),
+    attempt(16, "k = 9, 4 repeats", Plan(2, 9, repeats=4)),
+    attempt(16, "k = 8, 8 repeats", Plan(2, 8, repeats=8)),
+    attempt(16, "three levels, k = 6, 2 repeats", Plan(3, 6, repeats=2)),
+    attempt(16, "three levels, k = 5, 8 repeats", Plan(3, 5, repeats=8)),
+    attempt(11, "k = 9, 2 repeats, 8 readings", Plan(2, 9, repeats=2)),
+    attempt(11, "three levels, k = 5, 4 repeats, 16 readings", Plan(3, 5, repeats=4)),
+    attempt(11, "2 repeats, a reading for each run", TWO_2, readings=FOUR),
+    attempt(11, "2 repeats, 7 readings", TWO_2, readings=EIGHT[:7]),
+    attempt(11, "2 repeats, 9 readings", TWO_2, readings=[*EIGHT, 9]),
+    attempt(11, "8 repeats, 31 readings", TWO_8, readings=range(31)),
+    attempt(11, "1 repeat, two readings for each run", TWO, readings=EIGHT),
+    attempt(11, "2 repeats, 8 totals", TWO_2, totals_length=8),
+    attempt(11, "2 repeats, 3 totals", TWO_2, totals_length=3),
+    attempt(11, "2 repeats, 8 rows", TWO_2, rows_length=8),
+    attempt(11, "2 repeats, 8 marks", TWO_2, marks=[0] * 8),
+    attempt(11, "three levels, 2 repeats, 3 readings", ONE_OF_THREE_2, readings=[2, 5, 3]),
+    attempt(11, "three levels, 2 repeats, 6 totals", ONE_OF_THREE_2, totals_length=6),
+    attempt(13, "2 repeats, mark 1 on row 0", TWO_2, marks=[1, 0, 0, 0]),
+    attempt(13, "2 repeats, mark 1 on the combination of block words", BLOCKED_2, marks=[0, 0, 0, 0, 0, 1, 0, 0]),
+    attempt(13, "three levels, 8 repeats, mark 2", ONE_OF_THREE_8, marks=[0, 2]),
+    attempt(2, "2 and 16: levels 4, 3 repeats", Plan(4, 2, repeats=3)),
+    attempt(3, "3 and 16: k = 11, 2 repeats", Plan(2, 11, repeats=2)),
+    attempt(4, "4 and 16: three levels, one block word, 3 repeats", Plan(3, 1, (), (1,), 3)),
+    attempt(5, "5 and 16: block word C, 0 repeats", Plan(2, 2, (), (row_number("C"),), 0)),
+    attempt(6, "6 and 16: added AB, AB, 255 repeats", Plan(2, 2, ((AB, 0), (AB, 1)), (), 255)),
+    attempt(7, "7 and 16: block words AB, AB, 3 repeats", Plan(2, 3, (), (AB, AB), 3)),
+    attempt(8, "8 and 16: block words AB, ABC, 3 repeats", Plan(2, 3, (), (AB, ABC), 3)),
+    attempt(16, "16 and 11: 3 repeats, 3 readings", Plan(2, 2, repeats=3), readings=[3, 5, 4]),
+    attempt(16, "16 and 11: 0 repeats, no readings, 3 totals", Plan(2, 2, repeats=0), readings=[], totals_length=3),
+    attempt(16, "16 and 12: 3 repeats, a reading beyond the limit", Plan(2, 2, repeats=3), readings=[*range(11), TOP[2] + 1]),
+    attempt(16, "16 and 13: 3 repeats, mark 2", Plan(2, 2, repeats=3), marks=[0, 2, 0, 0]),
+    attempt(16, "16, 11, 12 and 13", Plan(2, 2, repeats=3),
+            readings=[TOP[2] + 1], marks=[1, 2], totals_length=1, rows_length=1),
+    attempt(11, "11 and 12: 2 repeats, 4 readings, one of them beyond the limit", TWO_2, readings=[3, 5, TOP[2] + 1, 8]),
+    attempt(12, "12 and 13: 2 repeats, the last reading beyond the limit, mark 2", TWO_2,
+            readings=EIGHT[:7] + [-TOP[2] - 1], marks=[0, 2, 0, 0]),
 ] + BEYOND_LIMITS
 
 
@@ -228,16 +299,16 @@ def report_estimates():
 
 
 def printed_totals(example):
-    """The totals that AMCP prints, with its signs, in whole units of the readings."""
+    """The totals that the source prints, with its signs, in whole units of the readings."""
     column = next(printed for printed in example.printed if printed.kind == example.k)
     return [Fraction(figure) * 10 ** example.places for figure in column.text.split()]
 
 
-def amcp_estimates(example):
-    """The totals that the rules make of AMCP's readings, each with the outcome by the total that AMCP prints."""
-    k = example.k
-    totals = totals_rules.totals(2, k, examples.whole_readings(example))
-    outcomes = ["difference %s" % (printed / 2 ** (k - 1)) if effect else "mean %s" % (printed / 2 ** k)
+def printed_estimates(example):
+    """The totals that the rules make of the readings, each with the outcome by the total that the source prints."""
+    over = 2 ** example.k * example.repeats
+    totals = totals_rules.totals(2, example.k, examples.sums_of(example))
+    outcomes = ["difference %s" % (printed / Fraction(over, 2)) if effect else "mean %s" % (printed / over)
                 for effect, printed in enumerate(printed_totals(example))]
     return [Estimate(examples.plan(example), effect, total, outcomes[effect]) for effect, total in enumerate(totals)]
 
@@ -251,14 +322,19 @@ REFUSED_PLANS = [
     (6, Plan(2, 2, ((AB, 0), (AB, 0)), ())),
     (7, Plan(2, 3, (), (AB, AB))),
     (8, Plan(2, 3, (), (AB, ABC))),
+    (16, Plan(2, 2, repeats=3)),
+    (16, Plan(2, 2, repeats=0)),
+    (16, Plan(2, 2, repeats=16)),
+    (16, Plan(2, 2, repeats=255)),
+    (16, Plan(2, 10, repeats=2)),
 ]
 
 
-def estimates_about_limit(k):
+def estimates_about_limit(k, repeats=1):
     """For the mean and for the effect of all k letters totals at the limits, and one beyond them."""
-    plan, found = Plan(2, k), []
+    plan, found = Plan(2, k, repeats=repeats), []
     for sign in (1, -1):
-        total = sign * 2 ** k * TOP[2]
+        total = sign * 2 ** k * repeats * TOP[2]
         found += [Estimate(plan, 0, total, "mean %d" % (sign * TOP[2]))]
         found += [Estimate(plan, 2 ** k - 1, total, "difference %d" % (sign * (-1) ** k * 2 * TOP[2]))]
         found += [Estimate(plan, effect, total + sign, "refused 12") for effect in (0, 2 ** k - 1)]
@@ -268,7 +344,8 @@ def estimates_about_limit(k):
 # The limits of totals of ten factors, and of three, by their numbers of runs.
 TEN_TOP, EIGHT_TOP = 1024 * TOP[2], 8 * TOP[2]
 AD_ABC, IN_TWO_BLOCKS = Plan(2, 4, (), (row_number("AD"), ABC)), Plan(2, 3, (), (ABC,))
-ESTIMATES = report_estimates() + amcp_estimates(examples.AMCP_WHOLE) + amcp_estimates(examples.AMCP_HALF) + [
+NINE_2, SEVEN_8, IN_BLOCKS_4 = Plan(2, 9, repeats=2), Plan(2, 7, repeats=8), IN_TWO_BLOCKS._replace(repeats=4)
+ESTIMATES = report_estimates() + printed_estimates(examples.AMCP_WHOLE) + printed_estimates(examples.AMCP_HALF) + [
     Estimate(TWO, 0, 20, "mean 5"),
     Estimate(TWO, 1, -6, "difference 3"),
     Estimate(TWO, 2, -4, "difference 2"),
@@ -332,7 +409,30 @@ ESTIMATES = report_estimates() + amcp_estimates(examples.AMCP_WHOLE) + amcp_esti
     Estimate(IN_TWO_BLOCKS, 7, -EIGHT_TOP - 1, "refused 12"),
     Estimate(TEN, 1, -2 ** 63, "refused 12"),
     Estimate(TEN, 1, 2 ** 63 - 1, "refused 12"),
-]
+] + printed_estimates(examples.POTATO_PLOTS) + [
+    Estimate(Plan(2, 1, repeats=2), 0, 20, "mean 5"),
+    Estimate(Plan(2, 1, repeats=2), 1, -4, "difference 2"),
+    Estimate(Plan(2, 1, repeats=8), 1, -4, "difference 1/2"),
+    Estimate(Plan(2, 1, repeats=8), 0, 0, "mean 0"),
+    Estimate(Plan(2, 1, repeats=8), 1, 0, "difference 0"),
+    Estimate(TWO_2, 3, 0, "difference 0"),
+    Estimate(NINE_2, 0, 1, "mean 1/1024"),
+    Estimate(NINE_2, 511, -1, "difference 1/512"),
+    Estimate(SEVEN_8, 0, -1, "mean -1/1024"),
+    Estimate(SEVEN_8, 127, 1, "difference -1/512"),
+    Estimate(SEVEN_8, 3, TEN_TOP - 1, "difference %d/512" % (TEN_TOP - 1)),
+    Estimate(TWO_2, 3, 4 * TOP[2] + 1, "difference %d/4" % (4 * TOP[2] + 1)),
+    Estimate(IN_BLOCKS_4, 7, 4 * EIGHT_TOP, "lost"),
+    Estimate(IN_BLOCKS_4, 7, 4 * EIGHT_TOP + 1, "refused 12"),
+    Estimate(IN_BLOCKS_4, 4, -16, "difference 1"),
+    Estimate(TWO, 3, 8 * TOP[2], "refused 12"),
+    Estimate(Plan(2, 3, (), (AB, ABC), 3), 0, 0, "refused 8"),
+    Estimate(Plan(3, 1, repeats=3), 0, 10, "refused 16"),
+    Estimate(Plan(3, 1, repeats=2), 0, 10, "refused 9"),
+    Estimate(Plan(2, 2, repeats=3), 4, 0, "refused 16"),
+    Estimate(Plan(2, 2, repeats=3), 0, 10 ** 9, "refused 16"),
+    Estimate(TWO_2, 4, 10 ** 9, "refused 10"),
+] + [own for repeats in (2, 4, 8) for k in (1, 3, 11 - repeats.bit_length()) for own in estimates_about_limit(k, repeats)]
 
 
 # ---- aliases ----
@@ -404,6 +504,13 @@ ALIASES = published_aliases() + [
     alias(TWO, "mean", "reduced mean, unturned"),
     alias(Plan(2, 3, (), (ABC,)), "ABC", "reduced ABC, unturned"),
 ] + [alias(plan, "mean", "refused %d" % number) for number, plan in REFUSED_PLANS] + [
+    alias(Plan(3, 1, repeats=3), "mean", "refused 16"),
+    alias(Plan(3, 1, repeats=2), "mean", "refused 9"),
+    alias(Plan(2, 2, repeats=3), "C", "refused 16"),
+    alias(Plan(2, 3, (), (AB, ABC), 3), "D", "refused 8"),
+    alias(TWO_2, "C", "refused 10"),
+    alias(D_SIGN_1._replace(repeats=2), "AD", "reduced BC, turned"),
+    alias(BOTH_SIGN_1._replace(repeats=8), "EF", "reduced C, turned"),
     alias(Plan(4, 2), ALL_LETTERS, "refused 2"),
     alias(Plan(3, 7), "P", "refused 3"),
     alias(Plan(2, 3, (), (AB, ABC)), "D", "refused 8"),
@@ -568,8 +675,8 @@ def check_effects():
 
 def check_lent():
     """The program can lend as much as every table wants."""
-    return ["table, %s: over %d places" % (own.why, MOST_LENT) for own in REFUSALS + ACCEPTED
-            if max(len(own.readings), own.totals_length, own.rows_length) > MOST_LENT]
+    return ["table, %s: too many places" % own.why for own in REFUSALS + ACCEPTED
+            if len(own.readings) > MOST_READINGS_LENT or max(own.totals_length, own.rows_length) > MOST_LENT]
 
 
 def check():
@@ -619,7 +726,7 @@ def expected_text():
 # ---- input ----
 
 def record(plan, readings, marks, call, rest):
-    """A record: length, sheet and field 6."""
+    """A record: length, sheet and field 9."""
     fields = sheet_bytes.write(plan, readings, marks) + sheet_bytes.field(REST, bytes([call]) + rest)
     return bytes([len(fields)]) + fields
 
@@ -652,8 +759,8 @@ def inputs():
 
 def plan_text(plan):
     """A plan in words."""
-    return "levels %d, k %d, added%s, blocks%s" % (
-        *plan[:2], "".join(" %d/%d" % pair for pair in plan.added), examples.values_text(plan.blocks))
+    return "levels %d, k %d, added%s, blocks%s, repeats %d" % (
+        *plan[:2], "".join(" %d/%d" % pair for pair in plan.added), examples.values_text(plan.blocks), plan.repeats)
 
 
 def list_text():

@@ -9,8 +9,8 @@
 # differs.
 #
 # Two thirds of the sheets are made by text_cases.py, half of them of plans of any size and the others of small ones: a
-# third of each lawful, spoiled and damaged. A sixth are bytes that are no sheet or hardly one. A sixth are about 5,187
-# bytes long or longer, up to 200,000.
+# third of each lawful, spoiled and damaged, and a third with repeats where the plan may have them. A sixth are bytes that
+# are no sheet or hardly one. A sixth are about 5,187 bytes long or longer, up to 200,000, or the longest with repeats.
 #
 # Defined here:
 #   made_bytes, made_long    bytes that are hardly a sheet, and long ones
@@ -49,13 +49,19 @@ def any_bytes(numbers, count, limit=256):
     return bytes(numbers.below(limit) for _ in range(count))
 
 
+def place_of(field):
+    """Where a field, tag and body, belongs in a sheet, unknown tags last."""
+    return sheet_bytes.TAGS.index(field[0]) if field[0] in sheet_bytes.TAGS else len(sheet_bytes.TAGS)
+
+
 def some_fields(numbers):
-    """A few fields of tags up to 6, rising more often than not; those of a length that is settled mostly have it."""
-    tags = [numbers.below(7) for _ in range(numbers.below(8))]
+    """A few fields of tags up to 7, in order more often than not; those of a length that is settled mostly have it."""
+    tags = [numbers.below(8) for _ in range(numbers.below(8))]
     lengths = [sheet_bytes.BODY_LENGTHS.get(tag, numbers.below(20)) for tag in tags]
     fields = [(tag, any_bytes(numbers, length + (numbers.below(10) == 0), numbers.choose((2, 4, 256))))
               for tag, length in zip(tags, lengths)]
-    return [sheet_bytes.field(tag, body) for tag, body in (sorted(fields) if numbers.below(3) else fields)]
+    ordered = sorted(fields, key=place_of) if numbers.below(3) else fields
+    return [sheet_bytes.field(tag, body) for tag, body in ordered]
 
 
 def made_bytes(numbers):
@@ -72,14 +78,15 @@ def made_bytes(numbers):
     return Case(None, "a sheet with another end", kept + end)
 
 
-def longest(numbers):
-    """Lawful contents whose sheet has 5,187 bytes: as many factors and words as there may be."""
+def longest(numbers, repeats=1):
+    """Lawful contents whose sheet is as long as can be with some repeats, 5,187 bytes without: as many words as there may be,
+    and as many factors as leave no more readings."""
+    k = totals_rules.MOST_FACTORS[2] + 1 - repeats.bit_length()
     while True:
-        plan = text_cases.plan_with(numbers, totals_rules.MOST_FACTORS[2], totals_rules.MOST_ADDED,
-                                    totals_rules.MOST_BLOCK_WORDS)
+        once = text_cases.plan_with(numbers, k, totals_rules.MOST_ADDED, totals_rules.MOST_BLOCK_WORDS)
+        plan = once._replace(repeats=repeats)
         if totals_rules.plan_answer(plan) == totals_rules.DONE:
-            runs = totals_rules.run_count(plan.levels, plan.k)
-            readings = text_cases.made_readings(numbers, plan.levels, runs)
+            readings = text_cases.made_readings(numbers, plan.levels, totals_rules.reading_count(plan))
             return Contents(plan, readings, text_cases.made_marks(numbers, plan))
 
 
@@ -91,8 +98,12 @@ def many_words(numbers):
 
 
 def made_long(numbers):
-    """A sheet of about 5,187 bytes or more: the longest, also spoiled or with bytes more; many words; many bytes."""
-    way = numbers.below(6)
+    """A sheet of about 5,187 bytes or more: the longest, also spoiled or with bytes more; many words; many bytes. Or the
+    longest with repeats."""
+    way = numbers.below(7)
+    if way == 6:
+        return Case(None, "the longest with repeats",
+                    sheet_bytes.write(*longest(numbers, numbers.choose(totals_rules.REPEATS[1:]))))
     if way == 0:
         return Case(None, "the longest", sheet_bytes.write(*longest(numbers)))
     if way == 1:

@@ -3,7 +3,9 @@
 #
 # Defined here:
 #   UNCLEAR, SAME, REFUSED   lines that are not understood, that make the sheet of the rules, that make a refused sheet
+#   UNCLEAR_TWICE            lines with repeats that are not understood
 #   ABOUT_LIMITS             readings about the limits, on which the command itself is tried
+#   REPEATS_TOLD             repeats, and what the command tells of them
 #   EXAMPLES                 the stored examples, and the worked table of each
 #   check                    list of complaints, empty if all is well
 
@@ -29,6 +31,7 @@ EXAMPLES = {
     "sixteen_runs": analyses.REPORT_TWO_LEVELS,
     "blocked": analyses.AMCP_BLOCKED,
     "three_levels": analyses.DANIEL_LETTUCE,
+    "repeated": analyses.POTATO_PLOTS,
 }
 
 
@@ -41,7 +44,7 @@ FOUR_LINES = ["levels,2", "factors,2", "run,0,0,3", "run,1,0,5", "run,0,1,4", "r
 UNCLEAR = [
     (1, "", "there is no line that begins with levels"),
     (2, "# factors,2", "there is no line that begins with factors"),
-    (1, "Levels,2", "line 1: 'Levels' is none of levels, factors, added, block, run, error"),
+    (1, "Levels,2", "line 1: 'Levels' is none of levels, factors, added, block, repeats, run, error"),
     (1, "levels", "line 1: 1 cells, wanted 2"),
     (1, "levels,2,3", "line 1: 3 cells, wanted 2"),
     (1, "levels,two", "line 1: 'two' is no whole number from 0 to 255"),
@@ -69,7 +72,37 @@ UNCLEAR = [
     (7, "added,AB", "line 7: 2 cells, wanted 3"),
     (7, "added,,0", "line 7: '' is not made of different letters from A to P"),
     (7, "added,AB,256", "line 7: '256' is no whole number from 0 to 255"),
+    (7, "repeats,2", "line 3: 4 cells, wanted 5: run, 2 levels, 2 readings"),
+    (7, "repeats,0", "line 3: 4 cells, wanted 3: run, 2 levels, 0 readings"),
+    (7, "repeats,1\nrepeats,1", "line 8: repeats is already in line 7"),
+    (7, "repeats", "line 7: 1 cells, wanted 2"),
+    (7, "repeats,2,2", "line 7: 3 cells, wanted 2"),
+    (7, "repeats,twice", "line 7: 'twice' is no whole number from 0 to 255"),
+    (7, "repeats,256", "line 7: '256' is no whole number from 0 to 255"),
+    (7, "repeats,-1", "line 7: '-1' is no whole number from 0 to 255"),
+    (6, "run,1,1,8,9", "line 6: 5 cells, wanted 4: run, 2 levels, reading"),
 ]
+
+# The example with each run made twice, 8 and 9 the last; and the same of it.
+TWICE_LINES = ["levels,2", "factors,2", "repeats,2", "run,0,0,3,5", "run,1,0,4,8", "run,0,1,-1,0", "run,1,1,8,9", "error,AB"]
+TWICE_SHEET = sheet_bytes.write(Plan(2, 2, repeats=2), [3, 5, 4, 8, -1, 0, 8, 9], [0, 0, 0, 1])
+UNCLEAR_TWICE = [
+    (3, "repeats,2\nrepeats,4", "line 4: repeats is already in line 3"),
+    (3, "", "line 4: 5 cells, wanted 4: run, 2 levels, reading"),
+    (3, "repeats,4", "line 4: 5 cells, wanted 7: run, 2 levels, 4 readings"),
+    (7, "run,1,1,8", "line 7: 4 cells, wanted 5: run, 2 levels, 2 readings"),
+    (7, "run,1,1,8,", "line 7: 4 cells, wanted 5: run, 2 levels, 2 readings"),
+    (7, "run,1,1,8,9,10", "line 7: 6 cells, wanted 5: run, 2 levels, 2 readings"),
+    (7, "run,1,1,,9", "line 7: '' is no whole number from -2147483648 to 2147483647"),
+    (7, "run,1,1,8,9.5", "line 7: '9.5' is no whole number from -2147483648 to 2147483647"),
+    (7, "run,1,2,8,9", "line 7: '2' is no whole number from 0 to 1"),
+    (7, "run,0,1,8,9", "line 7: the run is already in line 6"),
+    (7, "run,1,1,8\nrun,1,1,9", "line 7: 4 cells, wanted 5: run, 2 levels, 2 readings"),
+    (5, "", "there is no line for the run 1,0"),
+]
+
+# Repeats that make over 65,535 bytes of readings.
+TOO_MANY = "levels,2\nfactors,13\nrepeats,3"
 
 # The same, where the sheet is that of the rules' example.
 SAME = [
@@ -77,12 +110,20 @@ SAME = [
     (2, " factors , 2 ,# two of them, A and B"),
     (3, '"run","0","0","+3"'),
     (7, ",,,\nerror,BA\n"),
+    (7, "error,AB\nrepeats,1"),
+    (1, "repeats, 1 ,# once\nlevels,2"),
 ]
 
 
-def replaced(number, text):
-    """The lines of the rules' example, one of them replaced."""
-    return "\n".join(FOUR_LINES[:number - 1] + [text] + FOUR_LINES[number:])
+def replaced(number, text, lines=FOUR_LINES):
+    """The lines of an example, that of the rules if not said, one of them replaced."""
+    return "\n".join(lines[:number - 1] + [text] + lines[number:])
+
+
+def repeated(repeats):
+    """Lines of one factor and so many repeats."""
+    runs = ["run,%d%s" % (level, ",7" * repeats) for level in range(2)]
+    return "\n".join(["levels,2", "factors,1", "repeats,%d" % repeats] + runs)
 
 
 # Lines, and what the program answers to the sheet that they make.
@@ -97,10 +138,30 @@ REFUSED = [
     (replaced(3, "added,AB,0\nadded,BA,1\nrun,0,0,3"), 6),
     (replaced(3, "block,AB\nblock,AB\nrun,0,0,3"), 7),
     (replaced(3, "block,A\nrun,0,0,3"), 8),
+    (repeated(0), 16),
+    (repeated(3), 16),
+    (repeated(16), 16),
+    (repeated(255), 16),
+    (repeated(3) + "\nblock,A", 8),
+    ("levels,2\nfactors,10\nrepeats,2\n" + "".join("run,%s,0,0\n" % ",".join(bin(run)[3:]) for run in range(1024, 2048)), 1),
+    (replaced(7, "run,1,1,8,1000001", TWICE_LINES), 12),
+    (replaced(8, "error,mean", TWICE_LINES), 13),
     (replaced(3, "run,0,0,%d" % (-MOST_READING[2] - 1)), 12),
     (replaced(3, "run,0,0,2147483647"), 12),
     (replaced(3, "block,AB\nrun,0,0,3"), 13),
     (replaced(7, "error,mean"), 13),
+]
+
+WORDS_OF_16 = "repeats other than 1, 2, 4 or 8, over 1,024 readings, or a field 6 that holds 1"
+
+# Repeats of one factor, and what the command tells of the sheet.
+REPEATS_TOLD = [
+    (1, ""),
+    (2, ""),
+    (4, ""),
+    (8, ""),
+    (3, "factab will answer: refused 16 (%s; 2 runs, repeats 3)\n" % WORDS_OF_16),
+    (0, "factab will answer: refused 16 (%s; 2 runs, repeats 0)\n" % WORDS_OF_16),
 ]
 
 WORDS_OF_12 = "a reading beyond 1,000,000 either way at two levels, or beyond 100,000 at three"
@@ -143,9 +204,18 @@ def check_make():
     for number, text, message in UNCLEAR:
         if message_of(replaced(number, text)) != message:
             complaints.append("%r: message %s" % (text, message_of(replaced(number, text))))
+    for number, text, message in UNCLEAR_TWICE:
+        found = message_of(replaced(number, text, TWICE_LINES))
+        if found != message:
+            complaints.append("%r with repeats: message %s" % (text, found))
+    if message_of(TOO_MANY) != "line 3: no sheet holds 3 readings for each run of 13 factors at 2 levels":
+        complaints.append("too many readings: message %s" % message_of(TOO_MANY))
     for text, refused in REFUSED:
         if text_rules.answer(make(text)) != refused:
             complaints.append("%r: not refused with %d" % (text[:40], refused))
+    for lines in (TWICE_LINES, list(reversed(TWICE_LINES))):
+        if make("\n".join(lines)) != TWICE_SHEET:
+            complaints.append("%r: another sheet" % lines[0])
     for text in [replaced(number, text) for number, text in SAME] + ["\n".join(reversed(FOUR_LINES))]:
         if make(text) != text_cases.RULES_SHEET:
             complaints.append("%r: another sheet" % text)
@@ -177,6 +247,24 @@ def check_limits():
     return complaints
 
 
+def check_repeats():
+    """Complaints about the command on lines with repeats: the sheet is written, and a message where it is refused."""
+    complaints = []
+    for repeats, message in REPEATS_TOLD:
+        own_sheet = sheet_bytes.write(Plan(2, 1, repeats=repeats), [7] * 2 * repeats, [0, 0])
+        if command_says(repeated(repeats)) != (own_sheet, message):
+            complaints.append("%d repeats: sheet or message" % repeats)
+    if places(12, sheet_bytes.Contents(Plan(2, 1, repeats=2), [0, 0, 0, MOST_READING[2] + 1], b"\0\0")) != [
+            "run 1 has %d" % (MOST_READING[2] + 1)]:
+        complaints.append("the run that is named for 12, with repeats")
+    if places(11, sheet_bytes.Contents(Plan(2, 1, repeats=2), [7] * 3, b"\0\0")) != [
+            "3 readings for 2 runs of 2 each, 2 marks for 2 rows"]:
+        complaints.append("the counts that are named for 11, with repeats")
+    if not listing(TWICE_SHEET).startswith("# 4 runs, 4 rows\nlevels,2\nfactors,2\nrepeats,2\n"):
+        complaints.append("the listing of a sheet with repeats")
+    return complaints
+
+
 def check_listing(own):
     """Complaints about the lines of a sheet: they make it again, or give the number of its refusal and a cause."""
     refused = text_rules.answer(own.sheet)
@@ -200,7 +288,7 @@ def check_example(name, own):
 
 def check():
     """List of all complaints about lines, the command, listings and stored examples."""
-    complaints = check_make() + check_limits()
+    complaints = check_make() + check_limits() + check_repeats()
     for own in text_cases.SHEETS:
         complaints += check_listing(own)
     for name, own in EXAMPLES.items():

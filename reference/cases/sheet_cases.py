@@ -4,11 +4,11 @@
 #
 # The program reads records, one for each sheet in this order: room, the number of places of the column that it lends, and
 # length, two bytes each and big-endian; then so many bytes of a sheet. Before each call every place of the column holds a
-# number that no reading may be. The program writes a line for each record: `done` or the refusal; levels and k; the added
-# factors; the block words; the readings, which are the places before the first that kept its number; how many places kept
-# theirs; and the marks. A list is how many there are and then each of them, an added factor as word/sign, the marks with no
-# space between them. Of over 40 readings one number is written (counted). Words and signs that are not 0 beyond a plan's
-# counts would be written too, so a refusal with a plan or a column that is not as it should be shows.
+# number that no reading may be. The program writes a line for each record: `done` or the refusal; levels, k and repeats;
+# the added factors; the block words; the readings, which are the places before the first that kept its number; how many
+# places kept theirs; and the marks. A list is how many there are and then each of them, an added factor as word/sign, the
+# marks with no space between them. Of over 40 readings one number is written (counted). Words and signs that are not 0
+# beyond a plan's counts would be written too, so a refusal with a plan or a column that is not as it should be shows.
 #
 # Defined here:
 #   Case                 a sheet with the room of its column; number is the answer that the rules give, None if not listed
@@ -16,6 +16,7 @@
 #   ABOUT_LIMITS         the sheets with a name whose readings are about the limits
 #   CASES                the sheets with a name
 #   Numbers              numbers that are spread out, from a seed
+#   with_repeats         a plan with repeats, a third of the time
 #   DAMAGES              ways to damage the fields of a sheet
 #   made, MADE           a sheet that is made and, four times of five, damaged; the 600 of them
 #   near_contents        what a sheet holds whose readings are near the limits, and its number
@@ -33,24 +34,24 @@ from os.path import abspath, dirname
 sys.path.insert(0, dirname(dirname(dirname(abspath(__file__)))))
 
 from reference.cases import answers
-from reference.cases.answers import AB, ABC, BC, EIGHT, FOUR, LEVELS_NAMED, TOP, about_limit
-from reference.published.analyses import FOUR_BLOCKS, SIX, SIX_ADDED, TEN
+from reference.cases.answers import AB, ABC, BC, EIGHT, FOUR, LEVELS_NAMED, TOP, about_limit, named
+from reference.published.analyses import FOUR_BLOCKS, MOST_REPEATED, SIX, SIX_ADDED, TEN
 from reference.rules import sheet_bytes
 from reference.rules import table as table_rules
 from reference.rules import totals as totals_rules
-from reference.rules.sheet_bytes import ADDED, BLOCK, MARKS, PLAN, READINGS, field
+from reference.rules.sheet_bytes import ADDED, BLOCK, MARKS, PLAN, READINGS, REPEATS, field
 from reference.rules.table import row_number
 from reference.rules.totals import DONE, Plan
 
 # contents: what the sheet was made from, where nothing of it is refused.
 Case = namedtuple("Case", "number why sheet room contents", defaults=(None,))
 
-MOST_SHEET = 5_187
+MOST_SHEET, MOST_SHEET_REPEATED = 5_187, 4_679
 MOST_ROOM = 1_100
-MOST_INPUT = 131_072
+MOST_INPUT = 196_608
 MOST_SHOWN = 40
 MODULUS = 2 ** 31 - 1
-ANSWERS = (DONE, 1, 2, 3, 4, 5, 6, 7, 8, 11, 12, 13)
+ANSWERS = (DONE, 1, 2, 3, 4, 5, 6, 7, 8, 16, 11, 12, 13)
 
 
 # ---- sheets with a name: accepted ----
@@ -106,6 +107,31 @@ ACCEPTED = [
     lent(DONE, "the longest sheet, column longer", MOST, [-TOP[2]] * 1023 + [TOP[2]], room=1100),
 ]
 
+# With repeats; TWO_4 has four readings for each of four runs, and MOST_2 makes the longest sheet.
+ONE_2, TWO_4, THREE_8 = Plan(2, 1, repeats=2), Plan(2, 2, repeats=4), Plan(2, 3, repeats=8)
+MOST_2 = Plan(2, 9, SIX_ADDED[:3] + ((AB | 256, 1), (BC | 256, 0), (ABC | 384, 1)), (ABC, 56, 192 | 1, 256 | 2), 2)
+SIXTEEN = list(range(1, 17))
+ACCEPTED_REPEATED = [
+    lent(DONE, "2 repeats, 3, 5 and 4, 8", ONE_2, FOUR),
+    lent(DONE, "4 repeats", TWO_4, SIXTEEN, LAST),
+    lent(DONE, "4 repeats, column one place longer", TWO_4, SIXTEEN, LAST, 17),
+    lent(DONE, "4 repeats, column of 1,100 places", TWO_4, SIXTEEN, LAST, 1100),
+    lent(DONE, "8 repeats", THREE_8, spread(2, 64), every_third(THREE_8), 65),
+    lent(DONE, "8 repeats, one factor", Plan(2, 1, repeats=8), many_sizes(2), [0, 1]),
+    lent(DONE, "2 repeats, block word ABC", Plan(2, 3, (), (ABC,), 2), range(16)),
+    lent(DONE, "2 repeats, D = ABC with sign 1", Plan(2, 3, ((ABC, 1),), (), 2), range(-8, 8), [0, 0, 1, 0, 0, 1, 0, 1]),
+    lent(DONE, "4 repeats, added BC, AB, block word ABC", Plan(2, 3, ((BC, 1), (AB, 0)), (ABC,), 4), spread(2, 32)),
+    lent(DONE, "4 repeats, block words AD, ABC", Plan(2, 4, (), (row_number("AD"), ABC), 4), spread(2, 64)),
+    lent(DONE, "three levels, 2 repeats, k = 1", Plan(3, 1, repeats=2), [2, 5, 3, -2, -5, -3], [0, 1]),
+    lent(DONE, "three levels, 8 repeats, k = 1", Plan(3, 1, repeats=8), range(24), [0, 0], 25),
+    lent(DONE, "three levels, 4 repeats, k = 2", Plan(3, 2, repeats=4), range(-18, 18), LAST),
+    lent(DONE, "the longest sheet with repeats", MOST_2, spread(2, 1024), every_third(MOST_2)),
+] + [
+    lent(DONE, "%s, k = %d, as many readings as there may be" % (named(plan), plan.k), plan,
+         spread(plan.levels, totals_rules.reading_count(plan)), every_third(plan))
+    for plans in MOST_REPEATED.values() for plan in plans
+]
+
 
 # ---- refusal 1 ----
 
@@ -113,6 +139,11 @@ ACCEPTED = [
 P, R, M = sheet_bytes.fields_written(TWO, FOUR, LAST)
 A, B = field(ADDED, bytes([0, 3, 0])), field(BLOCK, bytes([0, 3]))
 NOTHING = b""
+
+
+# Fields of tag 6, and readings of four runs made twice.
+TWICE, FOUR_TIMES = field(REPEATS, bytes([2])), field(REPEATS, bytes([4]))
+R8 = field(READINGS, R[3:] + R[3:])
 
 
 def bare(why, *parts, number=1, room=4):
@@ -165,6 +196,29 @@ REFUSAL_1 = [bare("cut after %d bytes" % count, RULES[:count]) for count in rang
 ] + [
     bare("field 4 of %d bytes" % count, P, field(READINGS, (R[3:] + R[3:])[:count]), M)
     for count in (1, 2, 3, 13, 14, 15, 17, 18, 19)
+] + [
+    bare("tag 6 first: 6, 1, 4, 5", TWICE, P, R8, M, room=8),
+    bare("tag 6 before a tag 2: 1, 6, 2, 4, 5", P, TWICE, A, R8, M, room=8),
+    bare("tag 6 before a tag 3: 1, 6, 3, 4, 5", P, TWICE, B, R8, M, room=8),
+    bare("tag 6 between tags 2 and 3: 1, 2, 6, 3, 4, 5", P, A, TWICE, field(BLOCK, bytes([0, 3])), R8, M, room=8),
+    bare("tag 6 after tag 4: 1, 4, 6, 5", P, R8, TWICE, M, room=8),
+    bare("tag 6 after tag 5: 1, 4, 5, 6", P, R8, M, TWICE, room=8),
+    bare("tag 6 between two tags 2", P, A, TWICE, field(ADDED, bytes([0, 3, 1])), R8, M, room=8),
+    bare("tag 6 before and after tag 4", P, TWICE, R8, TWICE, M, room=8),
+    bare("tag 6 twice", P, TWICE, TWICE, R8, M, room=8),
+    bare("tag 6 twice, 2 and 4", P, TWICE, FOUR_TIMES, R8, M, room=8),
+    bare("tag 6 twice, the first time empty", P, field(REPEATS, NOTHING), TWICE, R8, M, room=8),
+    bare("tag 6 alone", TWICE),
+    bare("tag 6 in place of 4", P, TWICE, M),
+    bare("tag 6 in place of 1", TWICE, R8, M, room=8),
+    bare("tag 7 between tags 3 and 4", P, field(7, bytes([2])), R8, M, room=8),
+    bare("tag 134 in place of 6", P, field(134, bytes([2])), R8, M, room=8),
+] + [
+    bare("field 6 of %d bytes" % count, P, field(REPEATS, bytes([2, 0, 0, 0][:count])), R8, M, room=8) for count in (0, 2, 3, 4)
+] + [
+    bare("field 6 of 2 bytes, 0 and 2", P, field(REPEATS, bytes([0, 2])), R8, M, room=8),
+    bare("field 6 longer than the sheet", P, bytes([6, 255, 255, 2]), R8, M, room=8),
+    bare("field 6 cut after its length", P, bytes([6, 0, 1])),
 ]
 
 
@@ -177,7 +231,7 @@ def shown_by_sheet(own):
 
 
 LOW, HIGH = -2 ** 31, 2 ** 31 - 1
-TABLE_REFUSALS = [lent(own.number, own.why, own.plan, own.readings, own.marks, own.totals_length)
+TABLE_REFUSALS = [lent(own.number, own.why, own.plan, own.readings, own.marks, own.totals_length * own.plan.repeats)
                   for own in answers.REFUSALS if shown_by_sheet(own)]
 REFUSED = [
     lent(2, "levels 255, k = 255", Plan(255, 255), FOUR, LAST),
@@ -223,7 +277,41 @@ REFUSED = [
 ]
 
 
-# ---- two refusals at once, of which the lower counts; TABLE_REFUSALS has others ----
+# ---- refusals with repeats ----
+
+def holding(repeats, why, *parts, number=16, room=16):
+    """The sheet of the rules' example with four readings for each run and a field 6 that holds a number; or other parts."""
+    own = parts or (P, field(REPEATS, bytes([repeats])), field(READINGS, R[3:] * 4), M)
+    return Case(number, why, b"".join(own), room)
+
+
+REFUSED_REPEATED = [
+    holding(repeats, "field 6 holding %d" % repeats) for repeats in (0, 1, 3, 5, 6, 7, 9, 12, 16, 32, 64, 127, 128, 129, 255)
+] + [
+    holding(1, "field 6 holding 1, a reading for each run", P, field(REPEATS, bytes([1])), R, M),
+    holding(1, "field 6 holding 1, after fields 2 and 3", field(PLAN, bytes([2, 3])), field(ADDED, bytes([0, 3, 0])),
+            field(BLOCK, bytes([0, 7])), field(REPEATS, bytes([1])), *sheet_bytes.fields_written(THREE, EIGHT, [0] * 8)[1:]),
+    lent(16, "k = 10, 8 repeats, 4 readings", Plan(2, 10, repeats=8), FOUR),
+    lent(11, "4 repeats, no readings", TWO_4, [], LAST, 16),
+    lent(11, "4 repeats, 17 readings", TWO_4, range(17), LAST),
+    lent(11, "4 repeats, 15 readings, column of 16 places", TWO_4, SIXTEEN[:15], LAST, 16),
+    lent(11, "4 repeats, 16 marks", TWO_4, SIXTEEN, [0] * 16),
+    lent(11, "no field 6, four readings for each run", TWO, SIXTEEN, LAST),
+    lent(11, "k = 3, 8 repeats, 8 readings", THREE_8, EIGHT, [0] * 8, 64),
+    lent(11, "three levels, k = 1, 2 repeats, 3 readings", Plan(3, 1, repeats=2), [2, 5, 3], [0, 1], 6),
+    lent(11, "k = 9, 2 repeats, 1,024 readings, column one place short", Plan(2, 9, repeats=2), spread(2, 1024), room=1023),
+    lent(12, "8 repeats, the last reading beyond the limit", THREE_8, [*spread(2, 63), -TOP[2] - 1], room=70),
+    lent(12, "three levels, 4 repeats, the last reading of run 0 beyond the limit", Plan(3, 1, repeats=4),
+         [1, 2, 3, TOP[3] + 1, *range(8)]),
+    lent(13, "4 repeats, mark 1 on row 0", TWO_4, SIXTEEN, [1, 0, 0, 0]),
+    lent(13, "4 repeats, mark 2 on the last row", TWO_4, SIXTEEN, [0, 0, 0, 2]),
+    lent(13, "2 repeats, mark 1 on a blocks row", Plan(2, 3, (), (ABC,), 2), range(16), [0] * 7 + [1]),
+] + [
+    lent(11, "4 repeats, column of %d places" % room, TWO_4, SIXTEEN, LAST, room) for room in range(16)
+]
+
+
+# ---- two refusals at once, of which the first in the order of checks counts; TABLE_REFUSALS has others ----
 
 def cut(own, why, count=1):
     """The sheet without its last bytes, and so refused with 1."""
@@ -270,16 +358,37 @@ TWO_REFUSALS = [
     lent(11, "11 and 13: 3 readings, mark 2", TWO, [3, 5, 4], [0, 2, 0, 0], 4),
     lent(12, "12 and 13: the last reading beyond the limit, mark 1 on row 0", TWO, [3, 5, 4, TOP[2] + 1], [1, 0, 0, 0]),
     lent(12, "12 and 13: three levels, the least i32, mark 2", Plan(3, 1), [LOW, 5, 3], [0, 2]),
+    cut(lent(16, "", Plan(2, 2, repeats=3), SIXTEEN, LAST), "1 and 16: 3 repeats, last byte cut"),
+    bare("1 and 16: field 6 of 2 bytes, both 3", P, field(REPEATS, bytes([3, 3])), R, M),
+    bare("1 and 16: field 6 holding 1, after tag 4", P, R, field(REPEATS, bytes([1])), M),
+    bare("1 and 16: field 6 holding 1, twice", P, field(REPEATS, bytes([1])) * 2, R, M),
+    bare("2 and 16: levels 4, field 6 holding 1", field(PLAN, bytes([4, 2])), field(REPEATS, bytes([1])), R, M, number=2),
+    bare("8 and 16: block word A, field 6 holding 1", P, field(BLOCK, bytes([0, 1])), field(REPEATS, bytes([1])), R, M,
+         number=8),
+    lent(4, "4 and 16: 7 added factors, 3 repeats", SEVEN._replace(repeats=3), FOUR, LAST),
+    lent(5, "5 and 16: block word C, 0 repeats, no readings", Plan(2, 2, (), (4,), 0), [], LAST),
+    bare("16 and 11: field 6 holding 1, 8 readings", P, field(REPEATS, bytes([1])), R8, M, number=16, room=8),
+    bare("16 and 11: field 6 holding 1, no column", P, field(REPEATS, bytes([1])), R, M, number=16, room=0),
+    bare("16 and 12: field 6 holding 1, a reading beyond the limit", P, field(REPEATS, bytes([1])),
+         field(READINGS, R[3:15] + bytes([127, 255, 255, 255])), M, number=16),
+    bare("16 and 13: field 6 holding 1, mark 2", P, field(REPEATS, bytes([1])), R, field(MARKS, bytes([0, 2, 0, 0])),
+         number=16),
+    lent(16, "16 and 11: 3 repeats, column as long as the runs", Plan(2, 2, repeats=3), range(12), LAST, 4),
+    lent(16, "16 and 12: 3 repeats, the least i32", Plan(2, 2, repeats=3), [*range(11), LOW], LAST),
+    lent(16, "16 and 13: 3 repeats, mark 1 on row 0", Plan(2, 2, repeats=3), range(12), [1, 0, 0, 0]),
+    lent(11, "11 and 12: 4 repeats, column one place short, a reading beyond the limit", TWO_4, [*SIXTEEN[:15], LOW], LAST, 15),
+    lent(11, "11 and 13: 4 repeats, 4 readings, mark 2", TWO_4, FOUR, [0, 2, 0, 0], 16),
+    lent(12, "12 and 13: 4 repeats, the last reading beyond the limit, mark 2", TWO_4, [*SIXTEEN[:15], HIGH], [0, 2, 0, 0]),
 ]
 
 
 # ---- one reading about the limits, others small ----
 
 def about_limits(number, where, plan, size):
-    """Sheets with a reading of a size, either way, in the first, a middle and the last run; where says how it lies to the
+    """Sheets with a reading of a size, either way, at the first, a middle and the last place; where says how it lies to the
     limit."""
-    readings = list(range(totals_rules.run_count(plan.levels, plan.k)))
-    return [lent(number, "%s, k = %d, %s %s" % (LEVELS_NAMED[plan.levels], plan.k, name, where % limit), plan, own)
+    readings = list(range(totals_rules.reading_count(plan)))
+    return [lent(number, "%s, k = %d, %s %s" % (named(plan), plan.k, name, where % limit), plan, own)
             for name, limit, own in about_limit(readings, size)]
 
 
@@ -293,9 +402,11 @@ ABOUT_LIMITS = (about_own_limit(THREE) + about_own_limit(Plan(3, 2))
                 + about_limits(DONE, "at the %s of three levels", THREE, TOP[3])
                 + about_limits(DONE, "one beyond the %s of three levels", THREE, TOP[3] + 1)
                 + about_limits(12, "one within the %s of two levels", Plan(3, 2), TOP[2] - 1)
-                + about_limits(12, "at the %s of two levels", Plan(3, 2), TOP[2]))
+                + about_limits(12, "at the %s of two levels", Plan(3, 2), TOP[2])
+                + about_own_limit(TWO_4) + about_own_limit(Plan(3, 2, repeats=2)))
 
-CASES = ACCEPTED + REFUSAL_1 + TABLE_REFUSALS + REFUSED + TWO_REFUSALS + ABOUT_LIMITS
+CASES = (ACCEPTED + ACCEPTED_REPEATED + REFUSAL_1 + TABLE_REFUSALS + REFUSED + REFUSED_REPEATED + TWO_REFUSALS
+         + ABOUT_LIMITS)
 
 
 # ---- sheets that are made ----
@@ -321,6 +432,13 @@ class Numbers:
         return items[self.below(len(items))]
 
 
+def with_repeats(numbers, plan):
+    """An accepted plan without repeats, with some a third of the time, if it may have any."""
+    most = totals_rules.MOST_READINGS // totals_rules.reading_count(plan)
+    allowed = [repeats for repeats in totals_rules.REPEATS if 1 < repeats <= most]
+    return plan._replace(repeats=numbers.choose(allowed)) if numbers.below(3) == 0 and allowed else plan
+
+
 def made_plan(numbers):
     """An accepted plan: three levels and one or two factors, or two levels and one to four, with words or without."""
     if numbers.below(6) == 0:
@@ -336,20 +454,22 @@ def made_plan(numbers):
 
 def made_contents(numbers):
     """A plan, readings and marks that are accepted."""
-    plan = made_plan(numbers)
+    plan = with_repeats(numbers, made_plan(numbers))
     top, limits = TOP[plan.levels], LIMITS[plan.levels]
     readings = [numbers.choose(limits) if numbers.below(3) == 0 else numbers.below(2 * top + 1) - top
-                for _ in range(totals_rules.run_count(plan.levels, plan.k))]
+                for _ in range(totals_rules.reading_count(plan))]
     kinds = table_rules.row_kinds(plan, [0] * table_rules.row_count(plan.k))
     return sheet_bytes.Contents(plan, readings, bytes(numbers.below(2) if kind == table_rules.KEPT else 0 for kind in kinds))
 
 
-def made_room(numbers, runs):
-    """The room of a column: N places, up to three more, or too few."""
+def made_room(numbers, contents):
+    """The room of a column: as many places as readings, up to three more, or too few, and then any number from N on where
+    there are repeats."""
+    count, runs = len(contents.readings), totals_rules.run_count(contents.plan.levels, contents.plan.k)
     way = numbers.below(8)
     if way == 0:
-        return runs - 1 - numbers.below(2)
-    return runs if way < 5 else runs + 1 + numbers.below(3)
+        return runs + numbers.below(count - runs) if count > runs else count - 1 - numbers.below(2)
+    return count if way < 5 else count + 1 + numbers.below(3)
 
 
 # ---- damage ----
@@ -420,6 +540,14 @@ def damage_words(numbers, parts):
     return parts[:at] + [field(tag, body) for body in bodies] + parts[at:]
 
 
+def damage_repeats(numbers, parts):
+    """A field 6 more, before field 4 or anywhere, with a number that is allowed more often than not."""
+    body = bytes([numbers.choose((0, 1, 1, 2, 2, 3, 4, 8, 16))])
+    before_readings = next((place for place, part in enumerate(parts) if part[0] == READINGS), len(parts))
+    at = before_readings if numbers.below(3) else numbers.below(len(parts) + 1)
+    return parts[:at] + [field(REPEATS, body)] + parts[at:]
+
+
 def damage_append(numbers, parts):
     """A few bytes more at the end, or a field of any tag up to 7."""
     some = bytes(numbers.below(8) for _ in range(1 + numbers.below(4)))
@@ -442,12 +570,13 @@ DAMAGES = {
     "length off by one": damage_length,
     "wrong count": damage_count,
     "more words": damage_words,
+    "field 6 more": damage_repeats,
     "bytes appended": damage_append,
     "byte of a body changed": damage_body,
 }
 
-# Most ways lead to refusal 1; the last is chosen more often than others.
-WAYS = list(DAMAGES) + ["byte of a body changed"] * 6
+# Most ways lead to refusal 1; two that do not are chosen more often than others.
+WAYS = list(DAMAGES) + ["byte of a body changed"] * 6 + ["field 6 more"]
 UNDAMAGED = "undamaged"
 
 
@@ -459,7 +588,7 @@ def damaged(numbers, parts, way):
 def made(numbers):
     """A sheet that is made: a fifth of all undamaged, a sixth of the others damaged twice."""
     contents = made_contents(numbers)
-    room = made_room(numbers, len(contents.readings))
+    room = made_room(numbers, contents)
     parts = sheet_bytes.fields_written(*contents)
     if numbers.below(5) == 0:
         return Case(None, UNDAMAGED, b"".join(parts), room, contents)
@@ -487,22 +616,22 @@ def near_contents(numbers):
     """Plan, readings and marks, with readings near the limits; and their number, which is 12 half of the time: then one or
     two readings are beyond the limit, and no other is."""
     levels, k = numbers.choose(NEAR_SIZES)
-    runs, number = totals_rules.run_count(levels, k), numbers.choose((DONE, 12))
+    plan, number = with_repeats(numbers, Plan(levels, k)), numbers.choose((DONE, 12))
+    count = totals_rules.reading_count(plan)
     beyond = [reading for reading in NEAR_READINGS if abs(reading) > TOP[levels]]
     within = [reading for reading in NEAR_READINGS if abs(reading) <= TOP[levels]]
-    readings = [numbers.choose(within) for _ in range(runs)]
+    readings = [numbers.choose(within) for _ in range(count)]
     for _ in range(1 + numbers.below(2) if number else 0):
-        readings[numbers.below(runs)] = numbers.choose(beyond)
+        readings[numbers.below(count)] = numbers.choose(beyond)
     marks = bytes(row and numbers.below(2) for row in range(table_rules.row_count(k)))
-    return sheet_bytes.Contents(Plan(levels, k), readings, marks), number
+    return sheet_bytes.Contents(plan, readings, marks), number
 
 
 def near(numbers):
     """A sheet whose readings are near the limits; a column without room for them comes before these."""
     contents, number = near_contents(numbers)
-    runs = len(contents.readings)
-    room = made_room(numbers, runs)
-    return Case(number if room >= runs else 11, "%s, near the limits" % LEVELS_NAMED[contents.plan.levels],
+    room = made_room(numbers, contents)
+    return Case(number if room >= len(contents.readings) else 11, "%s, near the limits" % named(contents.plan),
                 sheet_bytes.write(*contents), room, None if number else contents)
 
 
@@ -525,20 +654,27 @@ def check_case(own):
 
 
 def check_table(own):
-    """The column aside, a sheet to which refusal 1 does not apply is refused as the table of what it holds would be."""
+    """The column aside, a sheet to which refusal 1 does not apply is refused as the table of what it holds would be; but that
+    a field 6 holding 1 is refused where the plan is not."""
     fields = sheet_bytes.fields_of(own.sheet)
     if fields is None or sheet_bytes.bad_fields(fields):
         return []
     plan, readings, marks = sheet_bytes.contents_of(fields)
     lengths = totals_rules.run_count(plan.levels, plan.k), table_rules.row_count(plan.k)
-    same = table_rules.table_answer(plan, readings, marks, *lengths) == sheet_bytes.sheet_answer(own.sheet)
-    return [] if same else ["%s: another number than of the table" % own.why]
+    meant = table_rules.table_answer(plan, readings, marks, *lengths)
+    if sheet_bytes.needless_repeats(fields) and totals_rules.plan_answer(plan) == DONE:
+        meant = 16
+    return [] if meant == sheet_bytes.sheet_answer(own.sheet) else ["%s: another number than of the table" % own.why]
 
 
 def check_longest():
-    """The longest sheet that is accepted has the length that the rules give."""
-    longest = max(len(own.sheet) for own in SHEETS if sheet_bytes.read(own.sheet, own.room).refused == DONE)
-    return [] if longest == MOST_SHEET else ["longest sheet: %d bytes" % longest]
+    """The longest sheet that is accepted has the length that the rules give, and the longest with repeats is shorter."""
+    accepted = [own for own in SHEETS if sheet_bytes.read(own.sheet, own.room).refused == DONE]
+    longest = max(len(own.sheet) for own in accepted)
+    repeated = max(len(own.sheet) for own in accepted if sheet_bytes.read(own.sheet, own.room).plan.repeats > 1)
+    if (longest, repeated) == (MOST_SHEET, MOST_SHEET_REPEATED):
+        return []
+    return ["longest sheet: %d bytes, with repeats %d" % (longest, repeated)]
 
 
 def check_undamaged(own):
@@ -556,10 +692,12 @@ def check_spread():
     numbers = Counter(sheet_bytes.read(own.sheet, own.room).refused for own in MADE)
     ways = Counter(way for own in MADE for way in own.why.split(", "))
     sizes = Counter((own.contents.plan.levels, own.contents.plan.k) for own in MADE if own.contents)
+    repeats = Counter(own.contents.plan.repeats for own in MADE if own.contents)
     complaints = ["made sheets: answer %d %d times" % (number, numbers[number]) for number in ANSWERS if numbers[number] < 4]
     complaints += ["made sheets: %s %d times" % (way, ways[way]) for way in DAMAGES if ways[way] < 25]
     if not MADE_COUNT / 6 < ways[UNDAMAGED] < MADE_COUNT / 4:
         complaints.append("made sheets: %d undamaged" % ways[UNDAMAGED])
+    complaints += ["made sheets: %d repeats %d times" % (own, repeats[own]) for own in totals_rules.REPEATS if repeats[own] < 4]
     return complaints + ["made sheets: none of %r" % (size,) for size in ((2, 1), (2, 2), (2, 3), (2, 4), (3, 1), (3, 2))
                          if not sizes[size]]
 
@@ -625,8 +763,8 @@ def sheet_line(number, own):
     """The line of a sheet."""
     found = sheet_bytes.read(own.sheet, own.room)
     plan = found.plan
-    return "%d: %s, plan %d %d, added%s, blocks%s, readings%s, kept %d, marks%s" % (
-        number, "refused %d" % found.refused if found.refused else "done", plan.levels, plan.k,
+    return "%d: %s, plan %d %d %d, added%s, blocks%s, readings%s, kept %d, marks%s" % (
+        number, "refused %d" % found.refused if found.refused else "done", plan.levels, plan.k, plan.repeats,
         list_of(["%d/%d" % pair for pair in plan.added]), list_of([str(word) for word in plan.blocks]),
         values_of(found.readings), own.room - len(found.readings), marks_of(sheet_bytes.marks_part(own.sheet)))
 

@@ -6,13 +6,14 @@
 # many bytes of a sheet. It writes for each record the text of its sheet, and nothing between these texts.
 #
 # A sheet that is made is lawful, spoiled or damaged, about a third each. It is spoiled before it is written: what it
-# holds is changed so that a refusal of the rules applies, and no lower one. Where it is spoiled for several refusals,
-# the lowest of their numbers is the answer. It is damaged after it is written, in a way of sheet_cases.py, and then its
-# number is not listed.
+# holds is changed so that a refusal of the rules applies, and none before it in the order of checks. Where it is spoiled
+# for several refusals, the first of their numbers in that order is the answer. It is damaged after it is written, in a
+# way of sheet_cases.py, and then its number is not listed.
 #
 # Defined here:
 #   RULES_SHEET, RULES_TEXT   the example of the rules: its sheet, and the text that they print
-#   SIZES                   levels and factors of all sizes of plans
+#   TWICE_SHEET, TWICE_TEXT   two runs that are made twice: their sheet, and the text, worked by hand
+#   SIZES                   levels and factors of all sizes of plans; SIZES_REPEATED: the same with repeats
 #   Case                    a sheet with a name; number is the answer that the rules give, None if it is not listed
 #   CASES                   the sheets with a name
 #   plan_with, made_plan, made_readings, made_marks, made_contents   lawful plans, readings and marks
@@ -29,12 +30,13 @@ import re
 import sys
 from collections import Counter, namedtuple
 from functools import lru_cache
+from itertools import combinations
 from os.path import abspath, dirname
 
 sys.path.insert(0, dirname(dirname(dirname(abspath(__file__)))))
 
 from reference.cases import sheet_cases
-from reference.cases.answers import LEVELS_NAMED
+from reference.cases.answers import named
 from reference.published import analyses
 from reference.rules import sheet_bytes
 from reference.rules import table as table_rules
@@ -48,10 +50,12 @@ from reference.rules.totals import DONE, Plan
 # is another number, because the sheet is too long.
 Case = namedtuple("Case", "number name sheet table alone", defaults=(None, None))
 
-MOST_INPUT, MOST_TEXT = 180_000, 450_000
+MOST_INPUT, MOST_TEXT = 360_000, 450_000
 TOP = totals_rules.MOST_READING
 
 SIZES = [(levels, k) for levels, most in totals_rules.MOST_FACTORS.items() for k in range(1, most + 1)]
+SIZES_REPEATED = [(levels, k, repeats) for levels, k in SIZES for repeats in totals_rules.REPEATS[1:]
+                  if totals_rules.run_count(levels, k) * repeats <= totals_rules.MOST_READINGS]
 
 # The program's text for 3, 5, 4, 8 with marks 0, 0, 0, 1, as the rules print it.
 RULES_SHEET = sheet_bytes.write(Plan(2, 2), [3, 5, 4, 8], [0, 0, 0, 1])
@@ -65,6 +69,19 @@ blocks 0 0
 error 1 4
 total 4 456
 check 12 12
+"""
+
+# Runs made twice, with readings 3, 5 and 4, 8: run sums 8 and 12, means 4 and 6, totals 20 and -4. About the means the squares
+# are 1, 1, 4 and 4, over 4 they are 40; the four readings have the sum of squares 114.
+TWICE_SHEET = sheet_bytes.write(Plan(2, 1, repeats=2), [3, 5, 4, 8], [0, 0])
+TWICE_TEXT = b"""\
+over 4
+mean 1 400
+A 1 16
+blocks 0 0
+error 2 40
+total 4 456
+check 16 16
 """
 
 
@@ -90,21 +107,23 @@ def all_marks(plan):
     return [int(kind == KEPT) for kind in table_rules.row_kinds(plan, no_marks(plan))]
 
 
-def one_reading(plan, run, reading):
-    """A reading for one run, and 0 for the others."""
-    return [reading if own == run else 0 for own in range(totals_rules.run_count(plan.levels, plan.k))]
+def one_reading(plan, place, reading):
+    """A reading at one place, and 0 at the others."""
+    return [reading if own == place else 0 for own in range(totals_rules.reading_count(plan))]
 
 
 def alternating(plan, first):
-    """A reading and its opposite in turn. At three levels the sum of totals is then as far from 0 as it can be."""
-    return [-first if run % 2 else first for run in range(totals_rules.run_count(plan.levels, plan.k))]
+    """A reading and its opposite in turn from run to run. At three levels the sum of totals is then as far from 0 as it can
+    be."""
+    values = [-first if run % 2 else first for run in range(totals_rules.run_count(plan.levels, plan.k))]
+    return analyses.each(plan, values)
 
 
-def of_size(levels, k):
-    """A sheet of so many levels and factors, with readings spread out and every third row marked."""
-    plan = Plan(levels, k)
-    readings = sheet_cases.spread(levels, totals_rules.run_count(levels, k))
-    return lawful("%d levels, %d factors, spread" % (levels, k), plan, readings, sheet_cases.every_third(plan))
+def of_size(levels, k, repeats=1):
+    """A sheet of so many levels, factors and repeats, with readings spread out and every third row marked."""
+    plan = Plan(levels, k, repeats=repeats)
+    readings = sheet_cases.spread(levels, totals_rules.reading_count(plan))
+    return lawful("%s, %d factors, spread" % (named(plan), k), plan, readings, sheet_cases.every_third(plan))
 
 
 # The example of the rules comes first.
@@ -112,7 +131,8 @@ WORKED = ([of_table(analyses.RULES_TWO_FACTORS)]
           + [of_table(own) for own in analyses.TABLES if own is not analyses.RULES_TWO_FACTORS])
 
 # The largest plans are among the worked tables.
-EVERY_SIZE = [of_size(levels, k) for levels, k in SIZES if k < totals_rules.MOST_FACTORS[levels]]
+EVERY_SIZE = ([of_size(levels, k) for levels, k in SIZES if k < totals_rules.MOST_FACTORS[levels]]
+              + [of_size(*size) for size in SIZES_REPEATED])
 
 ONE, TWO, THREE, EIGHT_FACTORS, SIX = Plan(2, 1), Plan(2, 2), Plan(2, 3), Plan(2, 8), Plan(3, 6)
 FOUR, EIGHT = [3, 5, 4, 8], [1, 2, 3, 4, 5, 6, 7, 8]
@@ -141,6 +161,30 @@ LAWFUL = [
            SIX, one_reading(SIX, 728, -TOP[3]), no_marks(SIX)),
 ]
 
+# With repeats; the first is the one that is worked by hand.
+ONE_2, THREE_4, NINE_2 = Plan(2, 1, repeats=2), Plan(2, 3, repeats=4), Plan(2, 9, repeats=2)
+TWO_BY_THREE, THREE_BY_THREE = Plan(3, 1, repeats=2), Plan(3, 2, repeats=8)
+IN_BLOCKS_4 = IN_BLOCKS._replace(repeats=4)
+LAWFUL_REPEATED = [
+    Case(DONE, "2 repeats, 3, 5 and 4, 8", TWICE_SHEET),
+    lawful("2 repeats, 3, 5 and 4, 8, row A marked", ONE_2, FOUR, all_marks(ONE_2)),
+    lawful("2 repeats, runs the same, so that nothing is about their means", ONE_2, [3, 3, 8, 8], no_marks(ONE_2)),
+    lawful("2 repeats, run sums 0, so that all is about their means", ONE_2, [3, -3, -8, 8], no_marks(ONE_2)),
+    lawful("8 repeats, one factor, a mean that is no whole number", Plan(2, 1, repeats=8), [0] * 7 + [1] + [0] * 8, [0, 0]),
+    lawful("4 repeats, one factor, a mean that is no whole number", Plan(2, 1, repeats=4), [0, 0, 0, 1, 0, 1, 1, 1], [0, 1]),
+    lawful("4 repeats, readings 0, marks on all rows", THREE_4, [0] * 32, all_marks(THREE_4)),
+    lawful("4 repeats, the last reading at the lower limit, others 0", THREE_4, one_reading(THREE_4, 31, -TOP[2]),
+           no_marks(THREE_4)),
+    lawful("4 repeats, marks on all rows, blocks AD, ABC, BCD", IN_BLOCKS_4, range(64), all_marks(IN_BLOCKS_4)),
+    lawful("three levels, 2 repeats, one factor", TWO_BY_THREE, [2, 5, 3, 1, 4, 6], no_marks(TWO_BY_THREE)),
+    lawful("three levels, 8 repeats, marks on all rows", THREE_BY_THREE, sheet_cases.spread(3, 72), all_marks(THREE_BY_THREE)),
+    lawful("three levels, 8 repeats, alternating from the lower limit", THREE_BY_THREE, alternating(THREE_BY_THREE, -TOP[3]),
+           no_marks(THREE_BY_THREE)),
+    lawful("the longest sheet with repeats, alternating from the upper limit, marks on all rows",
+           sheet_cases.MOST_2, alternating(sheet_cases.MOST_2, TOP[2]), all_marks(sheet_cases.MOST_2)),
+    lawful("nine factors, 2 repeats, both limits in turn", NINE_2, analyses.in_turn(NINE_2, TOP[2]), no_marks(NINE_2)),
+]
+
 
 # ---- sheets with a name: refused ----
 
@@ -167,6 +211,7 @@ SMALL = [
     small(6, "AB and AB", Plan(2, 2, ((AB, 0), (AB, 0))), FOUR),
     small(7, "AB, AB, with k = 3", Plan(2, 3, (), (AB, AB)), EIGHT),
     small(8, "AB, ABC, with k = 3", Plan(2, 3, (), (AB, ABC)), EIGHT),
+    small(16, "k = 2, 3 repeats", Plan(2, 2, repeats=3), EIGHT + FOUR),
     small(11, "k = 2, 3 readings", TWO, [3, 5, 4]),
     small(12, "three levels, a reading one beyond the limit", Plan(3, 1), [2, 5, TOP[3] + 1]),
     small(13, "mark 1 on row 0", TWO, FOUR, [1, 0, 0, 0]),
@@ -180,7 +225,7 @@ def taken(own):
     return len(own.sheet) <= MOST_BYTES_TAKEN and "column" not in own.why
 
 
-EARLIER = {own.sheet for own in WORKED + SMALL}
+EARLIER = {own.sheet for own in WORKED + LAWFUL_REPEATED + SMALL}
 TAKEN = [Case(own.number, own.why, own.sheet) for own in sheet_cases.CASES if taken(own) and own.sheet not in EARLIER]
 
 
@@ -204,9 +249,10 @@ TOO_LONG = [
     too_long(11, "the longest sheet with a mark more", sheet_bytes.write(LONGEST, SPREAD, TOO_MANY_MARKS)),
     too_long(2, "the same with levels 4", sheet_bytes.write(LONGEST._replace(levels=4), SPREAD, TOO_MANY_MARKS)),
     too_long(4, "k = 2 and 1,000 added factors", sheet_bytes.write(Plan(2, 2, ((AB, 0),) * 1000), FOUR, [0] * 4)),
+    too_long(16, "k = 10 and 2 repeats", sheet_bytes.write(LONGEST._replace(repeats=2), SPREAD, NO_MARKS)),
 ]
 
-CASES = WORKED + EVERY_SIZE + LAWFUL + SMALL + TAKEN + FITTING + TOO_LONG
+CASES = WORKED + EVERY_SIZE + LAWFUL + LAWFUL_REPEATED + SMALL + TAKEN + FITTING + TOO_LONG
 
 
 # ---- sheets that are made: lawful contents ----
@@ -261,16 +307,16 @@ def made_marks(numbers, plan):
 
 
 def made_contents(numbers, sizes):
-    """Plan, readings and marks that are lawful, of one of some sizes."""
+    """Plan, readings and marks that are lawful, of one of some sizes; a third of the time with repeats, if it may have any."""
     levels, k = numbers.choose(sizes)
-    plan = made_plan(numbers, levels, k)
-    return Contents(plan, made_readings(numbers, levels, totals_rules.run_count(levels, k)), made_marks(numbers, plan))
+    plan = sheet_cases.with_repeats(numbers, made_plan(numbers, levels, k))
+    return Contents(plan, made_readings(numbers, levels, totals_rules.reading_count(plan)), made_marks(numbers, plan))
 
 
 # ---- sheets that are made: spoiled ----
 #
-# Each way takes numbers, and contents that are lawful or spoiled for higher refusals only. It gives contents to which its
-# refusal applies, and no lower one.
+# Each way takes numbers, and contents that are lawful or spoiled only for refusals that come later in the order of checks.
+# It gives contents to which its refusal applies, and none before it.
 
 def with_plan(contents, **values):
     """The contents with some values of the plan changed."""
@@ -351,6 +397,13 @@ def spoil_factor(numbers, contents):
     return with_block(numbers, contents, numbers.choose(words))
 
 
+def spoil_repeats(numbers, contents):
+    """Repeats that are not allowed; or that make too many readings, where there are enough runs."""
+    most = totals_rules.MOST_READINGS // totals_rules.run_count(contents.plan.levels, contents.plan.k)
+    too_large = tuple(repeats for repeats in totals_rules.REPEATS if repeats > most)
+    return with_plan(contents, repeats=numbers.choose((0, 3, 5, 6, 7, 9, 10, 12, 16, 32, 64, 128, 255) + too_large * 4))
+
+
 def spoil_lengths(numbers, contents):
     """Readings or marks too many or too few."""
     name = numbers.choose(("readings", "marks"))
@@ -384,6 +437,7 @@ SPOILS = {
     6: spoil_added,
     7: spoil_blocks,
     8: spoil_factor,
+    16: spoil_repeats,
     11: spoil_lengths,
     12: spoil_reading,
     13: spoil_mark,
@@ -398,9 +452,10 @@ def refusals_for(plan):
 
 
 def spoiled(numbers, contents):
-    """The contents spoiled for one to three refusals, the highest first; and their numbers, rising."""
+    """The contents spoiled for one to three refusals, the last in the order of checks first; and their numbers, in that
+    order."""
     possible = refusals_for(contents.plan)
-    chosen = sorted({numbers.choose(possible) for _ in range(numbers.choose((1, 1, 2, 3)))})
+    chosen = sorted({numbers.choose(possible) for _ in range(numbers.choose((1, 1, 2, 3)))}, key=totals_rules.ORDER.index)
     for number in reversed(chosen):
         contents = SPOILS[number](numbers, contents)
     return contents, chosen
@@ -438,7 +493,7 @@ NEAR_SEED = 1937
 def near(numbers):
     """A sheet that is made with readings near the limits."""
     contents, number = sheet_cases.near_contents(numbers)
-    return Case(number, "%s, near the limits" % LEVELS_NAMED[contents.plan.levels], sheet_bytes.write(*contents))
+    return Case(number, "%s, near the limits" % named(contents.plan), sheet_bytes.write(*contents))
 
 
 NEAR_NUMBERS = sheet_cases.Numbers(NEAR_SEED)
@@ -484,6 +539,13 @@ def sums(rows):
     return [sum(row.degrees for row in rows), sum(row.numerator for row in rows)]
 
 
+def size_of(figures):
+    """Levels and repeats of a table, from its rows and what stands after `over`; None if no plan has these."""
+    k = len(figures.rows).bit_length() - 1
+    return next(((levels, repeats) for levels in totals_rules.MOST_FACTORS for repeats in totals_rules.REPEATS
+                 if totals_rules.denominator(levels, k, repeats) == figures.over), None)
+
+
 # ---- checks: the coefficients and totals of rules/text.py ----
 
 def sample(count):
@@ -520,10 +582,13 @@ def text_of(own_sheet):
 
 
 def check_texts():
-    """The text that the rules print, the empty sheet, and one so long that 1 is printed where the reader answers 4."""
+    """The text that the rules print, that which is worked by hand, the empty sheet, and one so long that 1 is printed where
+    the reader answers 4."""
     complaints = []
     if text_rules.text(RULES_SHEET) != RULES_TEXT:
         complaints.append("text of 3, 5, 4, 8")
+    if text_rules.text(TWICE_SHEET) != TWICE_TEXT:
+        complaints.append("text of 3, 5 and 4, 8")
     if text_rules.text(b"") != b"refused 1\n":
         complaints.append("text of the empty sheet")
     many = sheet_bytes.write(Plan(2, 2, ((3, 0),) * 1000), [3, 5, 4, 8], [0, 0, 0, 1])
@@ -533,26 +598,39 @@ def check_texts():
 
 
 def check_rows(figures):
-    """Complaints about labels and degrees. The number of rows says how many factors there are, `over` what levels."""
+    """Complaints about labels and degrees. The number of rows says how many factors there are, `over` what levels and
+    repeats."""
     k = len(figures.rows).bit_length() - 1
     if [row.label for row in figures.rows] != [table_rules.row_label(row) for row in range(2 ** k)]:
         return ["labels"]
-    if figures.over not in (2 ** k, 6 ** k):
+    if size_of(figures) is None:
         return ["denominator"]
-    two_levels = figures.over == 2 ** k
-    meant = [1 if two_levels or row.label == MEAN else 2 ** len(row.label) for row in figures.rows]
+    levels, repeats = size_of(figures)
+    meant = [1 if levels == 2 or row.label == MEAN else 2 ** len(row.label) for row in figures.rows]
     complaints = ["degrees"] if [row.degrees for row in figures.rows] != meant else []
-    return complaints + (["degrees of the total"] if figures.total[0] != (2 if two_levels else 3) ** k else [])
+    return complaints + (["degrees of the total"] if figures.total[0] != levels ** k * repeats else [])
 
 
-def check_sums(figures):
-    """Complaints about sums: blocks and error are their rows; mean, kept rows, blocks and error are the total."""
+def squares_about_means(own, figures):
+    """Degrees and numerator of the squares of readings about their run's mean, in another way than that of rules/: as the
+    squares of all differences between two readings of a run, each pair once, over repeats."""
+    plan, readings, _ = sheet_bytes.contents_of(sheet_bytes.fields_of(own.sheet))
+    squares = sum((first - second) ** 2 for run in totals_rules.runs_of(plan.repeats, readings)
+                  for first, second in combinations(run, 2))
+    return [len(readings) - len(readings) // plan.repeats, figures.over * squares // plan.repeats]
+
+
+def check_sums(own, figures):
+    """Complaints about sums: blocks and error are their rows, the error with the squares about the means of runs; mean, kept
+    rows, blocks and error are the total."""
     complaints = []
     if figures.rows[0].kind:
         complaints.append("kind of the mean")
-    for name, meant in ((BLOCKS, figures.blocks), (ERROR, figures.error)):
-        if sums([row for row in figures.rows if row.kind == name]) != meant:
-            complaints.append(name)
+    if sums([row for row in figures.rows if row.kind == BLOCKS]) != figures.blocks:
+        complaints.append(BLOCKS)
+    error = zip(sums([row for row in figures.rows if row.kind == ERROR]), squares_about_means(own, figures))
+    if [sum(values) for values in error] != figures.error:
+        complaints.append(ERROR)
     mean_and_kept = sums([row for row in figures.rows if not row.kind])
     if [sum(values) for values in zip(mean_and_kept, figures.blocks, figures.error)] != figures.total:
         complaints.append("total")
@@ -569,13 +647,13 @@ def check_table(own, figures):
     meant = Printed(table.denominator, rows, list(table.blocks), list(table.error), list(table.total),
                     [table.sum_of_totals, table.check_number])
     complaints = [] if figures == meant else ["figures of the table"]
-    same = text_rules.totals(own.plan.levels, own.plan.k, own.readings) == table.totals
+    same = text_rules.totals(own.plan.levels, own.plan.k, analyses.sums_of(own)) == table.totals
     return complaints + ([] if same else ["totals of the table"])
 
 
 def check_figures(own, figures):
     """Complaints about the figures of the text of a sheet that is accepted."""
-    complaints = check_rows(figures) + check_sums(figures)
+    complaints = check_rows(figures) + check_sums(own, figures)
     if [row.kind == ERROR for row in figures.rows] != [mark == 1 for mark in sheet_bytes.marks_part(own.sheet)]:
         complaints.append("error rows are not those that are marked")
     return complaints + (check_table(own.table, figures) if own.table else [])
@@ -596,8 +674,13 @@ def check_case(own):
     return ["%s: %s" % (own.name, complaint) for complaint in complaints]
 
 
+def repeats_of(own):
+    """The repeats of a sheet that is accepted, and 0 for others."""
+    return sheet_bytes.read(own.sheet, sheet_cases.MOST_ROOM).plan.repeats
+
+
 def check_spread():
-    """Complaints about how often answers, refusals and ways of damage occur among the sheets that are made."""
+    """Complaints about how often answers, refusals, ways of damage and repeats occur among the sheets that are made."""
     answers = Counter(refused_of(text_of(own.sheet)) for own in MADE)
     kinds = Counter(own.name.partition(":")[0] for own in MADE)
     ways = Counter(way for own in MADE for way in own.name.partition(": ")[2].split(", "))
@@ -605,6 +688,8 @@ def check_spread():
                   if answers[number] < 4]
     complaints += ["made sheets: %s %d times" % (way, ways[way]) for way in [*map(str, SPOILS), *sheet_cases.DAMAGES]
                    if ways[way] < 3]
+    repeats = Counter(repeats_of(own) for own in MADE)
+    complaints += ["made sheets: %d repeats %d times" % (own, repeats[own]) for own in totals_rules.REPEATS if repeats[own] < 8]
     return complaints + ["made sheets: %d %s" % (kinds[kind], kind) for kind in kinds
                          if not MADE_COUNT / 4 < kinds[kind] < MADE_COUNT / 2]
 

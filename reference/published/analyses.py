@@ -1,5 +1,5 @@
 # Published analyses of variance: readings, block words and marks with the figures that are printed for their tables; and
-# tables of extreme readings at the largest plans.
+# tables of extreme readings at the largest plans, with repeats and without.
 #
 # Sources are named as in examples.py, whose readings are used where it has them. Readings of six more tables are here:
 # Yates's squares that interlace and his hay; Daniel's mangolds in pounds, half of the beans, lettuce and air pollution.
@@ -15,14 +15,20 @@
 #
 # Marks: a row has mark 1 if the source pools it as error, or leaves it out of the effects that it adds up.
 #
+# Repeats: where the single plots are the readings, the squares about the means of runs are what the source has for blocks,
+# rows, columns and error, added up; the rules have them all in the error.
+#
 # Defined here:
 #   TABLES                 the worked tables, numbered from 1 in this order
 #   FOUR_BLOCKS, SIX_ADDED, TEN, TEN_BLOCKED, TEN_ADDED, SIX
 #                          words and plans of ten factors, and the plan of six at three levels
+#   MOST_REPEATED          plans with repeats that have the most readings, by levels
 #   MENDS, OFF             damaged figures; figures further off than half a unit
 #   POOLED                 the report's columns in which rows of three levels are pooled, as far as they can be read
 #   KNOWN                  numerators of the extreme tables that are known without adding up
-#   marks_of, table_of     the marks of all rows, and the table, of a worked table
+#   in_turn, each          readings with repeats: both limits in turn, and values for each run
+#   marks_of, sums_of, table_of
+#                          the marks of all rows, the run sums, and the table, of a worked table
 #   check                  list of complaints, empty if all is well
 
 import re
@@ -292,6 +298,47 @@ DANIEL_AIR = worked(new_example(
 ])
 
 
+# ---- runs that are made several times ----
+
+# The figures of the sums, and besides them blocks, error and total: the readings are the single plots.
+POTATO_PLOTS = worked(examples.POTATO_PLOTS, "", YATES_POTATOES.printed + [
+    Printed("Table 7", "turned total", "rows", "9331 333 2271 105 2987 161 -669 -63", EXACT),
+    Printed("Table 8", "sum of squares", "error, corrected", "774.1+7287.6 466779.7"),
+    Printed("Table 8", "degrees", "error, corrected", "3+21 31", EXACT),
+])
+
+# As if n k d were confounded, each block being halved. Table 11 has the halves, those with n k d last.
+POTATO_BLOCKED = worked(examples.POTATO_PLOTS._replace(
+    title="Yates, potatoes, single plots, N.K.D confounded", blocks=(row_number("ABC"),)), "", [
+    Printed("Table 11", "block total", "0, 1", "1163+1157+1168+1209 1133+1134+1201+1166", EXACT),
+    Printed("Table 12", "sum of squares", "blocks, kept, error, corrected", "124.0 458593.9 774.1+421.9+6865.8 466779.7"),
+    Printed("Table 12", "degrees", "blocks, kept, error, corrected", "1 6 3+3+18 31", EXACT),
+    Printed("Table 12", "mean square", "blocks, kept", "124.0 76432.3"),
+])
+
+SUGAR_BEET_SINGLE = worked(examples.SUGAR_BEET_SINGLE, "BC ABC", YATES_SUGAR_BEET.printed + [
+    Printed("Section 8b", "turned total", "A, B, C, AB, AC", "109 -11 55 -147 -5", EXACT),
+    Printed("Table 29", "sum of squares", "error, corrected", "457.5+20488.4+2797.9+3460.6 28350.1"),
+    Printed("Table 29", "degrees", "error, corrected", "1+6+6+13 31", EXACT),
+])
+
+# D.S.N is marked as before; what Yates has for it in Table 48, being confounded in part, is another figure than in Table 47.
+BEET_PLOTS = worked(examples.BEET_PLOTS, "ABC", [
+    Printed("Table 47", "sum of squares", "mean, A+B+AB, A+C+AC, B+C+BC, A, B, C, ABC, kept+ABC",
+            "86584.10 341.52 275.13 329.77 94.47 107.80 150.14 94.22+216.84 905.06"),
+    Printed("Table 48", "sum of squares", "A, B, C, AB, AC, BC, error, corrected",
+            "94.47 107.80 150.14 139.25 30.52 71.83 1950.38+94.22+44.29+295.29 2978.19"),
+    Printed("Table 48", "degrees", "A, B, C, AB, AC, BC, ABC, error, corrected", "2 2 2 4 4 4 4+4 5+4+4+22 53", EXACT),
+    Printed("Table 48", "mean square", "A, B, C, AB, AC, BC", "47.24 53.90 75.07 34.81 7.63 17.96"),
+])
+
+# One plot is filled in, for which Daniel takes a degree off; blocks and residual are from rounded means. Neither is compared.
+DANIEL_BUDS = worked(examples.DANIEL_BUDS, "", [
+    Printed("Table 3.8", "sum of squares", "kept, corrected", "6557+766 8363"),
+    Printed("Table 3.8", "degrees", "kept", "1+2", EXACT),
+])
+
+
 # ---- the rules' own runs ----
 
 RULES_TWO_FACTORS = worked(examples.RULES_TWO_FACTORS, "AB", [
@@ -335,10 +382,20 @@ def by_spreading(plan):
     plus 1. No total is 0."""
     top = TOP[plan.levels]
     readings, number = [], 0
-    for _ in range(totals_rules.run_count(plan.levels, plan.k)):
+    for _ in range(totals_rules.reading_count(plan)):
         readings.append(number - top)
         number = (number * 9973 + 12345) % (2 * top + 1)
     return readings
+
+
+def in_turn(plan, top):
+    """The limit and its opposite in turn, so that every run has the sum 0."""
+    return [top, -top] * (totals_rules.reading_count(plan) // 2)
+
+
+def each(plan, values):
+    """For each run as many readings of its value as it is made."""
+    return [value for value in values for _ in range(plan.repeats)]
 
 
 def extreme(title, plan, readings, marked):
@@ -371,10 +428,39 @@ EXTREMES = [
     extreme("six factors at three levels, spread out", SIX, by_spreading(SIX), "AF BCDE ABCDEF"),
 ]
 
+# With repeats: as many readings as there may be, and at three levels also as many repeats.
+SEVEN_8, FIVE_4, FOUR_8 = Plan(2, 7, repeats=8), Plan(3, 5, repeats=4), Plan(3, 4, repeats=8)
+SEVEN_BLOCKED = Plan(2, 7, (), (row_number("ABC"), row_number("DEFG")), 8)
+MOST_REPEATED = {2: [SEVEN_8, Plan(2, 8, repeats=4), Plan(2, 9, repeats=2)], 3: [FOUR_8, FIVE_4]}
+ALL_SEVEN = "ABCDEFG"
+EXTREMES_REPEATED = [
+    extreme("seven factors, 8 repeats, all at the upper limit", SEVEN_8, each(SEVEN_8, by_signs(SEVEN_8, 0, TOP[2], 0)), "A"),
+    extreme("seven factors in 4 blocks, 8 repeats, all at the lower limit", SEVEN_BLOCKED,
+            each(SEVEN_BLOCKED, by_signs(SEVEN_BLOCKED, 0, -TOP[2], 0)), "G"),
+    extreme("seven factors in 4 blocks, 8 repeats, signs of effect 127", SEVEN_BLOCKED,
+            each(SEVEN_BLOCKED, by_signs(SEVEN_BLOCKED, 127, TOP[2], 0)), "A"),
+    extreme("seven factors, 8 repeats, both limits in turn", SEVEN_8, in_turn(SEVEN_8, TOP[2]), "A " + ALL_SEVEN),
+    extreme("seven factors, 8 repeats, spread out", SEVEN_8, by_spreading(SEVEN_8), "AB CDEFG " + ALL_SEVEN),
+    extreme("five factors at three levels, 4 repeats, all at the upper limit", FIVE_4,
+            each(FIVE_4, by_signs(FIVE_4, 0, TOP[3], 0)), "A"),
+    extreme("five factors at three levels, 4 repeats, all at the lower limit", FIVE_4,
+            each(FIVE_4, by_signs(FIVE_4, 0, -TOP[3], 0)), "ABCDE"),
+    extreme("five factors at three levels, 4 repeats, both limits in turn", FIVE_4, in_turn(FIVE_4, TOP[3]), "A ABCDE"),
+    extreme("five factors at three levels, 4 repeats, spread out", FIVE_4, by_spreading(FIVE_4), "AE BCD"),
+    extreme("four factors at three levels, 8 repeats, all at the upper limit", FOUR_8,
+            each(FOUR_8, by_signs(FOUR_8, 0, TOP[3], 0)), "D"),
+    extreme("four factors at three levels, 8 repeats, all at the lower limit", FOUR_8,
+            each(FOUR_8, by_signs(FOUR_8, 0, -TOP[3], 0)), ""),
+    extreme("four factors at three levels, 8 repeats, both limits in turn", FOUR_8, in_turn(FOUR_8, -TOP[3]), "AB"),
+    extreme("four factors at three levels, 8 repeats, spread out", FOUR_8, by_spreading(FOUR_8), "AD ABCD"),
+]
+
 # Numerators of the extreme tables that are known without adding up: every row but these is 0. Where every reading is at the
 # limit, the total is the most that the rules have. With the signs of effect 728 each factor gives 1 and 4 as its sum and
 # third combination, so 1 * 1 * 2 without its letter and 4 * 4 with it; with those of effect 364 all but 64 of 729 readings
 # are 0; and with those of effect 1 the readings' mean is a third of the limit, so that the mean has a ninth of the total.
+# With repeats the total is the denominator times the number of readings times the limit squared, with seven factors again
+# the most; where both limits take turns no row has any of it.
 KNOWN = {
     "ten factors, all at the upper limit": {"mean": MOST_NUMERATOR[2]},
     "ten factors in 16 blocks, all at the lower limit": {"mean": MOST_NUMERATOR[2]},
@@ -389,6 +475,16 @@ KNOWN = {
     "six factors at three levels, signs of effect 364, 0 at 0": {"ABCDEF": MOST_NUMERATOR[3] * 64 // 729},
     "six factors at three levels, signs of effect 1, the limit at 0":
         {"mean": MOST_NUMERATOR[3] // 9, "A": MOST_NUMERATOR[3] * 8 // 9},
+    "seven factors, 8 repeats, all at the upper limit": {"mean": MOST_NUMERATOR[2]},
+    "seven factors in 4 blocks, 8 repeats, all at the lower limit": {"mean": MOST_NUMERATOR[2]},
+    "seven factors in 4 blocks, 8 repeats, signs of effect 127": {ALL_SEVEN: MOST_NUMERATOR[2]},
+    "seven factors, 8 repeats, both limits in turn": {},
+    "five factors at three levels, 4 repeats, all at the upper limit": {"mean": 4 * 6 ** 5 * 972 * TOP[3] ** 2},
+    "five factors at three levels, 4 repeats, all at the lower limit": {"mean": 4 * 6 ** 5 * 972 * TOP[3] ** 2},
+    "five factors at three levels, 4 repeats, both limits in turn": {},
+    "four factors at three levels, 8 repeats, all at the upper limit": {"mean": 8 * 6 ** 4 * 648 * TOP[3] ** 2},
+    "four factors at three levels, 8 repeats, all at the lower limit": {"mean": 8 * 6 ** 4 * 648 * TOP[3] ** 2},
+    "four factors at three levels, 8 repeats, both limits in turn": {},
 }
 
 
@@ -400,6 +496,8 @@ TABLES = (
     + [DANIEL_LETTUCE, DANIEL_AIR]
     + [RULES_TWO_FACTORS, RULES_THREE_LEVELS, RULES_BLOCKS, RULES_ONE_FACTOR]
     + EXTREMES
+    + [POTATO_PLOTS, POTATO_BLOCKED, SUGAR_BEET_SINGLE, BEET_PLOTS, DANIEL_BUDS]
+    + EXTREMES_REPEATED
 )
 
 
@@ -439,6 +537,16 @@ OFF = [
     Off("Yates, hay", "Table 42", "sum of squares", 2, "0.78", CUT),
     Off("Yates, hay", "Table 42", "mean square", 1, "0.70", "115.85 / 2"),
     Off("Daniel, 3^2 on air pollution", "Table 4.6", "mean square", 2, "0.56", "7306 / 4"),
+    Off("Yates, potatoes, single plots", "Table 9", "sum of squares", 7, "0.69",
+        "3465.3 + 161170.0 + 344.5 + 278817.8 + 810.0 + 13986.3 + 124.0"),
+    Off("Yates, sugar beet in squares, single plots", "Table 29", "sum of squares", 1, "1.19",
+        "457.5 + 20488.4 + 2797.9 + 1145.7 + 3460.6"),
+    Off("Yates, sugar beet, single plots", "Table 47", "sum of squares", 4, "0.82", CUT),
+    Off("Yates, sugar beet, single plots", "Table 47", "sum of squares", 7, "1.15", CUT),
+    Off("Yates, sugar beet, single plots", "Table 47", "sum of squares", 8, "0.71", CUT),
+    Off("Yates, sugar beet, single plots", "Table 48", "sum of squares", 0, "0.82", CUT),
+    Off("Yates, sugar beet, single plots", "Table 48", "sum of squares", 3, "1.15", "341.52 - 94.47 - 107.80"),
+    Off("Yates, sugar beet, single plots", "Table 48", "sum of squares", 4, "1.15", "275.13 - 94.47 - 150.14"),
 ]
 
 
@@ -494,12 +602,12 @@ DEVIATIONS = [(DANIEL_AIR, DOWN, "96 -251 155"), (DANIEL_AIR, ACROSS, "232 -60 -
 
 # ---- the tables ----
 
-def quick_totals(levels, k, readings):
+def quick_totals(levels, k, sums):
     """The totals, found for each level of the highest factor by themselves and then combined by its coefficient rows."""
     if k == 0:
-        return list(readings)
+        return list(sums)
     size = totals_rules.run_count(levels, k - 1)
-    parts = [quick_totals(levels, k - 1, readings[start:start + size]) for start in range(0, len(readings), size)]
+    parts = [quick_totals(levels, k - 1, sums[start:start + size]) for start in range(0, len(sums), size)]
     return [sum(factor * part[effect] for factor, part in zip(row, parts))
             for row in totals_rules.COEFFICIENTS[levels] for effect in range(size)]
 
@@ -509,9 +617,14 @@ def marks_of(own):
     return [1 if row in own.marked else 0 for row in range(table_rules.row_count(own.plan.k))]
 
 
+def sums_of(own):
+    """The sum of the readings of each run."""
+    return totals_rules.run_sums(own.plan.repeats, own.readings)
+
+
 def table_of(own):
     """The table, with totals by the quicker way; check_table() compares them with the definition."""
-    totals = quick_totals(own.plan.levels, own.plan.k, own.readings)
+    totals = quick_totals(own.plan.levels, own.plan.k, sums_of(own))
     return table_rules.table_of_totals(own.plan, own.readings, marks_of(own), totals)
 
 
@@ -535,13 +648,14 @@ def part_of(own, table, name):
         return table_rules.Part(table.total.degrees - 1, table.total.numerator - table.mean.numerator)
     if name.isalpha():
         return table.rows[row_number(name)]
-    effect = effect_number(own.plan.levels, name)
-    return table_rules.Part(1, totals_rules.numerator(own.plan.levels, own.plan.k, effect, table.totals[effect]))
+    levels, k, _, _, repeats = own.plan
+    effect = effect_number(levels, name)
+    return table_rules.Part(1, totals_rules.numerator(levels, k, effect, table.totals[effect], repeats))
 
 
 def block_total(own, number):
     """The sum of the readings of a block, by its number."""
-    return sum(reading for run, reading in enumerate(own.readings) if block_of(own.plan, run) == number)
+    return sum(own_sum for run, own_sum in enumerate(sums_of(own)) if block_of(own.plan, run) == number)
 
 
 def effect_total(own, table, name):
@@ -684,8 +798,8 @@ def pooled_once(column):
 
 def check_rows(own, table):
     """Rows and their degrees in another way: at two levels the effects themselves, at three the report's pooling."""
-    levels, k = own.plan.levels, own.plan.k
-    column = [totals_rules.numerator(levels, k, effect, total) for effect, total in enumerate(table.totals)]
+    levels, k, _, _, repeats = own.plan
+    column = [totals_rules.numerator(levels, k, effect, total, repeats) for effect, total in enumerate(table.totals)]
     if levels == 3:
         for _ in range(k):
             column = pooled_once(column)
@@ -694,18 +808,26 @@ def check_rows(own, table):
 
 
 def check_blocks(own, table):
-    """Mean and blocks together in another way: the squared sums of the blocks, over their runs."""
+    """Mean and blocks together in another way: the squared sums of the blocks, over their readings."""
     numbers = range(2 ** len(own.plan.blocks))
-    runs = Fraction(len(own.readings), len(numbers))
+    readings = Fraction(len(own.readings), len(numbers))
     squares = sum(block_total(own, number) ** 2 for number in numbers)
-    meant = table_rules.Part(len(numbers), squares / runs * table.denominator)
+    meant = table_rules.Part(len(numbers), squares / readings * table.denominator)
     return [] if table_rules.added_up([table.mean, table.blocks]) == meant else ["blocks"]
 
 
 def spot_effects(own):
     """Effects whose totals are compared with the definition: all of them, of large plans a few."""
     count = totals_rules.run_count(own.plan.levels, own.plan.k)
-    return range(count) if count <= 81 else (0, 1, 2, 364, 511, count - 1)
+    return range(count) if count <= 81 else [effect for effect in (0, 1, 2, 364, 511, count - 1) if effect < count]
+
+
+def check_within(own, table):
+    """The squares about the means in another way: the squares of all readings, less those of the run sums over repeats."""
+    repeats, runs = own.plan.repeats, len(sums_of(own))
+    squares = sum(reading ** 2 for reading in own.readings) - Fraction(sum(own_sum ** 2 for own_sum in sums_of(own)), repeats)
+    meant = table_rules.Part(len(own.readings) - runs, squares * table.denominator)
+    return [] if table.within == meant else ["squares about the means of runs"]
 
 
 def beyond_limits(own, table):
@@ -722,18 +844,19 @@ def check_table(own, table):
     lengths = len(table.totals), len(table.rows)
     if table_rules.table_answer(own.plan, own.readings, marks_of(own), *lengths) != totals_rules.DONE:
         complaints.append("not accepted")
-    if any(table.totals[effect] != totals_rules.total(levels, k, own.readings, effect) for effect in spot_effects(own)):
+    sums = sums_of(own)
+    if any(table.totals[effect] != totals_rules.total(levels, k, sums, effect) for effect in spot_effects(own)):
         complaints.append("totals")
     parts = [getattr(table, kind) for kind in table_rules.KINDS]
-    if table_rules.added_up(parts) != table.total or table_rules.added_up(table.rows) != table.total:
+    if table_rules.added_up(parts) != table.total or table_rules.added_up(table.rows + [table.within]) != table.total:
         complaints.append("mean, kept, blocks and error do not add up to the total")
     if table.sum_of_totals != table.check_number:
         complaints.append("check numbers")
     if beyond_limits(own, table):
         complaints.append("beyond the limits")
-    if table.error.degrees != sum(table_rules.row_degrees(levels, row) for row in own.marked):
+    if table.error.degrees != sum(table_rules.row_degrees(levels, row) for row in own.marked) + len(own.readings) - len(sums):
         complaints.append("degrees of error")
-    return complaints + check_rows(own, table) + check_blocks(own, table)
+    return complaints + check_rows(own, table) + check_blocks(own, table) + check_within(own, table)
 
 
 def check_known(own, table):

@@ -1,5 +1,5 @@
 # Published worked examples: readings, step columns and totals; and the expected text of the program that works them, and
-# that tries steps, passes and totals at their limits.
+# that tries steps, passes and totals at their limits and with repeats that are allowed or not.
 #
 # Sources:
 #   report   J. M. Cameron, Computing the analysis of variance of factorial experiments on automatic computers,
@@ -29,18 +29,25 @@
 # given here, and that it stays the only one if any one of the whole figures is left out. The readings then settle every
 # figure that is damaged or not shown.
 #
+# Repeats: the last four examples have the single plots of others, each a reading, several for each run. Steps, totals and
+# passes are those of the run sums, and what is said above of readings holds for the run sums. The single readings are
+# compared with sums of a block or of a replication, where these are printed.
+#
 # Defined here:
 #   EXAMPLES               the examples, numbered from 1 in this order
 #   MENDS                  the damaged figures
-#   whole_readings         the readings of an example as whole numbers in standard order
+#   whole_readings         the readings of an example as whole numbers, in standard order of the runs
+#   sums_of                the sum of the readings of each run
 #   plan                   the plan of an example
 #   check                  list of complaints about figures and mends, empty if all is well
 #   limit_lines            what the program writes of columns about the limits
+#   repeats_line           what it writes of repeats that are allowed or not
 #   expected_text          the expected text
 
 import sys
 from collections import namedtuple
 from fractions import Fraction
+from itertools import product
 from os.path import abspath, dirname
 
 sys.path.insert(0, dirname(dirname(dirname(abspath(__file__)))))
@@ -48,8 +55,9 @@ sys.path.insert(0, dirname(dirname(dirname(abspath(__file__)))))
 from reference.rules import totals as totals_rules
 
 # places: decimals of the readings. turned: differences last minus first. plots: how many plots one reading adds up.
-# added, blocks: the plan's added factors (word, sign) and block words. readings: as meant, in standard order.
-Example = namedtuple("Example", "title source where levels k places turned plots added blocks readings printed")
+# added, blocks: the plan's added factors (word, sign) and block words. repeats: how often each run is made. readings: as
+# meant, in standard order of the runs, with all readings of a run together.
+Example = namedtuple("Example", "title source where levels k places turned plots added blocks repeats readings printed")
 
 # kind: a number j for the column after j steps (0 for the readings, k for the totals), else a key of KINDS.
 # effects: for the kind "added parts" the effects whose parts are added.
@@ -62,9 +70,10 @@ LACKING = "?"
 NOT_PRINTED = "."
 
 
-def worked(title, source, where, levels, k, readings, printed, places=0, turned=False, plots=1, added=(), blocks=()):
+def worked(title, source, where, levels, k, readings, printed, places=0, turned=False, plots=1, added=(), blocks=(),
+           repeats=1):
     """An example, with the usual values for what is not said of it."""
-    return Example(title, source, where, levels, k, places, turned, plots, added, blocks, readings, printed)
+    return Example(title, source, where, levels, k, places, turned, plots, added, blocks, repeats, readings, printed)
 
 
 # ---- the report: four factors at two levels ----
@@ -402,12 +411,79 @@ RULES_ONE_FACTOR = worked("rules, one factor", "rules", "Reference runs", 2, 1, 
 ])
 
 
+# ---- runs that are made several times ----
+
+# Yates, Table 1: the plots of each block, treatment and yield. Each block prints a treatment twice, of which one is meant
+# for n k d; check_labels() tests that in one way alone the run sums are those of Table 7.
+POTATO_BLOCKS = [
+    "nk 291 kd 398 d 312 nd 373 (1) 101 k 265 n 106 nk>nkd 450",
+    "kd 407 d 324 k 272 nk 306 n 89 nk>nkd 449 nd 338 (1) 106",
+    "d 323 (1) 87 nd 324 kd 423 nk 334 k 279 n 128 nk>nkd 471",
+    "nd 361 nk 272 n 103 d 324 k 302 (1) 131 nk>nkd 437 kd 445",
+]
+POTATO_TREATMENTS = "(1) n k nk d nd kd nkd".split()
+
+# Yates, Table 44: blocks by replications, Y and Z, and in each the plots, treatment and yield. The first figure of a
+# treatment is 1 more than the level of d and three times that of s, the second is the level of n.
+BEET_BLOCKS = [
+    ["41 49.7 10 47.8 32 44.1 21 52.5 52 49.3 91 46.2 60 47.1 80 47.2 72 56.0",
+     "62 52.2 51 52.7 20 47.8 90 35.2 82 45.4 40 44.6 31 46.0 71 51.4 12 50.5",
+     "42 50.9 61 38.2 22 43.0 81 36.5 30 38.0 11 45.7 50 37.1 92 34.2 70 35.4"],
+    ["80 32.4 92 37.7 10 39.4 22 43.1 71 34.9 51 34.2 42 36.0 60 33.5 31 26.6",
+     "90 31.3 20 36.4 11 39.4 61 35.3 32 29.9 81 34.4 40 33.3 52 33.6 72 31.9",
+     "12 33.6 82 31.4 70 25.7 50 33.0 41 36.6 62 41.4 91 37.6 30 33.2 21 41.8"],
+]
+BEET_BLOCK_SUMS = ["439.9 425.8 359.0", "317.8 305.5 314.3"]
+BEET_TREATMENTS = ["%d%d" % (first, second) for second in range(3) for first in range(1, 10)]
+
+
+def plots_of(block):
+    """The yields of a block's plots by treatment, each treatment as it is meant."""
+    words = block.split()
+    return {label.rpartition(">")[2]: plot for label, plot in zip(words[::2], words[1::2])}
+
+
+def by_runs(treatments, blocks):
+    """The yields of each treatment, a plot of each block, treatment after treatment."""
+    return " ".join(plots_of(block)[treatment] for treatment in treatments for block in blocks)
+
+
+POTATO_PLOTS = worked(
+    "Yates, potatoes, single plots", "Yates", "Sections 2 and 3, Tables 1, 7 and 8; factors n, k, d", 2, 3,
+    by_runs(POTATO_TREATMENTS, POTATO_BLOCKS), [
+        Printed("Table 1, block totals", "sums of repeats", "2296 2291 2369 2375"),
+        Printed("Table 1, total", "sum", "9331"),
+    ] + YATES_POTATOES.printed, turned=True, repeats=4)
+
+SUGAR_BEET_SINGLE = worked(
+    "Yates, sugar beet in squares, single plots", "Yates", "Section 8b, Tables 28 and 29; factors n, p, k", 2, 3,
+    " ".join(SUGAR_BEET_PLOTS), YATES_SUGAR_BEET.printed, turned=True, repeats=4)
+
+BEET_PLOTS = worked(
+    "Yates, sugar beet, single plots", "Yates", "Section 10b, Tables 44 to 48; factors d, s, n", 3, 3,
+    by_runs(BEET_TREATMENTS, [" ".join(blocks) for blocks in BEET_BLOCKS]), [
+        Printed("Table 46", "sums of repeats", "1224.7 937.6"),
+    ] + YATES_BOTH_REPLICATIONS.printed, places=1, turned=True, repeats=2)
+
+# One plot, the first of run ab, is missing and was filled in by the source. Its effects are over all sixteen plots; that of
+# AB, 8.5, is not from the sums, as the other three are, but from rounded means, and is left out.
+DANIEL_BUDS = worked(
+    "Daniel, 2^2 on bud take, in four blocks", "Daniel", "Section 3.6.4, Table 3.7", 2, 2,
+    "64 75 76 73 23 14 12 33 30 50 41 25 15 33 17 10", [
+        Printed("Table 3.7, sums of columns", 0, "288 82 146 75"),
+        Printed("Table 3.7, sum", 2, "591 . . ."),
+        Printed("Table 3.7, sums of rows", "sums of repeats", "132 172 146 141"),
+        Printed("Section 3.6.4, effects", "means", "37 -17.3 -9.3 ."),
+    ], turned=True, repeats=4)
+
+
 EXAMPLES = (
     [REPORT_TWO_LEVELS, AMCP_WHOLE, AMCP_HALF, YATES_POTATOES, YATES_BEANS, YATES_SUGAR_BEET]
     + YATES_TABLE_38
     + [DANIEL_SAMPLE, DANIEL_CEMENT, DANIEL_DRILL, DANIEL_MANGOLDS, DANIEL_QUARTER]
     + [REPORT_THREE_LEVELS, YATES_TWO_OF_THREE, YATES_FIRST_REPLICATION, YATES_BOTH_REPLICATIONS]
     + [RULES_TWO_FACTORS, RULES_THREE_LEVELS, RULES_BLOCKS, RULES_ONE_FACTOR]
+    + [POTATO_PLOTS, SUGAR_BEET_SINGLE, BEET_PLOTS, DANIEL_BUDS]
 )
 
 
@@ -463,19 +539,24 @@ MENDS = (
 # ---- what the figures must be ----
 
 def whole_readings(example):
-    """The readings as whole numbers, in standard order."""
+    """The readings as whole numbers, in standard order of the runs."""
     return [int(Fraction(reading) * 10 ** example.places) for reading in example.readings.split()]
+
+
+def sums_of(example):
+    """The sum of the readings of each run, in whole numbers."""
+    return totals_rules.run_sums(example.repeats, whole_readings(example))
 
 
 def plan(example):
     """The plan of an example."""
-    return totals_rules.Plan(example.levels, example.k, example.added, example.blocks)
+    return totals_rules.Plan(example.levels, example.k, example.added, example.blocks, example.repeats)
 
 
 def columns(example):
-    """The readings and the columns after 1 to k steps, in whole numbers."""
-    readings = whole_readings(example)
-    return [readings] + totals_rules.steps(example.levels, example.k, readings)
+    """The run sums and the columns after 1 to k steps, in whole numbers."""
+    sums = sums_of(example)
+    return [sums] + totals_rules.steps(example.levels, example.k, sums)
 
 
 def sign(example, step, place):
@@ -499,8 +580,19 @@ def column_in_print(example, step):
 
 def parts_in_print(example):
     """For each effect its total squared, over its divisor and the plots of a reading."""
-    return [total ** 2 / (totals_rules.divisor(example.levels, example.k, effect) * example.plots)
-            for effect, total in enumerate(column_in_print(example, example.k))]
+    levels, k, repeats = example.levels, example.k, example.repeats
+    return [total ** 2 / (totals_rules.divisor(levels, k, effect, repeats) * example.plots)
+            for effect, total in enumerate(column_in_print(example, k))]
+
+
+def readings_in_print(example):
+    """The single readings, in the unit of the print."""
+    return [in_print(example, reading) for reading in whole_readings(example)]
+
+
+def sums_of_repeats(example):
+    """For each repeat, the first first, the sum of its readings over all runs."""
+    return [sum(readings_in_print(example)[repeat::example.repeats]) for repeat in range(example.repeats)]
 
 
 # What the figures of each kind must be. Columns are found by their number.
@@ -510,15 +602,18 @@ KINDS = {
     "differences": lambda example, printed: [total / 2 ** (example.k - 1) for total in column_in_print(example, example.k)],
     "parts": lambda example, printed: parts_in_print(example),
     "added parts": lambda example, printed: [sum(parts_in_print(example)[effect] for effect in printed.effects)],
+    "means": lambda example, printed: [total / len(readings_in_print(example))
+                                       for total in column_in_print(example, example.k)],
     "sum": lambda example, printed: [sum(column_in_print(example, 0))],
-    "sum of squares": lambda example, printed: [sum(value ** 2 for value in column_in_print(example, 0))],
+    "sum of squares": lambda example, printed: [sum(value ** 2 for value in readings_in_print(example))],
+    "sums of repeats": lambda example, printed: sums_of_repeats(example),
     "sum of totals": lambda example, printed: [sum(column_in_print(example, example.k))],
     "sum of squared totals": lambda example, printed: [sum(value ** 2 for value in column_in_print(example, example.k))],
 }
 
 # Kinds that the sources round, and by how many units of its last decimal a figure may be off: parts are rounded, and
 # some are made from rounded ones; sums add up rounded parts.
-ROUNDED = {"differences": Fraction(1, 2), "parts": 1, "added parts": 2}
+ROUNDED = {"differences": Fraction(1, 2), "means": Fraction(1, 2), "parts": 1, "added parts": 2}
 
 
 def figures_meant(example, printed):
@@ -545,17 +640,18 @@ def mends_of(example, printed):
 
 def check_rules(example):
     """Complaints of the rules: plan and readings accepted, totals by the definition after k steps, both checks."""
-    levels, k, readings = example.levels, example.k, whole_readings(example)
-    found = totals_rules.totals(levels, k, readings)
+    levels, k, repeats = example.levels, example.k, example.repeats
+    readings, sums = whole_readings(example), sums_of(example)
+    found = totals_rules.totals(levels, k, sums)
     complaints = []
     if totals_rules.totals_answer(plan(example), readings, found) != totals_rules.DONE:
         complaints.append("not accepted")
     if columns(example)[k] != found:
         complaints.append("k steps do not give the totals by the definition")
-    numerators = [totals_rules.numerator(levels, k, effect, total) for effect, total in enumerate(found)]
-    if sum(numerators) != totals_rules.denominator(levels, k) * sum(reading ** 2 for reading in readings):
+    squares = sum(Fraction(total ** 2, totals_rules.divisor(levels, k, effect, repeats)) for effect, total in enumerate(found))
+    if squares + totals_rules.squares_about_means(repeats, readings) != sum(reading ** 2 for reading in readings):
         complaints.append("sum of squares")
-    if sum(found) != totals_rules.check_number(levels, k, readings):
+    if sum(found) != totals_rules.check_number(levels, k, sums):
         complaints.append("check sum")
     return complaints
 
@@ -581,7 +677,7 @@ def check_printed(example, printed):
 
 
 def whole_figures(example):
-    """The (step, place) of every figure of readings, step columns and totals that is shown and has no mend."""
+    """The (step, place) of every figure of run sums, step columns and totals that is shown and has no mend."""
     found = set()
     for printed in example.printed:
         if printed.kind in KINDS:
@@ -593,7 +689,7 @@ def whole_figures(example):
 
 
 def equations(example):
-    """For each step and place the coefficients of the readings in the figure there."""
+    """For each step and place the coefficients of the run sums in the figure there."""
     count = totals_rules.run_count(example.levels, example.k)
     found = {}
     for run in range(count):
@@ -627,7 +723,7 @@ def eliminate(rows, width):
 
 
 def check_settled(example):
-    """The whole figures settle all readings, and still do if any one of them is left out.
+    """The whole figures settle all run sums, and still do if any one of them is left out.
 
     Full rank modulo a prime is full rank. Beside each equation stands which figure it came from, so what is left of
     the equations beyond the rank are the relations between figures; a figure that is in one of them follows from others."""
@@ -652,6 +748,35 @@ def check_doubtful():
     return [] if eliminate(sure, count)[1] == count else [example.title + ": readings need figures at doubtful places"]
 
 
+def mended_at(block, place):
+    """A block whose second n k, or first, is taken for n k d; place says which of the two."""
+    words = block.replace("nk>nkd", "nk").split()
+    words[[at for at, word in enumerate(words) if word == "nk"][place]] = "nk>nkd"
+    return " ".join(words)
+
+
+def check_labels():
+    """Of all ways to take one of the two n k of each block of Table 1 for n k d, one alone has the run sums of Table 7; and
+    these are the readings that are used."""
+    ways = [[mended_at(block, place) for block, place in zip(POTATO_BLOCKS, places)] for places in product(range(2), repeat=4)]
+    meant = sums_of(YATES_POTATOES)
+    fitting = [blocks for blocks in ways
+               if sums_of(POTATO_PLOTS._replace(readings=by_runs(POTATO_TREATMENTS, blocks))) == meant]
+    return [] if fitting == [POTATO_BLOCKS] else ["Yates, Table 1: labels"]
+
+
+def check_beet_blocks():
+    """The sums of the blocks of Table 44 are those that it prints, and its first replication that of Section 12."""
+    complaints = []
+    for blocks, printed in zip(BEET_BLOCKS, BEET_BLOCK_SUMS):
+        sums = [sum(Fraction(plot) for plot in plots_of(block).values()) for block in blocks]
+        if sums != [Fraction(figure) for figure in printed.split()]:
+            complaints.append("Yates, Table 44: block sums " + printed)
+    if whole_readings(BEET_PLOTS)[::2] != whole_readings(YATES_FIRST_REPLICATION):
+        complaints.append("Yates, Table 44: first replication")
+    return complaints
+
+
 def check_mends():
     """Complaints about mends given twice or of no printed column."""
     labels = {(example.title, printed.label) for example in EXAMPLES for printed in example.printed}
@@ -671,7 +796,7 @@ def check_example(example):
 
 def check():
     """List of all complaints about the examples and the mends."""
-    complaints = check_mends() + check_doubtful()
+    complaints = check_mends() + check_doubtful() + check_labels() + check_beet_blocks()
     for example in EXAMPLES:
         complaints += check_example(example)
     return complaints
@@ -694,14 +819,14 @@ def pass_orders(k):
 
 def example_lines(number, example):
     """The lines of one example: its steps, its totals, and the totals again for every order of passes."""
-    readings = whole_readings(example)
-    totals = values_text(totals_rules.totals(example.levels, example.k, readings))
-    lines = ["example %d: %d levels, %d factors" % (number, example.levels, example.k)]
-    for step, column in enumerate(totals_rules.steps(example.levels, example.k, readings), 1):
+    sums = sums_of(example)
+    totals = values_text(totals_rules.totals(example.levels, example.k, sums))
+    lines = ["example %d: %d levels, %d factors, %d repeats" % (number, example.levels, example.k, example.repeats)]
+    for step, column in enumerate(totals_rules.steps(example.levels, example.k, sums), 1):
         lines.append("step %d:%s" % (step, values_text(column)))
     lines.append("totals:" + totals)
     for calls in pass_orders(example.k):
-        answers = [totals_rules.pass_answer(plan(example), call, readings) for call in calls]
+        answers = [totals_rules.pass_answer(plan(example), call, sums) for call in calls]
         lines.append("calls%s, answers%s:%s" % (values_text(calls), values_text(answers), totals))
     return lines
 
@@ -753,14 +878,34 @@ def limit_lines(levels, place):
     return lines
 
 
+# Levels, factors and repeats that are tried: of one factor, of the most readings that a plan may have and of the next more,
+# and of levels or factors that are refused before.
+REPEATS_TRIED = [(2, 1, repeats) for repeats in (0, 1, 2, 3, 4, 5, 8, 9, 16, 128, 255)] + [
+    (2, 10, 1), (2, 10, 2), (2, 9, 2), (2, 9, 4), (2, 8, 4), (2, 8, 8), (2, 7, 8),
+    (3, 6, 1), (3, 6, 2), (3, 5, 4), (3, 5, 8), (3, 4, 8), (4, 1, 3), (2, 11, 3),
+]
+TRIED_VALUES, TRIED_READINGS = 2, 16
+
+
+def repeats_line(levels, k, repeats):
+    """What step, passes and totals answer to a plan, whose columns have two places and whose readings are sixteen; the second
+    pass is of no base factor."""
+    own, column, readings = totals_rules.Plan(levels, k, repeats=repeats), [0] * TRIED_VALUES, [0] * TRIED_READINGS
+    answers = (totals_rules.step_answer(own, column, column), totals_rules.pass_answer(own, 0, column),
+               totals_rules.pass_answer(own, k, column), totals_rules.totals_answer(own, readings, column))
+    return "levels %d, factors %d, repeats %d: step %d, pass %d, pass of no factor %d, totals %d" % (
+        levels, k, repeats, *answers)
+
+
 def expected_text():
-    """What the program that works the examples and tries the limits must write."""
+    """What the program that works the examples and tries limits and repeats must write."""
     lines = []
     for number, example in enumerate(EXAMPLES, 1):
         lines += example_lines(number, example)
     for levels in (2, 3):
         for place in range(levels):
             lines += limit_lines(levels, place)
+    lines += [repeats_line(*tried) for tried in REPEATS_TRIED]
     return "".join(line + "\n" for line in lines)
 
 

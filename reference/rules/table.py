@@ -1,11 +1,12 @@
 # Reference program for factorial tables, second part: the table and the estimate, straight from the wording of the
 # rules.
 #
-# Plans, totals, numerators and words are those of totals.py. Like it, this file is written apart from the proved
+# Plans, run sums, totals, numerators and words are those of totals.py. Like it, this file is written apart from the proved
 # program and shares nothing with it.
 #
 # Names: a row is a set of base letters, bit 0 for A. There are R rows, 2 to the power k. An effect uses the letters whose
-# digits in its number are not 0. Each row has a mark, 0 or 1, and is of one kind: mean, blocks, error or kept.
+# digits in its number are not 0. Each row has a mark, 0 or 1, and is of one kind: mean, blocks, error or kept. Rows are
+# those of the run sums. The squares of readings about their run's mean are no row and join the error.
 #
 # Defined here:
 #   row_count, row_label, row_number    R, the label of a row, and the row of a label
@@ -13,10 +14,11 @@
 #   row_degrees, row_numerators         degrees and numerators of rows
 #   row_kinds                           the kind of every row
 #   Part, Table                         a part of a table, and a table
+#   within_runs                         the part of the squares of readings about their run's mean
 #   table, table_of_totals              the table of readings and marks; the same where the totals are already there
-#   table_answer                        0, or the lowest of 2 to 8, 11, 12, 13 that applies
+#   table_answer                        0, or the first of 2 to 8, 16, 11, 12, 13 that applies
 #   estimate                            mean, difference or lost, with the exact quotient; a difference is high minus low
-#   estimate_answer                     0, or the lowest of 2 to 8, 9, 10, 12 that applies
+#   estimate_answer                     0, or the first of 2 to 8, 16, 9, 10, 12 that applies
 #   exact_double, double_pattern        the double that is exactly a quotient, and its 64 bits as a number
 
 import struct
@@ -31,8 +33,9 @@ KINDS = (MEAN, KEPT, BLOCKS, ERROR)
 # A part of a table: its degrees, and its numerator over the table's denominator.
 Part = namedtuple("Part", "degrees numerator")
 
-# mean, kept, blocks, error and total are parts; rows are the parts of the single rows, and kinds their kinds.
-Table = namedtuple("Table", "denominator mean kept blocks error total sum_of_totals check_number totals rows kinds")
+# mean, kept, blocks, error and total are parts; rows are the parts of the single rows, and kinds their kinds. within is the
+# part of the error that is no row.
+Table = namedtuple("Table", "denominator mean kept blocks error total sum_of_totals check_number totals rows kinds within")
 
 
 # ---- rows ----
@@ -64,11 +67,12 @@ def row_degrees(levels, row):
     return 2 ** totals_rules.letter_count(row)
 
 
-def row_numerators(levels, k, totals):
+def row_numerators(plan, totals):
     """For each row the sum of the numerators of every effect using exactly its letters."""
+    levels, k = plan.levels, plan.k
     sums = [0] * row_count(k)
     for effect, total in enumerate(totals):
-        sums[letters_used(levels, k, effect)] += totals_rules.numerator(levels, k, effect, total)
+        sums[letters_used(levels, k, effect)] += totals_rules.numerator(levels, k, effect, total, plan.repeats)
     return sums
 
 
@@ -93,28 +97,38 @@ def added_up(parts):
     return Part(sum(part.degrees for part in parts), sum(part.numerator for part in parts))
 
 
+def within_runs(plan, readings):
+    """The squares of readings about their run's mean, over the denominator: N times (repeats - 1) degrees."""
+    over = totals_rules.denominator(plan.levels, plan.k, plan.repeats)
+    numerator = over * totals_rules.squares_about_means(plan.repeats, readings)
+    if numerator.denominator != 1:
+        raise ValueError("the squares about the means, over the denominator, are not whole: %s" % numerator)
+    return Part(totals_rules.run_count(plan.levels, plan.k) * (plan.repeats - 1), int(numerator))
+
+
 def table_of_totals(plan, readings, marks, totals):
     """The table of an accepted plan, its readings and marks, where the totals are already there."""
-    levels, k = plan.levels, plan.k
-    over = totals_rules.denominator(levels, k)
-    rows = [Part(row_degrees(levels, row), numerator)
-            for row, numerator in enumerate(row_numerators(levels, k, totals))]
-    kinds = row_kinds(plan, marks)
+    levels, k, repeats = plan.levels, plan.k, plan.repeats
+    over = totals_rules.denominator(levels, k, repeats)
+    rows = [Part(row_degrees(levels, row), numerator) for row, numerator in enumerate(row_numerators(plan, totals))]
+    kinds, within = row_kinds(plan, marks), within_runs(plan, readings)
     of_kind = {kind: added_up([part for part, own in zip(rows, kinds) if own == kind]) for kind in KINDS}
-    total = Part(totals_rules.run_count(levels, k), over * sum(reading ** 2 for reading in readings))
-    return Table(over, of_kind[MEAN], of_kind[KEPT], of_kind[BLOCKS], of_kind[ERROR], total,
-                 sum(totals), totals_rules.check_number(levels, k, readings), totals, rows, kinds)
+    total = Part(totals_rules.reading_count(plan), over * sum(reading ** 2 for reading in readings))
+    check_number = totals_rules.check_number(levels, k, totals_rules.run_sums(repeats, readings))
+    return Table(over, of_kind[MEAN], of_kind[KEPT], of_kind[BLOCKS], added_up([of_kind[ERROR], within]), total,
+                 sum(totals), check_number, totals, rows, kinds, within)
 
 
 def table(plan, readings, marks):
     """The table of an accepted plan, its readings and marks, with totals by the definition."""
-    return table_of_totals(plan, readings, marks, totals_rules.totals(plan.levels, plan.k, readings))
+    sums = totals_rules.run_sums(plan.repeats, readings)
+    return table_of_totals(plan, readings, marks, totals_rules.totals(plan.levels, plan.k, sums))
 
 
 def wrong_lengths(plan, readings, marks, totals_length, rows_length):
-    """Refusal 11: readings, totals, rows or marks not N, N, R, R long."""
+    """Refusal 11: readings, totals, rows or marks not N times repeats, N, R, R long."""
     runs, rows = totals_rules.run_count(plan.levels, plan.k), row_count(plan.k)
-    return (len(readings), totals_length, rows_length, len(marks)) != (runs, runs, rows, rows)
+    return (len(readings), totals_length, rows_length, len(marks)) != (totals_rules.reading_count(plan), runs, rows, rows)
 
 
 def bad_mark(plan, marks):
@@ -124,15 +138,11 @@ def bad_mark(plan, marks):
 
 
 def table_answer(plan, readings, marks, totals_length, rows_length):
-    """The table call: 2 to 8, 11, 12, 13, or 0."""
-    refused = totals_rules.plan_answer(plan)
-    if refused:
-        return refused
-    if wrong_lengths(plan, readings, marks, totals_length, rows_length):
-        return 11
-    if totals_rules.beyond(readings, totals_rules.MOST_READING[plan.levels]):
-        return 12
-    return 13 if bad_mark(plan, marks) else totals_rules.DONE
+    """The table call: 2 to 8, 16, 11, 12, 13, or 0."""
+    return totals_rules.foremost(totals_rules.plan_checks(plan) + [
+        (11, lambda: wrong_lengths(plan, readings, marks, totals_length, rows_length)),
+        (12, lambda: totals_rules.beyond(readings, totals_rules.MOST_READING[plan.levels])),
+        (13, lambda: bad_mark(plan, marks))])
 
 
 # ---- the estimate ----
@@ -143,25 +153,22 @@ LOST, DIFFERENCE = "lost", "difference"
 def estimate(plan, effect, total):
     """The outcome for an effect of an accepted two-level plan, with the exact quotient; None where it is lost.
 
-    A difference is negated when the effect has an odd number of letters. A total of 0 gives 0."""
+    The divisors are 2 to the power k and k - 1, times repeats. A difference is negated when the effect has an odd number of
+    letters. A total of 0 gives 0."""
     if effect in totals_rules.confounded(plan.blocks):
         return LOST, None
     if effect == 0:
-        return MEAN, Fraction(total, 2 ** plan.k)
-    difference = Fraction(total, 2 ** (plan.k - 1))
+        return MEAN, Fraction(total, 2 ** plan.k * plan.repeats)
+    difference = Fraction(total, 2 ** (plan.k - 1) * plan.repeats)
     return DIFFERENCE, -difference if totals_rules.letter_count(effect) % 2 else difference
 
 
 def estimate_answer(plan, effect, total):
-    """The estimate call: 2 to 8, 9, 10, 12, or 0."""
-    refused = totals_rules.plan_answer(plan)
-    if refused:
-        return refused
-    if plan.levels == 3:
-        return 9
-    if effect >> plan.k:
-        return 10
-    return 12 if abs(total) > totals_rules.most_total(plan) else totals_rules.DONE
+    """The estimate call: 2 to 8, 16, 9, 10, 12, or 0."""
+    return totals_rules.foremost(totals_rules.plan_checks(plan) + [
+        (9, lambda: plan.levels == 3),
+        (10, lambda: bool(effect >> plan.k)),
+        (12, lambda: abs(total) > totals_rules.most_total(plan))])
 
 
 def exact_double(quotient):

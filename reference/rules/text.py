@@ -6,7 +6,7 @@
 # Sheets are read by sheet_bytes.py and tables are made by table.py. Like them, this file is written apart from the
 # proved program and shares nothing with it.
 #
-# Totals are by the definition, the sum over all runs of reading times coefficient. To be quick the coefficients are
+# Totals are by the definition, the sum over all runs of run sum times coefficient. To be quick the coefficients are
 # looked up: the product over all factors is that over the lower half of them times that over the others, and for each
 # of these two groups all coefficients are kept. cases/text_cases.py compares them with totals.py.
 #
@@ -47,10 +47,10 @@ def coefficients(levels, k, effect):
     return [first * second for first in upper for second in lower]
 
 
-def totals(levels, k, readings):
-    """The totals of all effects: for each the sum over all runs of reading times coefficient."""
+def totals(levels, k, sums):
+    """The totals of all effects: for each the sum over all runs of run sum times coefficient."""
     effects = range(totals_rules.run_count(levels, k))
-    return [sum(map(mul, readings, coefficients(levels, k, effect))) for effect in effects]
+    return [sum(map(mul, sums, coefficients(levels, k, effect))) for effect in effects]
 
 
 # ---- the text ----
@@ -58,7 +58,8 @@ def totals(levels, k, readings):
 def table_of_sheet(sheet):
     """The table of a sheet that is accepted."""
     plan, readings, marks = contents_of(fields_of(sheet))
-    return table_rules.table_of_totals(plan, readings, marks, totals(plan.levels, plan.k, readings))
+    sums = totals_rules.run_sums(plan.repeats, readings)
+    return table_rules.table_of_totals(plan, readings, marks, totals(plan.levels, plan.k, sums))
 
 
 def row_text(row, part, kind):

@@ -1,41 +1,48 @@
 # Reference program for factorial tables, first part: plans, totals and words, straight from the wording of the rules.
 #
 # It is written apart from the proved program and shares nothing with it. Where that program works by passes in one
-# column, this one adds up reading times coefficient over all runs, so that an error of a pass cannot be in both.
+# column, this one adds up run sum times coefficient over all runs, so that an error of a pass cannot be in both.
 #
 # The other parts: table.py has the table and the estimate, sheet_bytes.py the sheet, text.py the printed text.
 #
-# Names: a plan has levels (2 or 3), k base factors, added factors (word, sign) and block words. N is levels to the
-# power k. A run or an effect is a number below N whose digits, lowest first, belong to the factors A, B, C and so on;
-# a run's digit is the factor's level, an effect's digit chooses a coefficient row. A word is a set of base letters,
-# bit 0 for A.
+# Names: a plan has levels (2 or 3), k base factors, added factors (word, sign), block words and repeats: each run is made
+# so often. N is levels to the power k. A run or an effect is a number below N whose digits, lowest first, belong to the
+# factors A, B, C and so on; a run's digit is the factor's level, an effect's digit chooses a coefficient row. A word is a
+# set of base letters, bit 0 for A. Readings are N times repeats; totals, steps and passes work on the N run sums.
 #
 # Defined here:
 #   Plan                                  a plan as a caller hands it in
 #   COEFFICIENTS, DIVISORS                coefficient rows and divisors of one factor, by levels
 #   MOST_READING, MOST_NUMERATOR          the limits of readings and of numerators, by levels
 #   MOST_VALUE                            the limit of values of a pass or step
+#   REPEATS, MOST_READINGS                how often a run may be made, and how many readings a plan may have
+#   ORDER                                 the order of checks: all numbers, the first to be judged first
 #   most_total                            the limit of the total that the estimate is given
 #   run_count, digits                     N, and the digits of a run or effect number
+#   reading_count                         N times repeats
+#   runs_of, run_sums                     the readings of each run, and their sums
+#   squares_about_means                   the squares of readings about their run's mean, added up
 #   coefficient, total, totals            totals by the definition
 #   step, steps                           the report's own step, and the columns after 1 to k of them
 #   divisor, denominator, weight, numerator
 #                                         an effect's part of the sum of squares, in whole numbers
-#   check_number                          what the totals must add up to, from the readings
+#   check_number                          what the totals must add up to, from the run sums
 #   letter_count, combine, confounded     words of a plan
 #   block_of                              the block of a run
 #   high_letters                          the letters of all factors, base and added, that are high in a run
 #   alias                                 the base word of an effect of all factors, and whether its sign turns
-#   plan_answer                           the plan check: 0, or the lowest of 2 to 8 that applies
+#   foremost                              the first of some checks, in the order of checks, that applies
+#   plan_answer                           the plan check: 0, or the first of 2 to 8 and 16 that applies
 #   pass_answer, step_answer, totals_answer
-#                                         the answers of these calls: 0, or the lowest number that applies
-#   alias_answer                          the same: 0, or the lowest of 2 to 8, 9, 10 that applies
+#                                         the answers of these calls: 0, or the first number that applies
+#   alias_answer                          the same: 0, or the first of 2 to 8, 16, 9, 10 that applies
 
 from collections import namedtuple
+from fractions import Fraction
 from itertools import combinations
 
 # added is a list of pairs (word, sign), blocks a list of words.
-Plan = namedtuple("Plan", "levels k added blocks", defaults=((), ()))
+Plan = namedtuple("Plan", "levels k added blocks repeats", defaults=((), (), 1))
 
 COEFFICIENTS = {
     2: ((1, 1), (1, -1)),
@@ -46,6 +53,8 @@ DIVISORS = {2: (2, 2), 3: (3, 2, 6)}
 MOST_FACTORS = {2: 10, 3: 6}
 MOST_ADDED = 6
 MOST_BLOCK_WORDS = 4
+REPEATS = (1, 2, 4, 8)
+MOST_READINGS = 1_024
 
 # The limits, the first and the last by levels; most_total makes one more from the first.
 #   MOST_READING     a reading, either way
@@ -57,10 +66,15 @@ MOST_NUMERATOR = {2: 1_048_576_000_000_000_000, 3: 340_122_240_000_000_000}
 
 DONE = 0
 
+# The order of checks: lowest first, but that 16 comes after 8, 21 after 16, and 15 after 11. Numbers that no call of these
+# files gives have their places too.
+ORDER = (1, 2, 3, 4, 5, 6, 7, 8, 16, 21, 9, 10, 11, 15, 12, 13, 14, 17, 18, 19, 20)
+
 
 def most_total(plan):
-    """The limit, either way, of the total that the estimate is given: 2 to the power k times that of a reading."""
-    return 2 ** plan.k * MOST_READING[plan.levels]
+    """The limit, either way, of the total that the estimate is given: 2 to the power k times repeats times that of a
+    reading."""
+    return 2 ** plan.k * plan.repeats * MOST_READING[plan.levels]
 
 
 # ---- runs and effects ----
@@ -75,7 +89,29 @@ def digits(levels, k, number):
     return [number // levels ** factor % levels for factor in range(k)]
 
 
-# ---- totals by the definition ----
+# ---- readings ----
+
+def reading_count(plan):
+    """N times repeats, the number of readings."""
+    return run_count(plan.levels, plan.k) * plan.repeats
+
+
+def runs_of(repeats, readings):
+    """The readings of each run: they come so many at a time, in run order."""
+    return [readings[start:start + repeats] for start in range(0, len(readings), repeats)]
+
+
+def run_sums(repeats, readings):
+    """The sum of the readings of each run."""
+    return [sum(run) for run in runs_of(repeats, readings)]
+
+
+def squares_about_means(repeats, readings):
+    """The squares of readings about their run's mean, added up."""
+    return sum((reading - Fraction(sum(run), repeats)) ** 2 for run in runs_of(repeats, readings) for reading in run)
+
+
+# ---- totals by the definition, of the run sums ----
 
 def coefficient(levels, k, effect, run):
     """Product over the factors: the effect's digit chooses the row, the run's digit the number in it."""
@@ -85,14 +121,14 @@ def coefficient(levels, k, effect, run):
     return product
 
 
-def total(levels, k, readings, effect):
-    """Sum over all runs of reading times coefficient."""
-    return sum(reading * coefficient(levels, k, effect, run) for run, reading in enumerate(readings))
+def total(levels, k, sums, effect):
+    """Sum over all runs of run sum times coefficient."""
+    return sum(own * coefficient(levels, k, effect, run) for run, own in enumerate(sums))
 
 
-def totals(levels, k, readings):
+def totals(levels, k, sums):
     """The totals of all effects, in the order of their numbers."""
-    return [total(levels, k, readings, effect) for effect in range(run_count(levels, k))]
+    return [total(levels, k, sums, effect) for effect in range(run_count(levels, k))]
 
 
 # ---- the report's own step ----
@@ -114,34 +150,34 @@ def steps(levels, k, column):
 
 # ---- sums of squares in whole numbers, and the check number ----
 
-def divisor(levels, k, effect):
-    """The number by which the square of an effect's total is divided."""
-    product = 1
+def divisor(levels, k, effect, repeats=1):
+    """The number by which the square of an effect's total is divided: by its digits, times repeats."""
+    product = repeats
     for row in digits(levels, k, effect):
         product *= DIVISORS[levels][row]
     return product
 
 
-def denominator(levels, k):
-    """The common denominator: 2 or 6 to the power k."""
-    return (2 if levels == 2 else 6) ** k
+def denominator(levels, k, repeats=1):
+    """The common denominator: 2 or 6 to the power k, times repeats."""
+    return (2 if levels == 2 else 6) ** k * repeats
 
 
-def weight(levels, k, effect):
+def weight(levels, k, effect, repeats=1):
     """Denominator over divisor."""
-    return denominator(levels, k) // divisor(levels, k, effect)
+    return denominator(levels, k, repeats) // divisor(levels, k, effect, repeats)
 
 
-def numerator(levels, k, effect, own_total):
+def numerator(levels, k, effect, own_total, repeats=1):
     """An effect's total squared times denominator over divisor."""
-    return own_total ** 2 * weight(levels, k, effect)
+    return own_total ** 2 * weight(levels, k, effect, repeats)
 
 
-def check_number(levels, k, readings):
-    """What the totals add up to: N times the first reading, at three levels what k rounds leave."""
+def check_number(levels, k, sums):
+    """What the totals add up to: N times the first run sum, at three levels what k rounds leave."""
     if levels == 2:
-        return run_count(levels, k) * readings[0]
-    column = list(readings)
+        return run_count(levels, k) * sums[0]
+    column = list(sums)
     for _ in range(k):
         column = [3 * column[start] - column[start + 1] + column[start + 2] for start in range(0, len(column), 3)]
     return column[0]
@@ -229,16 +265,33 @@ def lost_factor(plan):
     return any(letter_count(word) == 1 or word in added for word in confounded(plan.blocks))
 
 
+def bad_repeats(plan):
+    """Refusal 16: repeats not 1, 2, 4 or 8, or over 1,024 readings."""
+    return plan.repeats not in REPEATS or reading_count(plan) > MOST_READINGS
+
+
+def foremost(checks):
+    """The number of the first of some checks, in the order of checks, that applies, and 0 where none does. A check is a
+    number and a function that tells whether it applies; those after the first that does are not asked."""
+    ordered = sorted(checks, key=lambda check: ORDER.index(check[0]))
+    return next((number for number, applies in ordered if applies()), DONE)
+
+
+def plan_checks(plan):
+    """The checks of a plan, 2 to 8 and 16, which every call has that takes one."""
+    return [(2, lambda: plan.levels not in COEFFICIENTS),
+            (3, lambda: not 1 <= plan.k <= MOST_FACTORS[plan.levels]),
+            (4, lambda: too_many(plan)),
+            (5, lambda: bad_word(plan)),
+            (6, lambda: equal_added(plan)),
+            (7, lambda: dependent_blocks(plan)),
+            (8, lambda: lost_factor(plan)),
+            (16, lambda: bad_repeats(plan))]
+
+
 def plan_answer(plan):
-    """0 for an accepted plan, else the lowest of 2 to 8 that applies."""
-    if plan.levels not in COEFFICIENTS:
-        return 2
-    if not 1 <= plan.k <= MOST_FACTORS[plan.levels]:
-        return 3
-    for number, applies in ((4, too_many), (5, bad_word), (6, equal_added), (7, dependent_blocks), (8, lost_factor)):
-        if applies(plan):
-            return number
-    return DONE
+    """0 for an accepted plan, else the first of 2 to 8 and 16 that applies."""
+    return foremost(plan_checks(plan))
 
 
 # ---- the answers of the calls ----
@@ -254,42 +307,26 @@ def beyond(column, limit):
 
 
 def pass_answer(plan, factor, column):
-    """The pass of a factor: 2 to 8, 10, 11, 12, or 0."""
-    refused = plan_answer(plan)
-    if refused:
-        return refused
-    if not 0 <= factor < plan.k:
-        return 10
-    if wrong_length(plan, [column]):
-        return 11
-    return 12 if beyond(column, MOST_VALUE) else DONE
+    """The pass of a factor: 2 to 8, 16, 10, 11, 12, or 0."""
+    return foremost(plan_checks(plan) + [(10, lambda: not 0 <= factor < plan.k),
+                                         (11, lambda: wrong_length(plan, [column])),
+                                         (12, lambda: beyond(column, MOST_VALUE))])
 
 
 def step_answer(plan, column, next_column):
-    """The step from one column to another: 2 to 8, 11, 12, or 0."""
-    refused = plan_answer(plan)
-    if refused:
-        return refused
-    if wrong_length(plan, [column, next_column]):
-        return 11
-    return 12 if beyond(column, MOST_VALUE) else DONE
+    """The step from one column to another: 2 to 8, 16, 11, 12, or 0."""
+    return foremost(plan_checks(plan) + [(11, lambda: wrong_length(plan, [column, next_column])),
+                                         (12, lambda: beyond(column, MOST_VALUE))])
 
 
 def totals_answer(plan, readings, column):
-    """The totals of the readings, written to a column: 2 to 8, 11, 12, or 0."""
-    refused = plan_answer(plan)
-    if refused:
-        return refused
-    if wrong_length(plan, [readings, column]):
-        return 11
-    return 12 if beyond(readings, MOST_READING[plan.levels]) else DONE
+    """The totals of the readings, written to a column: 2 to 8, 16, 11, 12, or 0."""
+    return foremost(plan_checks(plan) + [
+        (11, lambda: len(readings) != reading_count(plan) or wrong_length(plan, [column])),
+        (12, lambda: beyond(readings, MOST_READING[plan.levels]))])
 
 
 def alias_answer(plan, effect):
-    """The alias call: 2 to 8, 9, 10, or 0."""
-    refused = plan_answer(plan)
-    if refused:
-        return refused
-    if plan.levels == 3:
-        return 9
-    return 10 if effect >> plan.k + len(plan.added) else DONE
+    """The alias call: 2 to 8, 16, 9, 10, or 0."""
+    return foremost(plan_checks(plan) + [(9, lambda: plan.levels == 3),
+                                         (10, lambda: bool(effect >> plan.k + len(plan.added)))])

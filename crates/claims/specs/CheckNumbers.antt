@@ -10,9 +10,10 @@ use Prim.Native.Nat.{ℕ, zero, suc, _+_, _*_}
 use lib.IntN.{ℤ, pos, _+ℤ_, _*ℤ_, _-ℤ_}
 use Rattle.algebra.specs.Sum.{Σ}
 use Rattle.contrasts.specs.Columns.{read}
+use Rattle.contrasts.specs.Repeats.{runSums}
 use Rattle.contrasts.specs.Totals.{Column}
 use Rattle.plan.specs.declared.types.Plan.{Plan}
-use Rattle.plan.specs.Plan.{runsOf}
+use Rattle.plan.specs.Plan.{runsOf, runSumsOf}
 use Rattle.anova.specs.declared.types.Checks.{Checks}
 use Rattle.anova.specs.Table.{tableRefused, tableFigures, tableTotals}
 
@@ -28,9 +29,10 @@ leftBy (suc k) x = leftBy k (threes x)
 pub record Checked (p : Plan) (readings totals : List ℤ) (c : Checks) : Type 0 where
   -- the first is "the sum of totals", of those that the call writes
   pub sum : c .totals ≡ Σ (runsOf p) (read totals)
-  -- T21, T22: the second is "N times the first reading at two levels. At three levels it is what k rounds leave"
-  pub two-levels : p .levels ≡ 2 → c .readings ≡ pos (runsOf p) *ℤ read readings 0
-  pub three-levels : p .levels ≡ 3 → c .readings ≡ leftBy (p .k) (read readings)
+  -- T21, T22: the second is "N times the first reading at two levels. At three levels it is what k rounds leave"; T31: "worked from the run
+  -- sums", of which the first is that of run 0
+  pub two-levels : p .levels ≡ 2 → c .readings ≡ pos (runsOf p) *ℤ runSums (p .repeats) (read readings) 0
+  pub three-levels : p .levels ≡ 3 → c .readings ≡ leftBy (p .k) (read (runSumsOf p readings))
   -- and the first is the second
   pub equal : c .totals ≡ c .readings
 

@@ -1,11 +1,11 @@
 -- V14, V15: "form row numerators and the four sums in one walk over the totals that reads each once. Prove for every e up to N: after e
 -- totals, rows and sums hold exactly what effects 0 to e - 1 bring."
 --
---   totalIn p readings                   the total of each effect
+--   totalIn p readings                   the total of each effect, of the run sums
 --   HeldAfter p readings marks e h       what a loop holds is what rows and sums hold after e totals
 --   EveryTotal p readings marks          so it is of the table call's loop, for every e up to N
 --   sourceIn s c                         what the sums s have of the kind c
---   AtEnd p readings marks totals rows   after N totals they are the table's rows and figures
+--   AtEnd p readings marks totals rows   after N totals, with the squares within runs added, they are the table's rows and figures
 --   OneWalk                              THE CLAIM
 --
 -- `courseTwo` and `courseThree` are what the loops of `walks` hold after e totals, by the lists that `walk` hands to them: each effect changes
@@ -20,17 +20,17 @@ use Rattle.contrasts.specs.Columns.{read, totalsOf}
 use Rattle.contrasts.specs.Totals.{Column, total}
 use Rattle.effects.specs.Effects.{effectRows, effectWeights}
 use Rattle.plan.specs.declared.types.Plan.{Plan}
-use Rattle.plan.specs.Plan.{factorsOf, runsOf}
+use Rattle.plan.specs.Plan.{factorsOf, runsOf, runSumsOf}
 use Rattle.rows.specs.Kinds.{rowsIn, Kind, meanRow, blocksRow, errorRow, keptRow, codeOf, kindsOf}
 use Rattle.walks.specs.declared.types.Sums.{Sums}
 use Rattle.walks.specs.After.{rowsAfter, sumsAfter}
 use Rattle.walks.specs.State.{heldIn, Held, courseTwo, courseThree}
 use Rattle.anova.specs.declared.types.Source.{Source}
-use Rattle.anova.specs.Table.{tableRefused, tableFigures, tableRows}
+use Rattle.anova.specs.Table.{tableRefused, withinSource, joined, tableFigures, tableRows}
 
--- T8
+-- T8, T29
 abbrev pub totalIn : Plan → List ℤ → Column
-totalIn p readings = total (factorsOf p) (read readings)
+totalIn p readings = total (factorsOf p) (read (runSumsOf p readings))
 
 -- "after e totals, rows and sums hold exactly what effects 0 to e - 1 bring"
 pub record HeldAfter (p : Plan) (readings : List ℤ) (marks : List ℕ) (e : ℕ) (h : Held) : Type 0 where
@@ -41,9 +41,9 @@ pub record HeldAfter (p : Plan) (readings : List ℤ) (marks : List ℕ) (e : �
 -- "for every e up to N"
 pub record EveryTotal (p : Plan) (readings : List ℤ) (marks : List ℕ) : Type 0 where
   pub two-levels : p .levels ≡ 2 → (e : ℕ) → e ≤ runsOf p
-      → HeldAfter p readings marks e (courseTwo (totalsOf (factorsOf p) readings) (kindsOf p marks) (rowsIn p) e)
+      → HeldAfter p readings marks e (courseTwo (totalsOf (factorsOf p) (runSumsOf p readings)) (kindsOf p marks) (rowsIn p) e)
   pub three-levels : p .levels ≡ 3 → (e : ℕ) → e ≤ runsOf p
-      → HeldAfter p readings marks e (courseThree (totalsOf (factorsOf p) readings) (effectRows p) (effectWeights p) (kindsOf p marks) (rowsIn p) e)
+      → HeldAfter p readings marks e (courseThree (totalsOf (factorsOf p) (runSumsOf p readings)) (effectRows p) (effectWeights p) (kindsOf p marks) (rowsIn p) e)
 
 -- V10
 abbrev pub sourceIn : Sums → Kind → Source
@@ -55,7 +55,9 @@ pub record AtEnd (p : Plan) (readings : List ℤ) (marks : List ℕ) (totals : L
   pub mean : tableFigures p readings marks .mean ≡ sourceIn (sumsAfter p (totalIn p readings) marks (runsOf p)) meanRow
   pub kept : tableFigures p readings marks .kept ≡ sourceIn (sumsAfter p (totalIn p readings) marks (runsOf p)) keptRow
   pub blocks : tableFigures p readings marks .blocks ≡ sourceIn (sumsAfter p (totalIn p readings) marks (runsOf p)) blocksRow
-  pub error : tableFigures p readings marks .error ≡ sourceIn (sumsAfter p (totalIn p readings) marks (runsOf p)) errorRow
+  -- V16: the squares within runs "join the error line"
+  pub error : tableFigures p readings marks .error
+      ≡ joined (sourceIn (sumsAfter p (totalIn p readings) marks (runsOf p)) errorRow) (withinSource p readings)
   pub check : tableFigures p readings marks .checks .totals ≡ sumsAfter p (totalIn p readings) marks (runsOf p) .totals
 
 abbrev pub OneWalk : Type 0

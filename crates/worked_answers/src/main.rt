@@ -16,12 +16,12 @@ use tabled::try_table;
 use text::print;
 use weighed::try_effects;
 
-// Field 6 is the call, a byte, and what else it takes: 1 is the table, 2 the estimate, 3 the alias, 4 the effects.
+// Field 9 is the call, a byte, and what else it takes: 1 is the table, 2 the estimate, 3 the alias, 4 the effects.
 fn work(number: u64, record: &[u8]) {
     io::print_decimal(1, number);
     print(b":");
     let p = plan_in(record);
-    let rest = body(record, 6, 0);
+    let rest = body(record, 9, 0);
     let call = byte(rest, 0);
     if call == 1 {
         try_table(p, record, byte(rest, 1), byte(rest, 2));

@@ -8,8 +8,10 @@ use contents::put_readings;
 use fields::body;
 use plan::Plan;
 
-// The most readings, totals and rows.
+// The most totals and rows, and the most readings.
 const MOST: usize = 8;
+
+const MOST_READINGS: usize = 32;
 
 // What totals and rows hold before the call.
 const TOTAL_BEFORE: i64 = -123456789;
@@ -49,10 +51,10 @@ fn try_lent(p: Plan, body: &[u8], readings: &mut [i32], marks: &[u8], n: usize, 
 pub fn try_table(p: Plan, record: &[u8], totals: u8, rows: u8) {
     let readings = body(record, 4, 0);
     let count = readings.len() / 4;
-    if count > MOST {
+    if count > MOST_READINGS {
         return;
     }
-    let mut column = [0i32; MOST];
+    let mut column = [0i32; MOST_READINGS];
     let marks = body(record, 5, 0);
     try_lent(
         p,

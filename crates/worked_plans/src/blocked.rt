@@ -94,6 +94,7 @@ pub fn print_blocked(k: u8, number: u8, blocks: u8, blockwords: [u16; 4]) {
         signs: [0; 6],
         blocks,
         blockwords,
+        repeats: 1,
     };
     print_confounded(p);
     print_blocks(p);

@@ -98,6 +98,7 @@ pub fn print_fractional(number: u8, k: u8, runs: u16, added: u8, words: [u16; 6]
         signs: [0; 6],
         blocks: 0,
         blockwords: [0; 4],
+        repeats: 1,
     };
     print_rows(p, runs);
 }

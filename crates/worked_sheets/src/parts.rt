@@ -55,6 +55,7 @@ pub fn print_plan(p: Plan) {
     print(b", plan");
     print_number(p.levels as u64);
     print_number(p.k as u64);
+    print_number(p.repeats as u64);
     print(b", added");
     print_number(p.added as u64);
     print_added(p);

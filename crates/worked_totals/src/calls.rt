@@ -1,8 +1,8 @@
-// The calls on a plan of k base factors, with no added factors and no blocks.
+// The calls on a plan of k base factors whose runs are made so often, with no added factors and no blocks.
 use plan::Plan;
 use yates::Answer;
 
-fn whole(levels: u8, k: u8) -> Plan {
+fn whole(levels: u8, k: u8, repeats: u8) -> Plan {
     Plan {
         levels,
         k,
@@ -11,6 +11,7 @@ fn whole(levels: u8, k: u8) -> Plan {
         signs: [0; 6],
         blocks: 0,
         blockwords: [0; 4],
+        repeats,
     }
 }
 
@@ -22,14 +23,14 @@ fn number_of(answer: Answer) -> u8 {
     }
 }
 
-pub fn step(levels: u8, k: u8, from: &[i64], to: &mut [i64]) -> u8 {
-    number_of(yates::step(whole(levels, k), from, to))
+pub fn step(levels: u8, k: u8, repeats: u8, from: &[i64], to: &mut [i64]) -> u8 {
+    number_of(yates::step(whole(levels, k, repeats), from, to))
 }
 
-pub fn totals(levels: u8, k: u8, readings: &[i32], column: &mut [i64]) -> u8 {
-    number_of(yates::totals(whole(levels, k), readings, column))
+pub fn totals(levels: u8, k: u8, repeats: u8, readings: &[i32], column: &mut [i64]) -> u8 {
+    number_of(yates::totals(whole(levels, k, repeats), readings, column))
 }
 
-pub fn pass(levels: u8, k: u8, factor: u8, column: &mut [i64]) -> u8 {
-    number_of(yates::pass(whole(levels, k), factor as usize, column))
+pub fn pass(levels: u8, k: u8, repeats: u8, factor: u8, column: &mut [i64]) -> u8 {
+    number_of(yates::pass(whole(levels, k, repeats), factor as usize, column))
 }

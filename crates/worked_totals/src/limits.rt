@@ -50,10 +50,10 @@ fn try_column(levels: u8, place: usize, value: i64, column: &mut [i64], next: &m
     put(column, place, value);
     print_heading(levels, place, value);
     print(b"step");
-    let stepped = step(levels, 1, column, next);
+    let stepped = step(levels, 1, 1, column, next);
     print_answer(stepped, next);
     print(b"pass");
-    let passed = pass(levels, 1, 0, column);
+    let passed = pass(levels, 1, 1, 0, column);
     print_answer(passed, column);
 }
 
@@ -72,7 +72,7 @@ fn try_readings(levels: u8, place: usize, reading: i32, readings: &mut [i32], co
     print_heading(levels, place, reading as i64);
     put_reading(readings, place, reading);
     print(b"totals");
-    let answer = totals(levels, 1, readings, column);
+    let answer = totals(levels, 1, 1, readings, column);
     print_answer(answer, column);
 }
 

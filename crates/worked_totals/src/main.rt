@@ -1,13 +1,16 @@
-// Works published examples by the step, totals and pass calls, and tries step and pass at their limit. `reference/published/examples.py` has
-// the figures that the sources print, and makes of the readings the text that this program must write.
+// Works published examples by the step, totals and pass calls, and tries these at their limits and with repeats that are allowed or not.
+// `reference/published/examples.py` has the figures that the sources print, and makes of the readings the text that this program must write.
 mod calls;
 mod limits;
 mod readings;
+mod repeats;
 mod text;
 mod works;
 
 use limits::try_limits;
+use repeats::try_repeats;
 use works::work;
+use works::work_repeated;
 
 // An example: its number, levels, factors and readings. Few share a function, so that its check stays short.
 fn work_report_and_amcp() {
@@ -54,12 +57,83 @@ fn work_rules() {
     work(23, 2, 1, &readings::RULES_ONE_FACTOR);
 }
 
+// The same with repeats, and the sums of the runs before the readings.
+fn work_plots_of_yates() {
+    work_repeated(
+        24,
+        2,
+        3,
+        4,
+        &readings::YATES_POTATOES,
+        &readings::POTATO_PLOTS,
+    );
+    work_repeated(
+        25,
+        2,
+        3,
+        4,
+        &readings::YATES_SUGAR_BEET,
+        &readings::SUGAR_BEET_SINGLE,
+    );
+    work_repeated(
+        26,
+        3,
+        3,
+        2,
+        &readings::YATES_BOTH_REPLICATIONS,
+        &readings::BEET_PLOTS,
+    );
+}
+
+fn work_plots_of_daniel() {
+    work_repeated(
+        27,
+        2,
+        2,
+        4,
+        &readings::DANIEL_BUDS_SUMS,
+        &readings::DANIEL_BUDS,
+    );
+}
+
 fn try_all_limits() {
     try_limits(2, 0);
     try_limits(2, 1);
     try_limits(3, 0);
     try_limits(3, 1);
     try_limits(3, 2);
+}
+
+// Levels, factors and repeats.
+fn try_repeats_of_one_factor() {
+    try_repeats(2, 1, 0);
+    try_repeats(2, 1, 1);
+    try_repeats(2, 1, 2);
+    try_repeats(2, 1, 3);
+    try_repeats(2, 1, 4);
+    try_repeats(2, 1, 5);
+    try_repeats(2, 1, 8);
+    try_repeats(2, 1, 9);
+    try_repeats(2, 1, 16);
+    try_repeats(2, 1, 128);
+    try_repeats(2, 1, 255);
+}
+
+fn try_most_readings() {
+    try_repeats(2, 10, 1);
+    try_repeats(2, 10, 2);
+    try_repeats(2, 9, 2);
+    try_repeats(2, 9, 4);
+    try_repeats(2, 8, 4);
+    try_repeats(2, 8, 8);
+    try_repeats(2, 7, 8);
+    try_repeats(3, 6, 1);
+    try_repeats(3, 6, 2);
+    try_repeats(3, 5, 4);
+    try_repeats(3, 5, 8);
+    try_repeats(3, 4, 8);
+    try_repeats(4, 1, 3);
+    try_repeats(2, 11, 3);
 }
 
 fn main() {
@@ -70,5 +144,9 @@ fn main() {
     work_three_levels_of_report();
     work_three_levels_of_yates();
     work_rules();
+    work_plots_of_yates();
+    work_plots_of_daniel();
     try_all_limits();
+    try_repeats_of_one_factor();
+    try_most_readings();
 }

@@ -1,4 +1,5 @@
-// One example: the column after each step, the totals, and the passes in rising and falling orders that start with each factor.
+// One example: the column after each step, the totals, and the passes in rising and falling orders that start with each factor. Steps and
+// passes start from the run sums, which are the readings where every run is made once.
 use super::calls::pass;
 use super::calls::step;
 use super::calls::totals;
@@ -9,11 +10,11 @@ use super::text::print_number;
 // The most runs of an example.
 const MOST: usize = 81;
 
-// The readings as the values of a column.
-fn fill(readings: &[i32], column: &mut [i64]) {
+// The run sums as the values of a column.
+fn fill(sums: &[i32], column: &mut [i64]) {
     let mut i = 0;
-    while i < readings.len() && i < column.len() {
-        column[i] = readings[i] as i64;
+    while i < sums.len() && i < column.len() {
+        column[i] = sums[i] as i64;
         i += 1;
     }
 }
@@ -27,33 +28,42 @@ fn copy(from: &[i64], to: &mut [i64]) {
     }
 }
 
-fn print_heading(number: u64, levels: u8, k: u8) {
+fn print_heading(number: u64, levels: u8, k: u8, repeats: u8) {
     print(b"example");
     print_number(number);
     print(b":");
     print_number(levels as u64);
     print(b" levels,");
     print_number(k as u64);
-    print(b" factors\n");
+    print(b" factors,");
+    print_number(repeats as u64);
+    print(b" repeats\n");
 }
 
 // The column after each of the k steps.
-fn print_steps(levels: u8, k: u8, column: &mut [i64], next: &mut [i64]) {
+fn print_steps(levels: u8, k: u8, repeats: u8, column: &mut [i64], next: &mut [i64]) {
     let mut j = 0;
     while j < k {
         j += 1;
         print(b"step");
         print_number(j as u64);
-        step(levels, k, column, next);
+        step(levels, k, repeats, column, next);
         print_column(next);
         copy(next, column);
     }
 }
 
-// The column holds the readings before the call, so that a call that is refused shows in what is printed.
-fn print_totals(levels: u8, k: u8, readings: &[i32], column: &mut [i64]) {
-    fill(readings, column);
-    totals(levels, k, readings, column);
+// The column holds the run sums before the call, so that a call that is refused shows in what is printed.
+fn print_totals(
+    levels: u8,
+    k: u8,
+    repeats: u8,
+    sums: &[i32],
+    readings: &[i32],
+    column: &mut [i64],
+) {
+    fill(sums, column);
+    totals(levels, k, repeats, readings, column);
     print(b"totals");
     print_column(column);
 }
@@ -82,46 +92,68 @@ fn print_calls(k: u8, first: u8, rising: bool) {
 }
 
 // What the same calls answer, and the column that they leave.
-fn print_answers(levels: u8, k: u8, first: u8, rising: bool, column: &mut [i64]) {
+fn print_answers(levels: u8, k: u8, repeats: u8, first: u8, rising: bool, column: &mut [i64]) {
     print(b", answers");
     let mut factor = first;
     let mut left = k as usize + 1;
     while left > 0 {
-        print_number(pass(levels, k, factor, column) as u64);
+        print_number(pass(levels, k, repeats, factor, column) as u64);
         factor = after(factor, k, rising);
         left -= 1;
     }
     print_column(column);
 }
 
-// A line for each number that the calls may start with. Each line starts from the readings.
-fn print_rotations(levels: u8, k: u8, rising: bool, readings: &[i32], column: &mut [i64]) {
+// A line for each number that the calls may start with. Each line starts from the run sums.
+fn print_rotations(levels: u8, k: u8, repeats: u8, rising: bool, sums: &[i32], column: &mut [i64]) {
     let mut first = 0;
     let mut left = k as usize + 1;
     while left > 0 {
-        fill(readings, column);
+        fill(sums, column);
         print_calls(k, first, rising);
-        print_answers(levels, k, first, rising, column);
+        print_answers(levels, k, repeats, first, rising, column);
         first = after(first, k, true);
         left -= 1;
     }
 }
 
-fn print_work(levels: u8, k: u8, readings: &[i32], column: &mut [i64], next: &mut [i64]) {
-    fill(readings, column);
-    print_steps(levels, k, column, next);
-    print_totals(levels, k, readings, column);
-    print_rotations(levels, k, true, readings, column);
-    print_rotations(levels, k, false, readings, column);
+fn print_work(
+    levels: u8,
+    k: u8,
+    repeats: u8,
+    sums: &[i32],
+    readings: &[i32],
+    column: &mut [i64],
+    next: &mut [i64],
+) {
+    fill(sums, column);
+    print_steps(levels, k, repeats, column, next);
+    print_totals(levels, k, repeats, sums, readings, column);
+    print_rotations(levels, k, repeats, true, sums, column);
+    print_rotations(levels, k, repeats, false, sums, column);
 }
 
-pub fn work(number: u64, levels: u8, k: u8, readings: &[i32]) {
-    let runs = readings.len();
+// An example whose runs are made so often: the sums of its runs, and all readings.
+pub fn work_repeated(number: u64, levels: u8, k: u8, repeats: u8, sums: &[i32], readings: &[i32]) {
+    let runs = sums.len();
     if runs > MOST {
         return;
     }
-    print_heading(number, levels, k);
+    print_heading(number, levels, k, repeats);
     let mut column = [0i64; MOST];
     let mut next = [0i64; MOST];
-    print_work(levels, k, readings, &mut column[..runs], &mut next[..runs]);
+    print_work(
+        levels,
+        k,
+        repeats,
+        sums,
+        readings,
+        &mut column[..runs],
+        &mut next[..runs],
+    );
+}
+
+// An example whose runs are made once.
+pub fn work(number: u64, levels: u8, k: u8, readings: &[i32]) {
+    work_repeated(number, levels, k, 1, readings, readings);
 }

@@ -4,7 +4,7 @@
 use mathlib.Core.Path.{_≡_, refl, sym, _∙_, ap}
 use mathlib.Core.List.{List}
 use Prim.Native.Nat.{ℕ, zero, suc}
-use lib.IntN.{ℤ, pos}
+use lib.IntN.{ℤ, pos, _*ℤ_}
 use lib.ListN.{replicate}
 use Rattle.algebra.specs.Sum.{Σ}
 use Rattle.algebra.specs.Laws.Sum.{Σ-cong}
@@ -14,10 +14,12 @@ use Rattle.contrasts.specs.Factors.{two, three}
 use Rattle.contrasts.specs.Totals.{Column, total}
 use Rattle.contrasts.specs.Checks.{rounds}
 use Rattle.contrasts.specs.Laws.CheckSum.{check-rounds}
+use Rattle.contrasts.specs.Laws.Digits.{size-pos}
+use Rattle.contrasts.specs.Laws.Repeats.{sums-read}
 use Rattle.contrasts.specs.Laws.ThreeLevels.{round-three}
 use Rattle.contrasts.specs.Laws.TwoLevels.{check-two}
 use Rattle.plan.specs.declared.types.Plan.{Plan}
-use Rattle.plan.specs.Plan.{factorsOf, runsOf}
+use Rattle.plan.specs.Plan.{factorsOf, runsOf, runSumsOf}
 use Rattle.plan.specs.Laws.Answers.{written-new}
 use Rattle.plan.specs.Laws.Sizes.{factors-two, factors-three}
 use Rattle.anova.specs.Table.{checksOf, tableFigures, tableTotals}
@@ -28,16 +30,22 @@ unfolding rounds leftBy
 rounds-three zero x = refl
 rounds-three (suc k) x = ap (rounds (replicate k three)) (λ i q. round-three x q i) ∙ rounds-three k (threes x)
 
-sum-of : (p : Plan) (readings : List ℤ) → Σ (runsOf p) (total (factorsOf p) (read readings)) ≡ Σ (runsOf p) (read (totalsOf (factorsOf p) readings))
+sum-of : (p : Plan) (sums : List ℤ) → Σ (runsOf p) (total (factorsOf p) (read sums)) ≡ Σ (runsOf p) (read (totalsOf (factorsOf p) sums))
 unfolding totalsOf
-sum-of p readings = Σ-cong (runsOf p) (λ e h. sym (getD-tab (pos 0) (runsOf p) (total (factorsOf p) (read readings)) e h))
+sum-of p sums = Σ-cong (runsOf p) (λ e h. sym (getD-tab (pos 0) (runsOf p) (total (factorsOf p) (read sums)) e h))
 
 pub check-numbers : CheckNumbers
 unfolding tableFigures checksOf tableTotals
 check-numbers p readings marks totals rows n =
+    let sums = runSumsOf p readings in
     record {
-      sum = sum-of p readings ∙ ap (λ (ts : List ℤ). Σ (runsOf p) (read ts)) (written-new _ (totalsOf (factorsOf p) readings) totals n);
-      two-levels = λ t. rw (factors-two p t) (sym (check-rounds (replicate (p .k) two) (read readings)) ∙ check-two (p .k) (read readings));
-      three-levels = λ t. rw (factors-three p t) (rounds-three (p .k) (read readings));
-      equal = check-rounds (factorsOf p) (read readings);
+      sum = sum-of p sums ∙ ap (λ (ts : List ℤ). Σ (runsOf p) (read ts)) (written-new _ (totalsOf (factorsOf p) sums) totals n);
+      two-levels = λ t. by-first t ∙ ap (λ (z : ℤ). pos (runsOf p) *ℤ z) (sums-read (runsOf p) (p .repeats) readings 0 (size-pos (factorsOf p)));
+      three-levels = λ t. rw (factors-three p t) (rounds-three (p .k) (read sums));
+      equal = check-rounds (factorsOf p) (read sums);
     }
+  where
+    by-first : p .levels ≡ 2 → rounds (factorsOf p) (read (runSumsOf p readings)) ≡ pos (runsOf p) *ℤ read (runSumsOf p readings) 0
+    by-first t =
+        rw (factors-two p t)
+        (sym (check-rounds (replicate (p .k) two) (read (runSumsOf p readings))) ∙ check-two (p .k) (read (runSumsOf p readings)))

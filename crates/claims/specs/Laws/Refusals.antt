@@ -1,11 +1,11 @@
 -- That the claims of `Refusals.antt` hold.
 --
---   upTo m refusals                     no refusal has a number over m
+--   known refusals                      each number of these refusals is one of the numbers
 --   on-any-plan, on-any-sheet, for-C    the proofs
 use mathlib.Core.Path.{_≡_, refl, sym}
 use mathlib.Core.Bool.{Bool, true, false, cond, _&&_}
 use mathlib.Core.List.{List, [], _∷_}
-use Prim.Native.Nat.{ℕ, _≤_}
+use Prim.Native.Nat.{ℕ}
 use native.Mathlib.Decide.{ℕ-discrete}
 use native.Mathlib.Omega.{arith}
 use lib.Dec.{T, leb, ltb, leb→le}
@@ -14,9 +14,9 @@ use lib.ListN.{length}
 use Rattle.algebra.specs.Laws.Tests.{and-left, and-right}
 use Rattle.plan.specs.declared.types.Plan.{Plan}
 use Rattle.plan.specs.Check.{planRefusals, planRefused, withPlan}
-use Rattle.plan.specs.Outcome.{Refusal, refusal, lowest}
+use Rattle.plan.specs.Outcome.{Refusal, refusal, lowest, place}
 use Rattle.plan.specs.Laws.Answers.{unwritten, after-plan, plan-first}
-use Rattle.columns.specs.Refusals.{columnsRefused}
+use Rattle.columns.specs.Refusals.{columnsRefused, readingsRefused}
 use Rattle.runs.specs.Run.{runRefusals, runRefused}
 use Rattle.aliases.specs.Alias.{aliasRefusals, aliasRefused}
 use Rattle.estimates.specs.Estimate.{estimateRefusals, estimateRefused}
@@ -29,86 +29,84 @@ use Rattle.contents.specs.Contents.{planIn}
 use Rattle.sheet.specs.Sheet.{sheetRefusals, refusedWith, readRefused, readColumn, marksRefused, marksOf}
 use Rattle.printing.specs.Printed.{longestSheet, printRefused}
 use Rattle.exported.specs.Handed.{wrongRoom, roomRefused, callRefused, callTotals, callRows, callFigures, callChecks}
-use Rattle.claims.specs.Refusals.{OneOfThirteen, OnPlan, OnSheet, ForC}
+use Rattle.claims.specs.Refusals.{theNumbers, OneOfTheNumbers, OnPlan, OnSheet, ForC}
 
--- ---- thirteen numbers
+-- ---- the numbers
 
-unfoldable pub upTo : ℕ → List Refusal → Bool
-upTo m [] = true
-upTo m (refusal n holds ∷ rest) = leb n m && upTo m rest
+unfoldable pub known : List Refusal → Bool
+known [] = true
+known (refusal n holds ∷ rest) = leb (place theNumbers n) (length theNumbers) && known rest
 
-one-of : {n : ℕ} → n ≤ 13 → OneOfThirteen n
-one-of l h = (omega (arith, h), l)
-
-lowest-up-to : (m : ℕ) (refusals : List Refusal) → T (upTo m refusals) → lowest refusals ≤ m
-unfolding upTo
-lowest-up-to m [] t = omega arith
-lowest-up-to m (refusal n true ∷ rest) t = leb→le n m (and-left (leb n m) (upTo m rest) t)
-lowest-up-to m (refusal n false ∷ rest) t = lowest-up-to m rest (and-right (leb n m) (upTo m rest) t)
+lowest-known : (refusals : List Refusal) → T (known refusals) → OneOfTheNumbers (lowest refusals)
+unfolding known
+lowest-known [] t h = absurd (h refl)
+lowest-known (refusal n true ∷ rest) t h =
+    leb→le (place theNumbers n) (length theNumbers) (and-left (leb (place theNumbers n) (length theNumbers)) (known rest) t)
+lowest-known (refusal n false ∷ rest) t h = lowest-known rest (and-right (leb (place theNumbers n) (length theNumbers)) (known rest) t) h
 
 -- the number of a call on a plan
-by-plan : (p : Plan) (further : List Refusal) → T (upTo 13 further) → withPlan p further ≤ 13
-unfolding withPlan planRefused upTo
+by-plan : (p : Plan) (further : List Refusal) → T (known further) → OneOfTheNumbers (withPlan p further)
+unfolding withPlan planRefused known
 by-plan p further t = by (ℕ-discrete (planRefused p) 0)
   where
-    by : Dec (planRefused p ≡ 0) → withPlan p further ≤ 13
-    by (yes e) = rw (after-plan p further e) (lowest-up-to 13 further t)
-    by (no e) = rw (← (plan-first p further refl e)) (lowest-up-to 13 (planRefusals p) tt)
+    by : Dec (planRefused p ≡ 0) → OneOfTheNumbers (withPlan p further)
+    by (yes e) = rw (after-plan p further e) (lowest-known further t)
+    by (no e) = rw (← (plan-first p further refl e)) (lowest-known (planRefusals p) tt)
 
 pub on-any-plan : (p : Plan) → OnPlan p
-unfolding planRefused runRefused aliasRefused estimateRefused passRefused passColumn stepColumn columnsRefused totalsColumn tableRefused tableTotals tableRows upTo
+unfolding planRefused runRefused aliasRefused estimateRefused passRefused passColumn stepColumn columnsRefused readingsRefused totalsColumn tableRefused tableTotals tableRows known
 on-any-plan p =
     record {
-      check = one-of (lowest-up-to 13 (planRefusals p) tt);
-      run = λ r. one-of (by-plan p (runRefusals p r) tt);
-      alias = λ e. one-of (by-plan p (aliasRefusals p e) tt);
-      estimate = λ e t. one-of (by-plan p (estimateRefusals p e t) tt);
-      pass = λ f column. one-of (by-plan p (passRefusals p f column) tt);
-      step = λ from to. one-of (by-plan p (stepRefusals p from to) tt);
-      totals = λ readings column. one-of (by-plan p (totalsRefusals p readings column) tt);
-      table = λ readings marks column rows. one-of (by-plan p (tableRefusals p readings marks column rows) tt);
+      check = lowest-known (planRefusals p) tt;
+      run = λ r. by-plan p (runRefusals p r) tt;
+      alias = λ e. by-plan p (aliasRefusals p e) tt;
+      estimate = λ e t. by-plan p (estimateRefusals p e t) tt;
+      pass = λ f column. by-plan p (passRefusals p f column) tt;
+      step = λ from to. by-plan p (stepRefusals p from to) tt;
+      totals = λ readings column. by-plan p (totalsRefusals p readings column) tt;
+      table = λ readings marks column rows. by-plan p (tableRefusals p readings marks column rows) tt;
       pass-unwritten = λ f column n. sym (unwritten _ _ column n);
       step-unwritten = λ from to n. sym (unwritten _ _ to n);
       totals-unwritten = λ readings column n. sym (unwritten _ _ column n);
       table-unwritten = λ readings marks column rows n. (sym (unwritten _ _ column n), sym (unwritten _ _ rows n));
     }
 
-of-sheet : (fs : Fields) (narrow : Bool) → refusedWith fs (planIn fs) narrow ≤ 13
-unfolding refusedWith upTo
+of-sheet : (fs : Fields) (narrow : Bool) → OneOfTheNumbers (refusedWith fs (planIn fs) narrow)
+unfolding refusedWith known
 of-sheet fs narrow = by (badFields fs)
   where
-    by : (bad : Bool) → cond bad 1 (withPlan (planIn fs) (sheetRefusals fs (planIn fs) narrow)) ≤ 13
-    by true = omega arith
+    by : (bad : Bool) → OneOfTheNumbers (cond bad 1 (withPlan (planIn fs) (sheetRefusals fs (planIn fs) narrow)))
+    by true h = omega arith
     by false = by-plan (planIn fs) (sheetRefusals fs (planIn fs) narrow) tt
 
-of-print : (sheet : List ℕ) → printRefused sheet ≤ 13
+of-print : (sheet : List ℕ) → OneOfTheNumbers (printRefused sheet)
 unfolding printRefused marksRefused
 of-print sheet = by (ltb longestSheet (length sheet))
   where
-    by : (long : Bool) → cond long 1 (marksRefused sheet) ≤ 13
-    by true = omega arith
+    by : (long : Bool) → OneOfTheNumbers (cond long 1 (marksRefused sheet))
+    by true h = omega arith
     by false = of-sheet (fieldsOf sheet) false
 
 pub on-any-sheet : (sheet : List ℕ) → OnSheet sheet
 unfolding readRefused marksRefused readColumn marksOf
 on-any-sheet sheet =
     record {
-      reader = λ room. one-of (of-sheet (fieldsOf sheet) _);
-      marks = one-of (of-sheet (fieldsOf sheet) false);
-      print = one-of (of-print sheet);
+      reader = λ room. of-sheet (fieldsOf sheet) _;
+      marks = of-sheet (fieldsOf sheet) false;
+      print = of-print sheet;
       reader-unwritten = λ column n. sym (unwritten _ _ column n);
       marks-empty = λ n. sym (unwritten _ _ [] n);
     }
 
 pub for-C : (p : Plan) (readings : List ℤ) (marks : List ℕ) (totals : List ℤ) (rows figures : List ℕ) (checks : List ℤ)
     → ForC p readings marks totals rows figures checks
-unfolding callRefused roomRefused tableRefused callTotals callRows callFigures callChecks upTo
+unfolding callRefused roomRefused tableRefused callTotals callRows callFigures callChecks known
 for-C p readings marks totals rows figures checks =
     record {
-      number = one-of (by (wrongRoom (length figures) (length checks)));
+      number = by (wrongRoom (length figures) (length checks));
       unwritten-all = λ n. (sym (unwritten _ _ totals n), sym (unwritten _ _ rows n), sym (unwritten _ _ figures n), sym (unwritten _ _ checks n));
     }
   where
-    by : (room : Bool) → cond room (roomRefused p) (tableRefused p readings marks totals rows) ≤ 13
+    by : (room : Bool) → OneOfTheNumbers (cond room (roomRefused p) (tableRefused p readings marks totals rows))
     by true = by-plan p (refusal 11 true ∷ []) tt
     by false = by-plan p (tableRefusals p readings marks totals rows) tt

@@ -5,93 +5,93 @@ use mathlib.Core.Path.{_≡_, refl, sym, ap, _∙_}
 use mathlib.Core.Bool.{cond}
 use mathlib.Core.List.{List}
 use Prim.Native.Nat.{ℕ, _+_, _<_}
-use native.Mathlib.Omega.{arith}
 use lib.Dec.{eqb}
 use lib.IntN.{ℤ, pos}
 use lib.ListN.{getD}
 use Rattle.algebra.specs.Naturals.{Σℕ}
-use Rattle.algebra.specs.Laws.Naturals.{Σℕ-cong, Σℕ-by}
+use Rattle.algebra.specs.Laws.Naturals.{Σℕ-cong}
 use Rattle.algebra.specs.Sorted.{sumAt}
 use Rattle.algebra.specs.Laws.Tab.{getD-tab}
 use Rattle.contrasts.specs.Columns.{read, totalsOf}
-use Rattle.contrasts.specs.Rows.{rowOf, degreesOf, rowNumerator}
-use Rattle.contrasts.specs.Totals.{total, denominator, numerator, numeratorOf}
+use Rattle.contrasts.specs.Rows.{rowOf, rowNumerator}
+use Rattle.contrasts.specs.Totals.{total, numeratorOf}
 use Rattle.contrasts.specs.Laws.CheckSum.{check-rounds}
 use Rattle.plan.specs.declared.types.Plan.{Plan}
-use Rattle.plan.specs.Plan.{factorsOf, runsOf}
+use Rattle.plan.specs.Plan.{factorsOf, runsOf, runSumsOf}
 use Rattle.plan.specs.Laws.Answers.{written-new}
-use Rattle.rows.specs.Kinds.{rowsIn, Kind, meanRow, blocksRow, errorRow, keptRow, kindOf, codeOf, same}
-use Rattle.rows.specs.Laws.Kinds.{four-kinds}
-use Rattle.anova.specs.Laws.Admitted.{TableReady, table-admitted}
-use Rattle.anova.specs.Table.{tableRefused, sourceOf, totalSource, checksOf, tableFigures, tableTotals, tableRows, rowsOf}
-use Rattle.anova.specs.Laws.Within.{all-rows, all-degrees, fit, some-within, row-within, kind-within, total-source-within, total-within-limit, checks-within}
+use Rattle.rows.specs.Kinds.{rowsIn, Kind, meanRow, blocksRow, errorRow, keptRow, kindOf, same}
+use Rattle.anova.specs.Laws.Admitted.{TableReady, table-admitted, sums-ready}
+use Rattle.anova.specs.Table.{tableRefused, sourceOf, withinSource, joined, totalSource, checksOf, tableFigures, tableTotals, tableRows, rowsOf}
+use Rattle.anova.specs.Laws.Within.{numerators-add-up, degrees-add-up, fit, some-within, row-within, kind-within, error-within, total-source-within, within-source-within, total-within-limit, checks-within}
+use Rattle.claims.specs.SumOfSquares.{squaresWithin}
 use Rattle.claims.specs.TableAddsUp.{ofKind, Formed, AddsUp, NoneBeyond, TableAddsUp}
 
--- what is written, and what is summed
-by-rows : (p : Plan) (readings : List ℤ) (marks : List ℕ) (c : Kind) → sourceOf p readings marks c .numerator ≡ ofKind p marks (rowsOf p readings) c
+-- what is written, and what is summed, of run sums
+by-rows : (p : Plan) (sums : List ℤ) (marks : List ℕ) (c : Kind) → sourceOf p sums marks c .numerator ≡ ofKind p marks (rowsOf p sums) c
 unfolding sourceOf rowsOf
-by-rows p readings marks c =
-    Σℕ-cong (rowsIn p) (λ w h. ap (λ (n : ℕ). cond (same (kindOf p marks w) c) n 0) (sym (getD-tab 0 (rowsIn p) (rowNumerator (factorsOf p) (read readings)) w h)))
+by-rows p sums marks c =
+    Σℕ-cong (rowsIn p) (λ w h. ap (λ (n : ℕ). cond (same (kindOf p marks w) c) n 0) (sym (getD-tab 0 (rowsIn p) (rowNumerator (factorsOf p) (read sums)) w h)))
 
-row-formed : (p : Plan) (readings : List ℤ) (w : ℕ) → w < rowsIn p
-    → getD (rowsOf p readings) w 0
-    ≡ Σℕ (runsOf p) (λ e. cond (eqb (rowOf (factorsOf p) e) w) (numeratorOf (factorsOf p) e (read (totalsOf (factorsOf p) readings) e)) 0)
+row-formed : (p : Plan) (sums : List ℤ) (w : ℕ) → w < rowsIn p
+    → getD (rowsOf p sums) w 0
+    ≡ Σℕ (runsOf p) (λ e. cond (eqb (rowOf (factorsOf p) e) w) (numeratorOf (factorsOf p) e (read (totalsOf (factorsOf p) sums) e)) 0)
 unfolding rowsOf sumAt totalsOf
-row-formed p readings w h =
-    getD-tab 0 (rowsIn p) (rowNumerator (factorsOf p) (read readings)) w h
+row-formed p sums w h =
+    getD-tab 0 (rowsIn p) (rowNumerator (factorsOf p) (read sums)) w h
     ∙ Σℕ-cong (runsOf p) (λ e l.
     ap (λ (z : ℤ). cond (eqb (rowOf (factorsOf p) e) w) (numeratorOf (factorsOf p) e z) 0)
-    (sym (getD-tab (pos 0) (runsOf p) (total (factorsOf p) (read readings)) e l)))
+    (sym (getD-tab (pos 0) (runsOf p) (total (factorsOf p) (read sums)) e l)))
 
 formed : (p : Plan) (readings : List ℤ) (marks : List ℕ) (totals : List ℤ) (rows : List ℕ) → tableRefused p readings marks totals rows ≡ 0
-    → Formed p marks (tableTotals p readings marks totals rows) (tableRows p readings marks totals rows) (tableFigures p readings marks)
-unfolding tableFigures tableTotals tableRows sourceOf
+    → Formed p readings marks (tableTotals p readings marks totals rows) (tableRows p readings marks totals rows) (tableFigures p readings marks)
+unfolding tableFigures tableTotals tableRows sourceOf withinSource joined
 formed p readings marks totals rows e =
-    let new = written-new (tableRefused p readings marks totals rows) (rowsOf p readings) rows e in
-    let newTotals = written-new (tableRefused p readings marks totals rows) (totalsOf (factorsOf p) readings) totals e in
+    let sums = runSumsOf p readings in
+    let new = written-new (tableRefused p readings marks totals rows) (rowsOf p sums) rows e in
+    let newTotals = written-new (tableRefused p readings marks totals rows) (totalsOf (factorsOf p) sums) totals e in
     rw (← new, ← newTotals)
     (record {
-      each-row = row-formed p readings;
+      each-row = row-formed p sums;
       degrees = (refl, refl, refl, refl);
-      mean = by-rows p readings marks meanRow;
-      kept = by-rows p readings marks keptRow;
-      blocks = by-rows p readings marks blocksRow;
-      error = by-rows p readings marks errorRow;
+      mean = by-rows p sums marks meanRow;
+      kept = by-rows p sums marks keptRow;
+      blocks = by-rows p sums marks blocksRow;
+      error = ap (λ (n : ℕ). n + squaresWithin p readings) (by-rows p sums marks errorRow);
+      totals-of-sums = refl;
+      over = refl;
     })
 
--- four sums, by kind, are the sum of all rows
-four : (r : ℕ) (kind : ℕ → Kind) (g : ℕ → ℕ)
-    → Σℕ r (λ w. cond (same (kind w) meanRow) (g w) 0) + Σℕ r (λ w. cond (same (kind w) keptRow) (g w) 0)
-    + Σℕ r (λ w. cond (same (kind w) blocksRow) (g w) 0) + Σℕ r (λ w. cond (same (kind w) errorRow) (g w) 0) ≡ Σℕ r g
-unfolding Σℕ
-four r kind g = omega (arith, Σℕ-by r 4 (λ w. codeOf (kind w)) g (λ w _. four-kinds (kind w)))
-
 module _ {p : Plan} {readings : List ℤ} {marks : List ℕ} {totals : List ℤ} {rows : List ℕ} (a : TableReady p readings marks totals rows) where
+  abbrev sums : List ℤ
+  sums = runSumsOf p readings
+
   adds-up : AddsUp p readings (tableFigures p readings marks)
-  unfolding tableFigures sourceOf totalSource checksOf
+  unfolding tableFigures totalSource checksOf
   adds-up =
       record {
-        numerators = four (rowsIn p) (kindOf p marks) (rowNumerator (factorsOf p) (read readings)) ∙ all-rows a;
+        numerators = numerators-add-up a;
         total = refl;
-        degrees = four (rowsIn p) (kindOf p marks) (degreesOf (factorsOf p)) ∙ all-degrees a;
+        degrees = degrees-add-up a;
         total-degrees = refl;
-        checks = check-rounds (factorsOf p) (read readings);
+        checks = check-rounds (factorsOf p) (read sums);
       }
 
   none-beyond : NoneBeyond p readings (tableFigures p readings marks)
-  unfolding tableFigures totalsOf rowsOf
+  unfolding tableFigures totalsOf rowsOf withinSource
   none-beyond =
+      let s = sums-ready a in
       record {
-        totals = λ e h. rw (getD-tab (pos 0) (runsOf p) (total (factorsOf p) (read readings)) e h) (total-within-limit a e h);
-        some-numerators = some-within a;
-        rows = λ w h. rw (getD-tab 0 (rowsIn p) (rowNumerator (factorsOf p) (read readings)) w h) (row-within a w);
-        denominator = fit a .0;
-        mean = kind-within a meanRow;
-        kept = kind-within a keptRow;
-        blocks = kind-within a blocksRow;
-        error = kind-within a errorRow;
+        totals = λ e h. rw (getD-tab (pos 0) (runsOf p) (total (factorsOf p) (read sums)) e h) (total-within-limit s e h);
+        some-numerators = some-within s;
+        within = within-source-within a .numerator;
+        rows = λ w h. rw (getD-tab 0 (rowsIn p) (rowNumerator (factorsOf p) (read sums)) w h) (row-within s w);
+        denominator = fit s .0;
+        mean = kind-within s marks meanRow;
+        kept = kind-within s marks keptRow;
+        blocks = kind-within s marks blocksRow;
+        error = error-within a;
         total = total-source-within a;
-        checks = checks-within a;
+        checks = checks-within s;
       }
 
 pub table-adds-up : TableAddsUp

@@ -16,6 +16,8 @@ print-plan-spec =
     (λ c κs. tt)
     (λ c. omega arith)
     (λ c κs. tt)
+    (λ c. omega arith)
+    (λ c κs. tt)
     (λ c κs. tt)
     (λ c. omega arith)
     (λ c κs. tt)

@@ -9,10 +9,10 @@ use Rattle.worked_totals.proofs.works.fill.Statement.{statement}
 use Rattle.worked_totals.proofs.works.fill.Tie as tie
 
 abbrev Inv-loop : tie.InvT-loop
-Inv-loop readings column₀ i₀ column i = length column ≡ length column₀
+Inv-loop sums column₀ i₀ column i = length column ≡ length column₀
 
 abbrev μ-loop : tie.MeasureT-loop
-μ-loop readings column₀ i₀ column i = length readings - i
+μ-loop sums column₀ i₀ column i = length sums - i
 
 pub fill-spec : {M : Type 1} → statement M
 fill-spec =
@@ -26,7 +26,7 @@ fill-spec =
     (λ c.
     let args = c .before .before .before .before .args in
     let i-now = c .before .before .before .loop .i in
-    widened-fits (getD (args .readings .now) i-now (pos 0)) (c .column .given))
+    widened-fits (getD (args .sums .now) i-now (pos 0)) (c .column .given))
     (λ c. omega arith)
     (λ c. omega (arith, ltb-true))
     (λ c. omega arith)

@@ -6,10 +6,10 @@ use Rattle.worked_totals.proofs.works.print_answers.Statement.{statemen
 use Rattle.worked_totals.proofs.works.print_answers.Tie as tie
 
 abbrev Inv-loop : tie.InvT-loop
-Inv-loop levels k first rising column₀ factor₀ left₀ column factor left = (length column ≡ length column₀) × (factor < 256)
+Inv-loop levels k repeats first rising column₀ factor₀ left₀ column factor left = (length column ≡ length column₀) × (factor < 256)
 
 abbrev μ-loop : tie.MeasureT-loop
-μ-loop levels k first rising column₀ factor₀ left₀ column factor left = left
+μ-loop levels k repeats first rising column₀ factor₀ left₀ column factor left = left
 
 pub print-answers-spec : {M : Type 1} → statement M
 print-answers-spec =

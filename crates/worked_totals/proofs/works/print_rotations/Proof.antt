@@ -6,10 +6,10 @@ use Rattle.worked_totals.proofs.works.print_rotations.Statement.{statem
 use Rattle.worked_totals.proofs.works.print_rotations.Tie as tie
 
 abbrev Inv-loop : tie.InvT-loop
-Inv-loop levels k rising readings column₀ first₀ left₀ column first left = (length column ≡ length column₀) × (first < 256)
+Inv-loop levels k repeats rising sums column₀ first₀ left₀ column first left = (length column ≡ length column₀) × (first < 256)
 
 abbrev μ-loop : tie.MeasureT-loop
-μ-loop levels k rising readings column₀ first₀ left₀ column first left = left
+μ-loop levels k repeats rising sums column₀ first₀ left₀ column first left = left
 
 pub print-rotations-spec : {M : Type 1} → statement M
 print-rotations-spec =

@@ -1,11 +1,11 @@
 use mathlib.Core.Path.{sym}
 use native.Mathlib.Omega.{arith}
 use lib.Seq.{length-take-le}
-use Rattle.worked_totals.proofs.works.work.Statement.{statement}
-use Rattle.worked_totals.proofs.works.work.Tie as tie
+use Rattle.worked_totals.proofs.works.work_repeated.Statement.{statement}
+use Rattle.worked_totals.proofs.works.work_repeated.Tie as tie
 
-pub work-spec : {M : Type 1} → statement M
-work-spec =
+pub work-repeated-spec : {M : Type 1} → statement M
+work-repeated-spec =
     tie.close
     (tie.spec
     (λ c. tt)
