@@ -5,7 +5,7 @@
 --   plus p r e             run r counts plus in the effect e: an even number of the effect's letters are low in it
 --   turn p e               whether the sign of the effect e turns
 --   turnedBy t b           the test b, the other way round where t holds
---   highMinusLow p x e     the readings x of the runs that count plus in e, less those of the runs that count minus
+--   highMinusLow p x e     the readings or run sums x of the runs that count plus in e, less those of the runs that count minus
 --   printedIn p x e        the total of the effect e with the sign that is printed
 --   estimateOf             what the estimate call answers of the effect e, given the total that the totals call leaves of it
 --   MeanDifference, Mean   an answer is the mean of the readings where a test holds, less the mean where it does not; the mean of all
@@ -37,7 +37,7 @@ use Rattle.contrasts.specs.Totals.{Column, total}
 use Rattle.words.specs.Words.{has, oddWord, plusIn}
 use Rattle.plan.specs.declared.types.Plan.{Plan}
 use Rattle.plan.specs.Outcome.{Outcome, given}
-use Rattle.plan.specs.Plan.{addedWords, factorsOf, runsOf, allLetters, confoundedIn}
+use Rattle.plan.specs.Plan.{addedWords, factorsOf, runsOf, allReadings, runSumsOf, allLetters, confoundedIn}
 use Rattle.aliases.specs.Alias.{aliasValues}
 use Rattle.yates.specs.Calls.{totalsRefused}
 use Rattle.estimates.specs.Quotient.{Exactly, positiveZero}
@@ -65,13 +65,13 @@ printedIn p x e = printedTotal e (total (factorsOf p) x e)
 abbrev pub estimateOf : Plan → (readings totals : List ℤ) → ℕ → Outcome Value
 estimateOf p readings totals e = promisedEstimate p e (read (promisedTotals p readings totals .column) e)
 
--- the answer is a difference: the mean of the readings x of the runs in which the test holds, less the mean of the others. It is exactly the sum
--- of the first less the sum of the others, over 2 to the power k - 1. That is half of the runs: in so many of them the test holds, and in so
--- many it does not.
+-- the answer is a difference: the mean of the readings of the runs in which the test holds, less the mean of the others; x has the sum of each
+-- run's readings. It is exactly the sum of the first less the sum of the others, over 2 to the power k - 1 times r. That is how many readings
+-- each of the two has: half of the runs, in which the test holds, or does not, and r readings of each.
 pub record MeanDifference (p : Plan) (test : ℕ → Bool) (x : Column) (answer : Outcome Value) : Type 0 where
   pub value : Float
   pub answered : answer ≡ given (difference value)
-  pub exactly : Exactly (sumWhere (runsOf p) test x -ℤ sumWhere (runsOf p) (λ r. not (test r)) x) (p .k - 1) value
+  pub exactly : Exactly (sumWhere (runsOf p) test x -ℤ sumWhere (runsOf p) (λ r. not (test r)) x) (2 ^ (p .k - 1) * p .repeats) value
   pub half : 2 * 2 ^ (p .k - 1) ≡ runsOf p
   pub runs : countWhere (runsOf p) test ≡ 2 ^ (p .k - 1)
   pub others : countWhere (runsOf p) (λ r. not (test r)) ≡ 2 ^ (p .k - 1)
@@ -119,21 +119,21 @@ abbrev pub Estimates : Type 0
 Estimates =
     (p : Plan) → TwoLevels p → (readings totals : List ℤ) → totalsRefused p readings totals ≡ 0
     → (e : ℕ) → e < runsOf p → (e ≡ 0 → ⊥) → confoundedIn p e ≡ false
-    → MeanDifference p (λ r. plus p r e) (read readings) (estimateOf p readings totals e)
+    → MeanDifference p (λ r. plus p r e) (read (runSumsOf p readings)) (estimateOf p readings totals e)
 
 -- E11: of one letter, i = 0 for A: mean where high less mean where low.
 abbrev pub MainEstimates : Type 0
 MainEstimates =
     (p : Plan) → TwoLevels p → (readings totals : List ℤ) → totalsRefused p readings totals ≡ 0
     → (i : ℕ) → i < p .k
-    → MeanDifference p (λ r. has (high p r) i) (read readings) (estimateOf p readings totals (2 ^ i))
+    → MeanDifference p (λ r. has (high p r) i) (read (runSumsOf p readings)) (estimateOf p readings totals (2 ^ i))
 
 -- E11: of the word of added factor j: mean where the factor is high less mean where it is low; the other way round exactly where it turns.
 abbrev pub AddedEstimates : Type 0
 AddedEstimates =
     (p : Plan) → TwoLevels p → (readings totals : List ℤ) → totalsRefused p readings totals ≡ 0
     → (j : ℕ) → j < length (addedWords p) → word p j < 2 ^ 16
-    → MeanDifference p (λ r. turnedBy (turn p (2 ^ (p .k + j))) (has (high p r) (p .k + j))) (read readings) (estimateOf p readings totals (word p j))
+    → MeanDifference p (λ r. turnedBy (turn p (2 ^ (p .k + j))) (has (high p r) (p .k + j))) (read (runSumsOf p readings)) (estimateOf p readings totals (word p j))
 
 -- E8 to E11: of the base word of any effect of all factors, where it is neither empty nor lost: mean where the effect counts plus less mean where
 -- it counts minus; the other way round exactly where it turns.
@@ -141,19 +141,19 @@ abbrev pub AliasEstimates : Type 0
 AliasEstimates =
     (p : Plan) → TwoLevels p → (readings totals : List ℤ) → totalsRefused p readings totals ≡ 0
     → (e : ℕ) → e < 2 ^ allLetters p → (base p e ≡ 0 → ⊥) → confoundedIn p (base p e) ≡ false
-    → MeanDifference p (λ r. turnedBy (turn p e) (plus p r e)) (read readings) (estimateOf p readings totals (base p e))
+    → MeanDifference p (λ r. turnedBy (turn p e) (plus p r e)) (read (runSumsOf p readings)) (estimateOf p readings totals (base p e))
 
--- E3, E5: the mean: the sum of all readings, which is never negated, over the number of runs.
+-- E3, E5, T30: the mean: the sum of all readings, which is never negated, over their number. x has the sum of each run's readings.
 pub record Mean (p : Plan) (x : Column) (answer : Outcome Value) : Type 0 where
   pub value : Float
   pub answered : answer ≡ given (mean value)
-  pub exactly : Exactly (Σ (runsOf p) x) (p .k) value
-  pub runs : 2 ^ p .k ≡ runsOf p
+  pub exactly : Exactly (Σ (runsOf p) x) (2 ^ p .k * p .repeats) value
+  pub readings : 2 ^ p .k * p .repeats ≡ allReadings p
 
 abbrev pub MeanEstimate : Type 0
 MeanEstimate =
     (p : Plan) → TwoLevels p → (readings totals : List ℤ) → totalsRefused p readings totals ≡ 0
-    → Mean p (read readings) (estimateOf p readings totals 0)
+    → Mean p (read (runSumsOf p readings)) (estimateOf p readings totals 0)
 
 -- E2: "Lost is the outcome exactly when the effect is confounded."
 abbrev pub LostEstimates : Type 0

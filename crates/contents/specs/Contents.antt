@@ -2,12 +2,16 @@
 --
 --   byteAt i body            the byte of a body at a place
 --   wordIn body              the word of its first two bytes
+--   repeatsIn fs             how often each run is made
+--   needless fs              refusal 16: tag 6 is there and holds 1
 --   planIn fs                the plan
 --   readingAt, readingsOf    the readings of the body of field 4
 --   readingsIn fs            those of the sheet
 --   marksIn fs               the marks
+use mathlib.Core.Bool.{Bool, cond, not, _&&_}
 use mathlib.Core.List.{List, [], _∷_}
 use Prim.Native.Nat.{ℕ, _+_, _*_, _/_}
+use lib.Dec.{eqb}
 use lib.IntN.{ℤ}
 use lib.ListN.{length, getD}
 use Rattle.algebra.specs.Tab.{tab}
@@ -24,6 +28,14 @@ byteAt i body = getD body i 0
 abbrev pub wordIn : List ℕ → ℕ
 wordIn body = big (byteAt 0 body ∷ byteAt 1 body ∷ [])
 
+-- S14: "tag 6 holds r in one byte [..], and without it r is 1"
+abbrev pub repeatsIn : Fields → ℕ
+repeatsIn fs = cond (eqb (length (bodies 6 fs)) 0) 1 (byteAt 0 (bodyAt 6 0 fs))
+
+-- N16: "a tag 6 holding 1 also gives 16"
+unfoldable pub needless : Fields → Bool
+needless fs = not (eqb (length (bodies 6 fs)) 0) && eqb (byteAt 0 (bodyAt 6 0 fs)) 1
+
 -- S4 to S6: "Tag 1, once: levels and k, a byte each. Tag 2, per added factor: word, sign byte. Tag 3, per block word: the word."
 -- P10, P11: "Places beyond a plan's counts are ignored; the reader sets them to 0."
 unfoldable pub planIn : Fields → Plan
@@ -35,6 +47,7 @@ planIn fs = record {
   signs = tab mostAdded (λ i. byteAt 2 (bodyAt 2 i fs));
   blocks = length (bodies 3 fs);
   blockwords = tab mostBlocks (λ i. wordIn (bodyAt 3 i fs));
+  repeats = repeatsIn fs;
 }
 
 -- S7: "readings, 4 bytes each in two's complement"

@@ -15,4 +15,5 @@ held p = record {
   signs = p .signs;
   blocks = min (p .blocks) (suc mostBlocks);
   blockwords = p .blockwords;
+  repeats = p .repeats;
 }

@@ -8,7 +8,7 @@ use numerals::pair;
 use plan::Plan;
 ghost use Rattle.algebra.specs.Tab.{tab};
 ghost use Rattle.fields.specs.Fields.{fieldsOf, bodyAt};
-ghost use Rattle.contents.specs.Contents.{byteAt, wordIn, planIn};
+ghost use Rattle.contents.specs.Contents.{byteAt, wordIn, repeatsIn, needless, planIn};
 ghost use Rattle.contents.specs.Held.{held};
 
 // Any number up to the limit, and the limit for those beyond it.
@@ -64,6 +64,26 @@ fn block_words(sheet: &[u8]) -> [u16; 4]
     words
 }
 
+// How often each run is made: once, where no field says more.
+fn repeats_in(sheet: &[u8]) -> u8
+    ensures { λ r. ⌜ r ≡ repeatsIn (fieldsOf (now (sheet .entry))) ⌝ }
+{
+    if count(sheet, 6) == 0 {
+        return 1;
+    }
+    byte(body(sheet, 6, 0), 0)
+}
+
+// Whether a field says that each run is made once, which no field need say.
+pub fn needless_repeats(sheet: &[u8]) -> bool
+    ensures { λ r. ⌜ r ≡ needless (fieldsOf (now (sheet .entry))) ⌝ }
+{
+    if count(sheet, 6) == 0 {
+        return false;
+    }
+    byte(body(sheet, 6, 0), 0) == 1
+}
+
 // The plan of any sheet. More added factors or block words than a plan holds are counted as one more than it holds, which is refused.
 pub fn plan_in(sheet: &[u8]) -> Plan
     ensures { λ r. ⌜ r ≡ held (planIn (fieldsOf (now (sheet .entry)))) ⌝ }
@@ -77,5 +97,6 @@ pub fn plan_in(sheet: &[u8]) -> Plan
         signs: added_signs(sheet),
         blocks: at_most(count(sheet, 3), 5),
         blockwords: block_words(sheet),
+        repeats: repeats_in(sheet),
     }
 }

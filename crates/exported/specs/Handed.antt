@@ -17,7 +17,7 @@ use Rattle.contrasts.specs.Columns.{totalsOf}
 use Rattle.plan.specs.declared.types.Plan.{Plan}
 use Rattle.plan.specs.Check.{withPlan}
 use Rattle.plan.specs.Outcome.{refusal, written}
-use Rattle.plan.specs.Plan.{factorsOf}
+use Rattle.plan.specs.Plan.{factorsOf, runSumsOf}
 use Rattle.anova.specs.declared.types.Figures.{Figures}
 use Rattle.anova.specs.Table.{tableRefused, tableFigures, rowsOf}
 
@@ -60,10 +60,10 @@ module _ (p : Plan) (readings : List ℤ) (marks : List ℕ) (totals : List ℤ)
   -- ---- what is written
 
   unfoldable pub callTotals : List ℤ
-  callTotals = written callRefused (totalsOf (factorsOf p) readings) totals
+  callTotals = written callRefused (totalsOf (factorsOf p) (runSumsOf p readings)) totals
 
   unfoldable pub callRows : List ℕ
-  callRows = written callRefused (rowsOf p readings) rows
+  callRows = written callRefused (rowsOf p (runSumsOf p readings)) rows
 
   unfoldable pub callFigures : List ℕ
   callFigures = written callRefused (figureNumbers (tableFigures p readings marks)) figures

@@ -1,17 +1,17 @@
 // The calls for programs in C, for a whole plan: no added factors, no block words.
 //
-//   yates_pass(levels, k, factor, column)       the pass of one factor, in place
-//   yates_totals(levels, k, readings, totals)   the totals of all effects
-//   anova_table(levels, k, readings, marks, totals, rows, figures, checks)   the analysis of variance
+//   yates_pass(levels, k, factor, column)                the pass of one factor, in place
+//   yates_totals(levels, k, repeats, readings, totals)   the totals of all effects
+//   anova_table(levels, k, repeats, readings, marks, totals, rows, figures, checks)   the analysis of variance
 //
 // Each gives 0 where it is done and the number of the refusal where it is not. In C a slice is a pointer and a length.
 // The slices of one call must not overlap, which `restrict` says: readings and totals in one memory, for instance, give 0 and wrong
 // figures. The contracts below take slices that lie apart, as Rattle lends them; that a program in C lends such is assumed (docs/TRUST.md).
 //
 //   uint8_t yates_pass(uint8_t levels, uint8_t k, size_t factor, int64_t *column, size_t length);
-//   uint8_t yates_totals(uint8_t levels, uint8_t k, const int32_t *restrict readings, size_t readings_length,
+//   uint8_t yates_totals(uint8_t levels, uint8_t k, uint8_t repeats, const int32_t *restrict readings, size_t readings_length,
 //                        int64_t *restrict totals, size_t totals_length);
-//   uint8_t anova_table(uint8_t levels, uint8_t k, const int32_t *restrict readings, size_t readings_length,
+//   uint8_t anova_table(uint8_t levels, uint8_t k, uint8_t repeats, const int32_t *restrict readings, size_t readings_length,
 //                       const uint8_t *restrict marks, size_t marks_length, int64_t *restrict totals, size_t totals_length,
 //                       uint64_t *restrict rows, size_t rows_length, uint64_t *restrict figures, size_t figures_length,
 //                       int64_t *restrict checks, size_t checks_length);
@@ -28,8 +28,8 @@ ghost use Rattle.yates.specs.Calls.{passRefused, passColumn, totalsRefused, tot
 ghost use Rattle.exported.specs.Whole.{wholePlan};
 ghost use Rattle.exported.specs.Handed.{roomRefused, Handed};
 
-fn whole(levels: u8, k: u8) -> Plan
-    ensures { λ r. ⌜ r ≡ wholePlan levels k ⌝ }
+fn whole(levels: u8, k: u8, repeats: u8) -> Plan
+    ensures { λ r. ⌜ r ≡ wholePlan levels k repeats ⌝ }
 {
     Plan {
         levels,
@@ -39,16 +39,17 @@ fn whole(levels: u8, k: u8) -> Plan
         signs: [0; 6],
         blocks: 0,
         blockwords: [0; 4],
+        repeats,
     }
 }
 
-// The pass of one factor over a column, in place.
+// The pass of one factor over a column, in place. The column has a place for each run, however often the runs are made.
 #[no_mangle]
 pub extern "C" fn yates_pass(levels: u8, k: u8, factor: usize, column: &mut [i64]) -> u8
-    ensures { λ r. ⌜ r ≡ passRefused (wholePlan levels k) factor (now (column .entry)) ⌝ }
-    ensures { λ _. ⌜ now (column .exit) ≡ passColumn (wholePlan levels k) factor (now (column .entry)) ⌝ }
+    ensures { λ r. ⌜ r ≡ passRefused (wholePlan levels k 1) factor (now (column .entry)) ⌝ }
+    ensures { λ _. ⌜ now (column .exit) ≡ passColumn (wholePlan levels k 1) factor (now (column .entry)) ⌝ }
 {
-    match yates::pass(whole(levels, k), factor, column) {
+    match yates::pass(whole(levels, k, 1), factor, column) {
         Answer::Done => 0,
         Answer::Refused(n) => n,
     }
@@ -56,11 +57,11 @@ pub extern "C" fn yates_pass(levels: u8, k: u8, factor: usize, column: &mut [i64
 
 // The totals of all effects.
 #[no_mangle]
-pub extern "C" fn yates_totals(levels: u8, k: u8, readings: &[i32], totals: &mut [i64]) -> u8
-    ensures { λ r. ⌜ r ≡ totalsRefused (wholePlan levels k) (now (readings .entry)) (now (totals .entry)) ⌝ }
-    ensures { λ _. ⌜ now (totals .exit) ≡ totalsColumn (wholePlan levels k) (now (readings .entry)) (now (totals .entry)) ⌝ }
+pub extern "C" fn yates_totals(levels: u8, k: u8, repeats: u8, readings: &[i32], totals: &mut [i64]) -> u8
+    ensures { λ r. ⌜ r ≡ totalsRefused (wholePlan levels k repeats) (now (readings .entry)) (now (totals .entry)) ⌝ }
+    ensures { λ _. ⌜ now (totals .exit) ≡ totalsColumn (wholePlan levels k repeats) (now (readings .entry)) (now (totals .entry)) ⌝ }
 {
-    match yates::totals(whole(levels, k), readings, totals) {
+    match yates::totals(whole(levels, k, repeats), readings, totals) {
         Answer::Done => 0,
         Answer::Refused(n) => n,
     }
@@ -80,6 +81,7 @@ fn room_refused(p: Plan) -> u8
 pub extern "C" fn anova_table(
     levels: u8,
     k: u8,
+    repeats: u8,
     readings: &[i32],
     marks: &[u8],
     totals: &mut [i64],
@@ -87,11 +89,11 @@ pub extern "C" fn anova_table(
     figures: &mut [u64],
     checks: &mut [i64],
 ) -> u8
-    ensures { λ r. ⌜ Handed (wholePlan levels k) (now (readings .entry)) (now (marks .entry))
+    ensures { λ r. ⌜ Handed (wholePlan levels k repeats) (now (readings .entry)) (now (marks .entry))
         (now (totals .entry)) (now (rows .entry)) (now (figures .entry)) (now (checks .entry))
         r (now (totals .exit)) (now (rows .exit)) (now (figures .exit)) (now (checks .exit)) ⌝ }
 {
-    let p = whole(levels, k);
+    let p = whole(levels, k, repeats);
     if wrong_room(figures.len(), checks.len()) {
         return room_refused(p);
     }

@@ -14,7 +14,7 @@ use lib.Dec.{eqb, ltb}
 use lib.ListN.{length, getD}
 use Rattle.contrasts.specs.Rows.{degreesOf}
 use Rattle.plan.specs.declared.types.Plan.{Plan}
-use Rattle.plan.specs.Plan.{factorsOf}
+use Rattle.plan.specs.Plan.{factorsOf, runSumsOf}
 use Rattle.rows.specs.Kinds.{rowsIn, kindOf}
 use Rattle.text.specs.Text.{ascii}
 use Rattle.lines.specs.Lines.{rowLine, namedLine, sourceLine, checkLine}
@@ -58,7 +58,7 @@ sheetTable sheet =
     (planIn (fieldsOf sheet))
     (marksIn (fieldsOf sheet))
     (tableFigures (planIn (fieldsOf sheet)) (readingsIn (fieldsOf sheet)) (marksIn (fieldsOf sheet)))
-    (rowsOf (planIn (fieldsOf sheet)) (readingsIn (fieldsOf sheet)))
+    (rowsOf (planIn (fieldsOf sheet)) (runSumsOf (planIn (fieldsOf sheet)) (readingsIn (fieldsOf sheet))))
 
 -- W2: "Over 5,187 bytes it prints `refused 1`"
 abbrev pub longestSheet : ℕ

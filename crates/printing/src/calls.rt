@@ -10,8 +10,9 @@ use plan::Plan;
 use rows::row_count;
 use sheet::marks;
 use sheet::read;
+use sizes::reading_count;
 use sizes::runs;
-ghost use Rattle.plan.specs.Plan.{runsOf};
+ghost use Rattle.plan.specs.Plan.{allReadings};
 ghost use Rattle.text.specs.Text.{Wrote};
 ghost use Rattle.sheet.specs.Sheet.{marksRefused};
 ghost use Rattle.printing.specs.Inner.Ready.{SheetReady};
@@ -19,7 +20,7 @@ ghost use Rattle.printing.specs.Inner.Written.{madeText};
 ghost use Rattle.printing.specs.Input.{Decides};
 ghost use Rattle.printing.specs.Printed.{printed, sheetTable, longestSheet, textOf};
 
-// The most runs or rows of a plan.
+// The most runs, readings or rows of a plan.
 const MOST: usize = 1024;
 
 // The most bytes of a sheet.
@@ -35,17 +36,18 @@ pub const TEXT: usize = 69632;
 fn lend(text: &mut [u8], p: Plan, column: &[i32], marks: &[u8]) -> usize
     requires { ⌜ SheetReady p (now column) (now marks) ⌝ }
     ensures { λ r. ⌜ Wrote (now (text .entry)) 0
-        (madeText p (take (runsOf p) (now (column .entry))) (now (marks .entry)))
+        (madeText p (take (allReadings p) (now (column .entry))) (now (marks .entry)))
         (now (text .exit)) r ⌝ }
 {
     let mut totals = [0i64; MOST];
     let mut rows = [0u64; MOST];
     let n = runs(p);
+    let m = reading_count(p);
     let r = row_count(p);
     answer_text(
         text,
         p,
-        &column[..n],
+        &column[..m],
         marks,
         &mut totals[..n],
         &mut rows[..r],

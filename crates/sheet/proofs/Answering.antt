@@ -15,11 +15,11 @@ use lib.Dec.{ltb}
 use lib.IntN.{ℤ}
 use lib.ListN.{length, drop, length-append, length-drop}
 use Rattle.plan.specs.declared.types.Plan.{Plan}
-use Rattle.plan.specs.Check.{runCount}
+use Rattle.plan.specs.Check.{readingCount}
 use Rattle.plan.specs.Outcome.{Outcome, given, refused, outcome}
-use Rattle.plan.specs.Plan.{factorsOf, runsOf}
+use Rattle.plan.specs.Plan.{factorsOf, allReadings}
 use Rattle.plan.specs.Laws.Answers.{stopped, completed, unwritten, written-new}
-use Rattle.columns.specs.Laws.Admitted.{as-long}
+use Rattle.columns.specs.Laws.Admitted.{all-readings}
 use Rattle.fields.specs.Fields.{fieldsOf, bodyAt}
 use Rattle.contents.specs.Contents.{planIn, readingsOf, readingsIn, marksIn}
 use Rattle.sheet.specs.Sheet.{refusedWith, readRefused, noPlan, readPlan, readColumn, marksRefused, marksOf}
@@ -34,14 +34,14 @@ module _ (sheet : List ℕ) {p : Plan} (is : p ≡ held (planIn (fieldsOf sheet)
   unfolding marksRefused
   marks-refused e = e ∙ ap (λ q. refusedWith (fieldsOf sheet) q false) is ∙ held-with (fieldsOf sheet) (planIn (fieldsOf sheet)) false
 
-  pub read-refused : (room : ℕ) {m n : ℕ} → m ≡ runCount p → n ≡ refusedWith (fieldsOf sheet) p (ltb room m) → n ≡ readRefused sheet room
+  pub read-refused : (room : ℕ) {m n : ℕ} → m ≡ readingCount p → n ≡ refusedWith (fieldsOf sheet) p (ltb room m) → n ≡ readRefused sheet room
   unfolding readRefused held factorsOf
   read-refused room r e =
       e
       ∙ ap (λ i. refusedWith (fieldsOf sheet) p (ltb room i)) r
-      ∙ ap (λ q. refusedWith (fieldsOf sheet) q (ltb room (runCount q))) is
+      ∙ ap (λ q. refusedWith (fieldsOf sheet) q (ltb room (readingCount q))) is
       ∙ narrow-by (fieldsOf sheet) (held (planIn (fieldsOf sheet))) room
-      ∙ held-with (fieldsOf sheet) (planIn (fieldsOf sheet)) (ltb room (runsOf (planIn (fieldsOf sheet))))
+      ∙ held-with (fieldsOf sheet) (planIn (fieldsOf sheet)) (ltb room (allReadings (planIn (fieldsOf sheet))))
 
 -- ---- the reader
 
@@ -63,8 +63,8 @@ module _ (sheet : List ℕ) (column : List ℤ) where
       pub room-for : length body / 4 ≤ length column
       room-for =
           let a = read-admitted sheet (length column) z in
-          let n : length (readingsOf body) ≡ runsOf (planIn (fieldsOf sheet)) = rw is (as-long (planIn (fieldsOf sheet)) (length (readingsIn (fieldsOf sheet))) (a .readings)) in
-          rw (← (readings-long body), n) (ltb-false (length column) (runsOf (planIn (fieldsOf sheet))) (a .wide))
+          let n : length (readingsOf body) ≡ allReadings (planIn (fieldsOf sheet)) = rw is (all-readings (planIn (fieldsOf sheet)) (length (readingsIn (fieldsOf sheet))) (a .readings)) in
+          rw (← (readings-long body), n) (ltb-false (length column) (allReadings (planIn (fieldsOf sheet))) (a .wide))
 
       -- the readings are put into the first places
       module _ {part : List ℤ} (put : part ≡ readingsOf body) where

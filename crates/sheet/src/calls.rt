@@ -7,7 +7,7 @@ use contents::plan_in;
 use contents::put_readings;
 use fields::body;
 use plan::Plan;
-use sizes::runs;
+use sizes::reading_count;
 ghost use lib.ListN.{length};
 ghost use Rattle.plan.specs.Outcome.{outcome};
 ghost use Rattle.columns.specs.Refusals.{answerOutcome};
@@ -24,6 +24,7 @@ fn no_plan() -> Plan
         signs: [0; 6],
         blocks: 0,
         blockwords: [0; 4],
+        repeats: 0,
     }
 }
 
@@ -34,7 +35,7 @@ pub fn read(sheet: &[u8], column: &mut [i32]) -> Sheet
     ensures { λ _. ⌜ now (column .exit) ≡ readColumn (now (sheet .entry)) (now (column .entry)) ⌝ }
 {
     let p = plan_in(sheet);
-    let n = sheet_refused(sheet, p, column.len() < runs(p));
+    let n = sheet_refused(sheet, p, column.len() < reading_count(p));
     let none = no_plan();
     if n != 0 {
         return Sheet {

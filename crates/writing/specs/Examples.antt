@@ -3,6 +3,7 @@
 --   sample          the sheet of the rules' run: readings 3, 5, 4, 8 and marks 0, 0, 0, 1, byte by byte
 --   sample-written, sample-plan, sample-column, sample-marks    it is written so, and what both calls give of it
 --   narrow          a column that is too short for it
+--   twice-written   the sheet of runs that are made twice
 --   refusedSheets, small-inputs    the small input of each refusal that a sheet can show
 --   no-marks        the marks call gives an empty part of each of these
 use mathlib.Core.Path.{_≡_, refl}
@@ -14,20 +15,21 @@ use Rattle.algebra.specs.Bits.{bits}
 use Rattle.algebra.specs.Naturals.{Σℕ}
 use Rattle.algebra.specs.Search.{some}
 use Rattle.algebra.specs.Tab.{tabFrom}
-use Rattle.contrasts.specs.Limits.{twoReadingLimit, threeReadingLimit, mostTwo, mostThree}
+use Rattle.contrasts.specs.Limits.{twoReadingLimit, threeReadingLimit, mostTwo, mostThree, isRepeats, mostReadings}
 use Rattle.contrasts.specs.Factors.{two, three}
 use Rattle.contrasts.specs.Totals.{size}
 use Rattle.words.specs.Words.{letters, beyond, times, combined, any, among, repeated}
-use Rattle.plan.specs.Check.{badLevels, badFactors, badCounts, badWord, badSign, badWords, dependent, factorWord, losesFactor, planRefused, withPlan}
+use Rattle.plan.specs.Check.{badLevels, badFactors, badCounts, badWord, badSign, badWords, dependent, factorWord, losesFactor, badRepeats, planRefused, withPlan}
 use Rattle.plan.specs.Limits.{readingLimit, isBeyond}
-use Rattle.plan.specs.Examples.{AB, ABC, C, plan}
+use Rattle.plan.specs.Examples.{AB, ABC, C, plan, made}
 use Rattle.plan.specs.Plan.{factorsOf, someCombination, combinesTo}
-use Rattle.columns.specs.Refusals.{wrongLength, anyBeyond}
+use Rattle.columns.specs.Refusals.{wrongReadings, anyBeyond}
 use Rattle.rows.specs.Kinds.{wrongRows, badMark, badMarks}
 use Rattle.numerals.specs.Numbers.{big, twos}
 use Rattle.fields.specs.Fields.{parse, fieldsOf, bodies, bodyAt}
 use Rattle.fields.specs.Tags.{badFrom, badFields}
-use Rattle.contents.specs.Contents.{planIn, readingAt, readingsOf}
+use Rattle.contents.specs.Contents.{needless, planIn, readingAt, readingsOf}
+use Rattle.sheet.specs.Examples.{twice}
 use Rattle.sheet.specs.Sheet.{refusedWith, readRefused, noPlan, readPlan, readColumn, marksRefused, marksOf}
 use Rattle.writing.specs.Writer.{bytes, bytesOf, each, readingBytes, sheetFields, sheetOf}
 
@@ -47,23 +49,28 @@ sample-written = refl
 
 -- S9 to S12: the plan; the first four of six places; the marks
 sample-plan : readPlan sample 6 ≡ plan 2 2 [] [] []
-unfolding readPlan readRefused refusedWith planIn readingsOf readingAt twos big fieldsOf parse bodies bodyAt badFields badFrom wrongLength wrongRows anyBeyond isBeyond badMarks badMark withPlan planRefused badLevels badFactors mostTwo mostThree badCounts badWords badWord badSign repeated dependent losesFactor factorWord any among beyond letters combined times someCombination combinesTo some bits Σℕ readingLimit twoReadingLimit threeReadingLimit factorsOf size two three tabFrom
+unfolding readPlan readRefused refusedWith needless planIn readingsOf readingAt twos big fieldsOf parse bodies bodyAt badFields badFrom wrongReadings wrongRows anyBeyond isBeyond badMarks badMark withPlan planRefused badLevels badFactors mostTwo mostThree badCounts badWords badWord badSign repeated dependent losesFactor factorWord badRepeats isRepeats mostReadings any among beyond letters combined times someCombination combinesTo some bits Σℕ readingLimit twoReadingLimit threeReadingLimit factorsOf size two three tabFrom
 sample-plan = refl
 
 sample-column : readColumn sample (replicate 6 (pos 9)) ≡ pos 3 ∷ pos 5 ∷ pos 4 ∷ pos 8 ∷ pos 9 ∷ pos 9 ∷ []
-unfolding readColumn readRefused refusedWith planIn readingsOf readingAt twos big fieldsOf parse bodies bodyAt badFields badFrom wrongLength wrongRows anyBeyond isBeyond badMarks badMark withPlan planRefused badLevels badFactors mostTwo mostThree badCounts badWords badWord badSign repeated dependent losesFactor factorWord any among beyond letters combined times someCombination combinesTo some bits Σℕ readingLimit twoReadingLimit threeReadingLimit factorsOf size two three tabFrom
+unfolding readColumn readRefused refusedWith needless planIn readingsOf readingAt twos big fieldsOf parse bodies bodyAt badFields badFrom wrongReadings wrongRows anyBeyond isBeyond badMarks badMark withPlan planRefused badLevels badFactors mostTwo mostThree badCounts badWords badWord badSign repeated dependent losesFactor factorWord badRepeats isRepeats mostReadings any among beyond letters combined times someCombination combinesTo some bits Σℕ readingLimit twoReadingLimit threeReadingLimit factorsOf size two three tabFrom
 sample-column = refl
 
 sample-marks : marksOf sample ≡ 0 ∷ 0 ∷ 0 ∷ 1 ∷ []
-unfolding marksOf marksRefused refusedWith planIn readingsOf readingAt twos big fieldsOf parse bodies bodyAt badFields badFrom wrongLength wrongRows anyBeyond isBeyond badMarks badMark withPlan planRefused badLevels badFactors mostTwo mostThree badCounts badWords badWord badSign repeated dependent losesFactor factorWord any among beyond letters combined times someCombination combinesTo some bits Σℕ readingLimit twoReadingLimit threeReadingLimit factorsOf size two three tabFrom
+unfolding marksOf marksRefused refusedWith needless planIn readingsOf readingAt twos big fieldsOf parse bodies bodyAt badFields badFrom wrongReadings wrongRows anyBeyond isBeyond badMarks badMark withPlan planRefused badLevels badFactors mostTwo mostThree badCounts badWords badWord badSign repeated dependent losesFactor factorWord badRepeats isRepeats mostReadings any among beyond letters combined times someCombination combinesTo some bits Σℕ readingLimit twoReadingLimit threeReadingLimit factorsOf size two three tabFrom
 sample-marks = refl
 
 -- N11, L2: a column of three places: nothing is written, and the plan is all zeros
 narrow : (readRefused sample 3 ≡ 11) × (readPlan sample 3 ≡ noPlan) × (readColumn sample (replicate 3 (pos 9)) ≡ replicate 3 (pos 9))
-unfolding readPlan readColumn readRefused refusedWith planIn readingsOf readingAt twos big fieldsOf parse bodies bodyAt badFields badFrom wrongLength wrongRows anyBeyond isBeyond badMarks badMark withPlan planRefused badLevels badFactors mostTwo mostThree badCounts badWords badWord badSign repeated dependent losesFactor factorWord any among beyond letters combined times someCombination combinesTo some bits Σℕ readingLimit twoReadingLimit threeReadingLimit factorsOf size two three tabFrom
+unfolding readPlan readColumn readRefused refusedWith needless planIn readingsOf readingAt twos big fieldsOf parse bodies bodyAt badFields badFrom wrongReadings wrongRows anyBeyond isBeyond badMarks badMark withPlan planRefused badLevels badFactors mostTwo mostThree badCounts badWords badWord badSign repeated dependent losesFactor factorWord badRepeats isRepeats mostReadings any among beyond letters combined times someCombination combinesTo some bits Σℕ readingLimit twoReadingLimit threeReadingLimit factorsOf size two three tabFrom
 narrow = (refl, refl, refl)
 
--- N1 to N8, N11 to N13: the small inputs; and seven added factors
+-- S14: tag 6 is written where runs are not made once
+twice-written : sheetOf (made 2 (plan 2 1 [] [] [])) four (0 ∷ 0 ∷ []) ≡ twice
+unfolding sheetOf sheetFields bytesOf each readingBytes bytes
+twice-written = refl
+
+-- N1 to N8, N11 to N13: the small inputs; seven added factors; N16: runs made three times; S15: N readings of runs made twice
 abbrev refusedSheets : List (List ℕ)
 refusedSheets =
     []
@@ -78,13 +85,15 @@ refusedSheets =
     ∷ sheetOf (plan 3 1 [] [] []) (pos 2 ∷ pos 5 ∷ pos 100_001 ∷ []) (0 ∷ 0 ∷ [])
     ∷ sheetOf (plan 2 2 [] [] []) four (1 ∷ 0 ∷ 0 ∷ 0 ∷ [])
     ∷ sheetOf (plan 2 4 (replicate 7 AB) (replicate 7 0) []) four (0 ∷ 0 ∷ [])
+    ∷ sheetOf (made 3 (plan 2 1 [] [] [])) four (0 ∷ 0 ∷ [])
+    ∷ sheetOf (made 2 (plan 2 2 [] [] [])) four (0 ∷ 0 ∷ 0 ∷ 0 ∷ [])
     ∷ []
 
-small-inputs : map (λ sheet. readRefused sheet 8) refusedSheets ≡ 1 ∷ 2 ∷ 3 ∷ 4 ∷ 5 ∷ 6 ∷ 7 ∷ 8 ∷ 11 ∷ 12 ∷ 13 ∷ 4 ∷ []
-unfolding sheetOf sheetFields bytesOf each readingBytes bytes readRefused refusedWith planIn readingsOf readingAt twos big fieldsOf parse bodies bodyAt badFields badFrom wrongLength wrongRows anyBeyond isBeyond badMarks badMark withPlan planRefused badLevels badFactors mostTwo mostThree badCounts badWords badWord badSign repeated dependent losesFactor factorWord any among beyond letters combined times someCombination combinesTo some bits Σℕ readingLimit twoReadingLimit threeReadingLimit factorsOf size two three tabFrom
+small-inputs : map (λ sheet. readRefused sheet 8) refusedSheets ≡ 1 ∷ 2 ∷ 3 ∷ 4 ∷ 5 ∷ 6 ∷ 7 ∷ 8 ∷ 11 ∷ 12 ∷ 13 ∷ 4 ∷ 16 ∷ 11 ∷ []
+unfolding sheetOf sheetFields bytesOf each readingBytes bytes readRefused refusedWith needless planIn readingsOf readingAt twos big fieldsOf parse bodies bodyAt badFields badFrom wrongReadings wrongRows anyBeyond isBeyond badMarks badMark withPlan planRefused badLevels badFactors mostTwo mostThree badCounts badWords badWord badSign repeated dependent losesFactor factorWord badRepeats isRepeats mostReadings any among beyond letters combined times someCombination combinesTo some bits Σℕ readingLimit twoReadingLimit threeReadingLimit factorsOf size two three tabFrom
 small-inputs = refl
 
 -- S13: "if the sheet is refused, an empty part"; of `sample`, which only a narrow column has refused, it gives the marks all the same
-no-marks : map marksOf refusedSheets ≡ replicate 12 []
-unfolding sheetOf sheetFields bytesOf each readingBytes bytes marksOf marksRefused refusedWith planIn readingsOf readingAt twos big fieldsOf parse bodies bodyAt badFields badFrom wrongLength wrongRows anyBeyond isBeyond badMarks badMark withPlan planRefused badLevels badFactors mostTwo mostThree badCounts badWords badWord badSign repeated dependent losesFactor factorWord any among beyond letters combined times someCombination combinesTo some bits Σℕ readingLimit twoReadingLimit threeReadingLimit factorsOf size two three tabFrom
+no-marks : map marksOf refusedSheets ≡ replicate 14 []
+unfolding sheetOf sheetFields bytesOf each readingBytes bytes marksOf marksRefused refusedWith needless planIn readingsOf readingAt twos big fieldsOf parse bodies bodyAt badFields badFrom wrongReadings wrongRows anyBeyond isBeyond badMarks badMark withPlan planRefused badLevels badFactors mostTwo mostThree badCounts badWords badWord badSign repeated dependent losesFactor factorWord badRepeats isRepeats mostReadings any among beyond letters combined times someCombination combinesTo some bits Σℕ readingLimit twoReadingLimit threeReadingLimit factorsOf size two three tabFrom
 no-marks = refl

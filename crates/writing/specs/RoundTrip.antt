@@ -15,7 +15,7 @@ use mathlib.Core.Bool.{false}
 use Rattle.plan.specs.declared.types.Plan.{Plan}
 use Rattle.plan.specs.Check.{planRefused}
 use Rattle.plan.specs.Limits.{readingLimit}
-use Rattle.plan.specs.Plan.{runsOf}
+use Rattle.plan.specs.Plan.{allReadings}
 use Rattle.columns.specs.Refusals.{anyBeyond}
 use Rattle.rows.specs.Kinds.{rowsIn, badMarks}
 use Rattle.sheet.specs.Sheet.{readRefused, readPlan, readColumn, marksOf}
@@ -40,7 +40,7 @@ pub record Clean (p : Plan) : Type 0 where
 pub record Sheetable (p : Plan) (xs : List ℤ) (marks : List ℕ) : Type 0 where
   pub shaped : Shaped p
   pub accepted : planRefused p ≡ 0
-  pub whole : length xs ≡ runsOf p
+  pub whole : length xs ≡ allReadings p
   pub within : anyBeyond (readingLimit p) xs ≡ false
   pub rows : length marks ≡ rowsIn p
   pub lawful : badMarks p marks ≡ false

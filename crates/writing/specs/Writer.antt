@@ -7,12 +7,13 @@
 --   readingBytes xs         the bytes of readings
 --   addedBody p i           the body of the field of added factor i
 --   blockBody p i           and of block word i
+--   repeatsFields p rest    the field of the repeats where runs are not made once, and then the rest
 --   sheetFields, sheetOf    the fields and the bytes of the whole sheet
 --   settled p               the plan p with 0 at the places beyond its counts
 use mathlib.Core.Bool.{cond}
 use mathlib.Core.List.{List, [], _∷_, _++_}
 use Prim.Native.Nat.{ℕ, zero, suc, _-_, _/_, _%_, _^_}
-use lib.Dec.{ltb}
+use lib.Dec.{eqb, ltb}
 use lib.IntN.{ℤ, pos, negsuc}
 use lib.ListN.{length, getD}
 use Rattle.algebra.specs.Tab.{tab}
@@ -53,10 +54,15 @@ addedBody p i = bytes 2 (getD (p .words) i 0) ++ (getD (p .signs) i 0 ∷ [])
 abbrev pub blockBody : Plan → ℕ → List ℕ
 blockBody p i = bytes 2 (getD (p .blockwords) i 0)
 
+-- S14: "tag 6 holds r in one byte [..], and without it r is 1"; N16: "a tag 6 holding 1 also gives 16"
+abbrev pub repeatsFields : Plan → Fields → Fields
+repeatsFields p rest = each 6 (cond (eqb (p .repeats) 1) 0 1) (λ i. p .repeats ∷ []) rest
+
 -- S4 to S8: "Tag 1, once [..]. Tag 2, per added factor [..]. Tag 3, per block word [..]. Tag 4, once [..]. Tag 5, once [..]."
+-- S14: tag 6 "stands between tags 3 and 4"
 unfoldable pub sheetFields : Plan → List ℤ → List ℕ → Fields
 sheetFields p xs marks =
-    field 1 (p .levels ∷ p .k ∷ []) (each 2 (p .added) (addedBody p) (each 3 (p .blocks) (blockBody p) (field 4 (readingBytes xs) (field 5 marks end))))
+    field 1 (p .levels ∷ p .k ∷ []) (each 2 (p .added) (addedBody p) (each 3 (p .blocks) (blockBody p) (repeatsFields p (field 4 (readingBytes xs) (field 5 marks end)))))
 
 unfoldable pub sheetOf : Plan → List ℤ → List ℕ → List ℕ
 sheetOf p xs marks = bytesOf (sheetFields p xs marks)
@@ -71,4 +77,5 @@ settled p = record {
   signs = tab mostAdded (λ i. cond (ltb i (p .added)) (getD (p .signs) i 0) 0);
   blocks = p .blocks;
   blockwords = tab mostBlocks (λ i. cond (ltb i (p .blocks)) (getD (p .blockwords) i 0) 0);
+  repeats = p .repeats;
 }

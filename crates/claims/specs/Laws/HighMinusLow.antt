@@ -19,23 +19,24 @@ use Rattle.algebra.specs.Sum.{Σ}
 use Rattle.algebra.specs.Laws.Tab.{getD-tab}
 use Rattle.contrasts.specs.Columns.{read, totalsOf}
 use Rattle.contrasts.specs.Totals.{Column, total}
+use Rattle.contrasts.specs.Laws.Repeats.{sums-within}
 use Rattle.contrasts.specs.Laws.Signed.{contrast-turned, contrast-all, count-half}
 use Rattle.words.specs.Words.{has, oddWord, oddIn, plusIn}
 use Rattle.words.specs.Laws.Parity.{odd-swap, none-odd, plus-odd, one-plus}
 use Rattle.plan.specs.declared.types.Plan.{Plan}
 use Rattle.plan.specs.Outcome.{Outcome, given, refused}
-use Rattle.plan.specs.Plan.{addedWords, addedSigns, factorsOf, runsOf, allLetters, confoundedIn}
+use Rattle.plan.specs.Plan.{addedWords, addedSigns, factorsOf, runsOf, runSumsOf, allLetters, confoundedIn}
 use Rattle.plan.specs.Limits.{readingLimit}
 use Rattle.plan.specs.Laws.Answers.{given-with, refused-with, written-new}
 use Rattle.plan.specs.Laws.Coefficients.{plan-total, plan-balance}
 use Rattle.plan.specs.Laws.Confounded.{letter-kept, word-kept, word-some}
 use Rattle.plan.specs.Laws.Sizes.{runs-two, letters-few}
-use Rattle.columns.specs.Laws.Admitted.{admitted}
+use Rattle.columns.specs.Laws.Admitted.{readings-admitted}
 use Rattle.aliases.specs.Laws.BaseWord.{base-own, turned-own, base-one, turned-one}
 use Rattle.aliases.specs.Laws.InRuns.{plan-reduces}
 use Rattle.yates.specs.Calls.{totalsRefused, totalsColumn}
 use Rattle.estimates.specs.Quotient.{positiveZero}
-use Rattle.estimates.specs.Estimate.{Value, mean, difference, lost, printedTotal, meanOf, differenceOf, valueBy, estimateRefused, estimateValue}
+use Rattle.estimates.specs.Estimate.{Value, mean, difference, lost, powerOf, printedTotal, meanOf, differenceOf, valueBy, estimateRefused, estimateValue}
 use Rattle.estimates.specs.Laws.Exact.{positive-zero as zero-quotient}
 use Rattle.estimates.specs.Laws.Given.{admits, Estimated, estimated}
 use Rattle.estimates.specs.Laws.Differences.{zero-difference}
@@ -121,19 +122,22 @@ no-contrast p t e h not-mean =
     zero false = refl
 
 module _ (p : Plan) (t : TwoLevels p) (readings totals : List ℤ) (n : totalsRefused p readings totals ≡ 0) (e : ℕ) (h : e < runsOf p) where
+  abbrev sums : List ℤ
+  sums = runSumsOf p readings
+
   abbrev total-of : ℤ
-  total-of = total (factorsOf p) (read readings) e
+  total-of = total (factorsOf p) (read sums) e
 
   left : read (totalsColumn p readings totals) e ≡ total-of
   unfolding totalsColumn totalsOf
   left =
-      ap (λ (ts : List ℤ). read ts e) (sym (written-new _ (totalsOf (factorsOf p) readings) totals n))
-      ∙ getD-tab (pos 0) (runsOf p) (total (factorsOf p) (read readings)) e h
+      ap (λ (ts : List ℤ). read ts e) (sym (written-new _ (totalsOf (factorsOf p) sums) totals n))
+      ∙ getD-tab (pos 0) (runsOf p) (total (factorsOf p) (read sums)) e h
 
   no-refusal : estimateRefused p e total-of ≡ 0
   no-refusal =
-      let c = admitted (readingLimit p) p readings totals n in
-      admits (totals-admitted p (t .accepted) (t .two) (read readings) (λ r l. c .within r) e h)
+      let within = sums-within (runsOf p) (p .repeats) (readingLimit p) readings (readings-admitted p readings totals n .within) in
+      admits (totals-admitted p (t .accepted) (t .two) (read sums) (λ r l. within r) e h)
 
   found : Estimated p e total-of
   found = estimated p e total-of no-refusal
@@ -150,9 +154,9 @@ estimates p t readings totals n e h not-mean kept =
     let half = half-of (p .k) (runsOf p) (some-factor p t) (runs-two p (t .two)) in
     let counts = count-half (runsOf p) (2 ^ (p .k - 1)) (λ r. plus p r e) half (no-contrast p t e h not-mean) in
     record {
-      value = differenceOf (p .k) e (total-of p t readings totals n e h);
+      value = differenceOf (powerOf p) e (total-of p t readings totals n e h);
       answered = value-of p t readings totals n e h ∙ ap given (f .of-difference kept not-mean);
-      exactly = rw (printed-totals p t (read readings) e h) at (f .difference-exact);
+      exactly = rw (printed-totals p t (read (runSumsOf p readings)) e h) at (f .difference-exact);
       half = half;
       runs = counts .0;
       others = counts .1;
@@ -181,7 +185,7 @@ added-estimates p t readings totals n j h small =
     let i : p .k + j < allLetters p = omega (arith, h) in
     let e = 2 ^ (p .k + j) in
     other-test (λ r. ap (turnedBy (turn p e)) (one-high p t (p .k + j) r i))
-    (subst (λ (w : ℕ). MeanDifference p (λ r. turnedBy (turn p e) (plus p r e)) (read readings) (estimateOf p readings totals w)) (g .reduces)
+    (subst (λ (w : ℕ). MeanDifference p (λ r. turnedBy (turn p e) (plus p r e)) (read (runSumsOf p readings)) (estimateOf p readings totals w)) (g .reduces)
     (alias-estimates p t readings totals n e (pow-lt i) (λ z. word-some (a p t) j h (sym (g .reduces) ∙ z)) (ap (confoundedIn p) (g .reduces) ∙ word-kept (a p t) j h)))
 
 pub mean-estimate : MeanEstimate
@@ -189,13 +193,14 @@ mean-estimate p t readings totals n =
     let some : 0 < runsOf p = rw (runs-two p (t .two)) (pow-pos (p .k)) in
     let f = found p t readings totals n 0 some in
     let all-plus : (r : ℕ) → not (oddIn r 0) ≡ true = λ r. ap not (odd-swap r 0 ∙ none-odd r) in
-    let sum : total (factorsOf p) (read readings) 0 ≡ Σ (runsOf p) (read readings)
-    = plan-total p (t .accepted) (t .two) 0 some (read readings) ∙ contrast-all (runsOf p) (λ r. not (oddIn r 0)) (read readings) all-plus in
+    let x = read (runSumsOf p readings) in
+    let sum : total (factorsOf p) x 0 ≡ Σ (runsOf p) x
+    = plan-total p (t .accepted) (t .two) 0 some x ∙ contrast-all (runsOf p) (λ r. not (oddIn r 0)) x all-plus in
     record {
-      value = meanOf (p .k) (Σ (runsOf p) (read readings));
-      answered = value-of p t readings totals n 0 some ∙ ap given (f .of-mean refl) ∙ ap (λ (z : ℤ). given (mean (meanOf (p .k) z))) sum;
+      value = meanOf (powerOf p) (Σ (runsOf p) x);
+      answered = value-of p t readings totals n 0 some ∙ ap given (f .of-mean refl) ∙ ap (λ (z : ℤ). given (mean (meanOf (powerOf p) z))) sum;
       exactly = rw sum at (f .mean-exact);
-      runs = sym (runs-two p (t .two));
+      readings = ap (λ (m : ℕ). m * p .repeats) (sym (runs-two p (t .two)));
     }
 
 abbrev valueIn : Value → Outcome Value → Value
@@ -230,7 +235,7 @@ zero-number : (p : Plan) (e : ℕ) → numberIn (promisedEstimate p e (pos 0)) �
 zero-number p e = by (ℕ-discrete (estimateRefused p e (pos 0)) 0)
   where
     by : Dec (estimateRefused p e (pos 0) ≡ 0) → numberIn (promisedEstimate p e (pos 0)) ≡ positiveZero
-    by (yes z) = rw (given-with (estimateRefused p e (pos 0)) (estimateValue p e (pos 0)) z) (zero-value (confoundedIn p e) (p .k) e)
+    by (yes z) = rw (given-with (estimateRefused p e (pos 0)) (estimateValue p e (pos 0)) z) (zero-value (confoundedIn p e) (powerOf p) e)
     by (no h) = rw (refused-with (estimateRefused p e (pos 0)) (estimateValue p e (pos 0)) h) refl
 
 pub positive-zero : PositiveZero

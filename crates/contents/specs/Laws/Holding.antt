@@ -31,6 +31,7 @@ held-same p h k = λ i. record {
   signs = p .signs;
   blocks = min-small (p .blocks) 5 (omega arith) i;
   blockwords = p .blockwords;
+  repeats = p .repeats;
 }
 
 over-added : (levels a b : ℕ) → 7 ≤ a → badCounts levels a b ≡ true

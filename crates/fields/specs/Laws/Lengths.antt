@@ -5,7 +5,7 @@
 --   span-whole                        so of a sheet, where refusal 1 does not apply
 --   spans, byTags, span-by-tags       these bytes, tag by tag
 --   span-of-sheet                     of a sheet: 5, 6 for each field 2, 5 for each field 3, 4 for field 6, and the two bodies with 3 each
---   four-whole, six-byte              field 4 is whole readings, and field 6 one byte
+--   four-whole                        field 4 is whole readings
 use mathlib.Core.Path.{_≡_, refl, _∙_}
 use mathlib.Core.Bool.{Bool, true, false, cond, true≢false}
 use mathlib.Core.List.{List, [], _∷_}
@@ -145,6 +145,3 @@ module _ (s : List ℕ) (e : badFields (fieldsOf s) ≡ false) where
 
   pub four-whole : length (bodyAt 4 0 (fieldsOf s)) % 4 ≡ 0
   four-whole = eqb-true (length (bodyAt 4 0 (fieldsOf s)) % 4) 0 (body-admitted 4 (counted (fieldsOf s) e .fours))
-
-  pub six-byte : length (bodies 6 (fieldsOf s)) ≡ 1 → length (bodyAt 6 0 (fieldsOf s)) ≡ 1
-  six-byte c = eqb-true (length (bodyAt 6 0 (fieldsOf s))) 1 (body-admitted 6 c)

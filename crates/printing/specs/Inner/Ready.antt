@@ -11,7 +11,7 @@ use lib.ListN.{length, take}
 use Rattle.plan.specs.declared.types.Plan.{Plan}
 use Rattle.plan.specs.Check.{planRefused}
 use Rattle.plan.specs.Limits.{readingLimit}
-use Rattle.plan.specs.Plan.{runsOf}
+use Rattle.plan.specs.Plan.{allReadings}
 use Rattle.columns.specs.Refusals.{anyBeyond}
 use Rattle.rows.specs.Kinds.{rowsIn, badMarks}
 
@@ -22,6 +22,6 @@ pub record RowsReady (p : Plan) (rows : List ℕ) : Type 0 where
 pub record SheetReady (p : Plan) (column : List ℤ) (marks : List ℕ) : Type 0 where
   pub plan : planRefused p ≡ 0
   pub wide : length column ≡ 1024
-  pub within : anyBeyond (readingLimit p) (take (runsOf p) column) ≡ false
+  pub within : anyBeyond (readingLimit p) (take (allReadings p) column) ≡ false
   pub marks-long : length marks ≡ rowsIn p
   pub lawful : badMarks p marks ≡ false

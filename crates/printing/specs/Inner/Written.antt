@@ -11,6 +11,7 @@ use lib.Dec.{eqb}
 use lib.IntN.{ℤ}
 use lib.ListN.{getD}
 use Rattle.plan.specs.declared.types.Plan.{Plan}
+use Rattle.plan.specs.Plan.{runSumsOf}
 use Rattle.words.specs.Words.{letters}
 use Rattle.rows.specs.Kinds.{kindIn}
 use Rattle.lines.specs.Lines.{rowLine}
@@ -30,7 +31,7 @@ rowsBy levels kinds rows (suc w) = rowsBy levels kinds rows w ++ rowLine w (degr
 -- ---- the table
 
 abbrev pub madeText : Plan → List ℤ → List ℕ → List ℕ
-madeText p readings marks = tableText p marks (tableFigures p readings marks) (rowsOf p readings)
+madeText p readings marks = tableText p marks (tableFigures p readings marks) (rowsOf p (runSumsOf p readings))
 
 abbrev pub answerText : Plan → List ℤ → List ℕ → List ℤ → List ℕ → List ℕ
 answerText p readings marks totals rows = printed (tableRefused p readings marks totals rows) (madeText p readings marks)

@@ -16,7 +16,7 @@ use lib.ListN.{length, getD, drop, length-append}
 use Rattle.contrasts.specs.Rows.{degreesOf}
 use Rattle.plan.specs.declared.types.Plan.{Plan}
 use Rattle.plan.specs.Check.{planRefused}
-use Rattle.plan.specs.Plan.{factorsOf}
+use Rattle.plan.specs.Plan.{factorsOf, runSumsOf}
 use Rattle.rows.specs.Kinds.{rowsIn, kindOf}
 use Rattle.rows.specs.Laws.Rows.{rows-few}
 use Rattle.fields.specs.Fields.{fieldsOf}
@@ -79,7 +79,7 @@ text-fits sheet = by (ℕ-discrete (printRefused sheet) 0)
         let p = planIn (fieldsOf sheet) in
         let readings = readingsIn (fieldsOf sheet) in
         let marks = marksIn (fieldsOf sheet) in
-        let long = table-long p marks (tableFigures p readings marks) (rowsOf p readings) in
+        let long = table-long p marks (tableFigures p readings marks) (rowsOf p (runSumsOf p readings)) in
         rw (eq-eqb (printRefused sheet) 0 z) (omega (arith, long, rows-few p (accepted-plan sheet z)))
     by (no z) = rw (ne-eqb (printRefused sheet) 0 z) (omega (arith, named-long (ascii "refused") (printRefused sheet)))
 

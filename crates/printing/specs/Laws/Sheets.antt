@@ -11,13 +11,13 @@ use lib.ListN.{length, take, drop, length-append, length-drop}
 use lib.Seq.{take-at}
 use Rattle.plan.specs.declared.types.Plan.{Plan}
 use Rattle.plan.specs.Outcome.{outcome}
-use Rattle.plan.specs.Plan.{runsOf}
+use Rattle.plan.specs.Plan.{allReadings}
 use Rattle.plan.specs.Laws.Answers.{written-new, given-is, refused-is}
-use Rattle.plan.specs.Laws.Sizes.{runs-few}
+use Rattle.plan.specs.Laws.Sizes.{readings-few}
 use Rattle.columns.specs.declared.types.Answer.{Answer}
 use Rattle.columns.specs.declared.types.Answer.the-variants.{Done, Refused}
 use Rattle.columns.specs.Refusals.{answerOutcome}
-use Rattle.columns.specs.Laws.Admitted.{as-long}
+use Rattle.columns.specs.Laws.Admitted.{all-readings}
 use Rattle.rows.specs.Laws.Rows.{rows-as-long}
 use Rattle.fields.specs.Fields.{fieldsOf}
 use Rattle.contents.specs.Contents.{planIn, readingsIn, marksIn}
@@ -65,11 +65,11 @@ module _ (sheet : List ℕ) (before : List ℤ) (long : length before ≡ 1024) 
           column-is
           ∙ sym (written-new (readRefused sheet (length before)) (readingsIn (fieldsOf sheet) ++ drop (length (readingsIn (fieldsOf sheet))) before) before accepted)
 
-      runs-are : length (readingsIn (fieldsOf sheet)) ≡ runsOf (planIn (fieldsOf sheet))
-      runs-are = as-long (planIn (fieldsOf sheet)) (length (readingsIn (fieldsOf sheet))) (read-admitted sheet (length before) accepted .readings)
+      readings-are : length (readingsIn (fieldsOf sheet)) ≡ allReadings (planIn (fieldsOf sheet))
+      readings-are = all-readings (planIn (fieldsOf sheet)) (length (readingsIn (fieldsOf sheet))) (read-admitted sheet (length before) accepted .readings)
 
-      own-readings : take (runsOf p) column ≡ readingsIn (fieldsOf sheet)
-      own-readings = rw (own-plan, own-column) (take-at (readingsIn (fieldsOf sheet)) (drop (length (readingsIn (fieldsOf sheet))) before) (runsOf (planIn (fieldsOf sheet))) runs-are)
+      own-readings : take (allReadings p) column ≡ readingsIn (fieldsOf sheet)
+      own-readings = rw (own-plan, own-column) (take-at (readingsIn (fieldsOf sheet)) (drop (length (readingsIn (fieldsOf sheet))) before) (allReadings (planIn (fieldsOf sheet))) readings-are)
 
       pub sheet-ready : SheetReady p column marks
       sheet-ready =
@@ -79,14 +79,14 @@ module _ (sheet : List ℕ) (before : List ℤ) (long : length before ≡ 1024) 
             wide =
                 ap length own-column
                 ∙ length-append (readingsIn (fieldsOf sheet)) (drop (length (readingsIn (fieldsOf sheet))) before)
-                ∙ omega (arith, length-drop (length (readingsIn (fieldsOf sheet))) before, long, runs-are, runs-few (planIn (fieldsOf sheet)) (a .plan));
+                ∙ omega (arith, length-drop (length (readingsIn (fieldsOf sheet))) before, long, readings-are, readings-few (planIn (fieldsOf sheet)) (a .plan));
             within = rw (own-readings, own-plan) (a .within);
             marks-long = rw (own-plan, own-marks) (rows-as-long (planIn (fieldsOf sheet)) (length (marksIn (fieldsOf sheet))) (a .marks));
             lawful = rw (own-plan, own-marks) (a .lawful);
           }
 
       pub sheet-made : {a b : List ℕ} {at next : ℕ}
-          → Wrote a at (madeText p (take (runsOf p) column) marks) b next
+          → Wrote a at (madeText p (take (allReadings p) column) marks) b next
           → Wrote a at (printed (marksRefused sheet) (sheetTable sheet)) b next
       unfolding sheetTable
       sheet-made w =

@@ -4,7 +4,8 @@
 --   refused-text, given-text     what is printed with a number, and with none
 --   rows-ready                   the rows that the table call writes
 --   made-text, stopped-text      the text of a table that is made, and of one that is refused
---   few-runs, readings-long, few-rows    the parts that are lent to the table call
+--   few-runs, few-readings, readings-long, few-rows
+--                                the parts that are lent to the table call
 --   lent-text                    the text of an accepted sheet's table
 use mathlib.Core.Path.{_≡_, refl, sym, ap, ap₂, _∙_}
 use mathlib.Core.List.{List}
@@ -21,10 +22,10 @@ use Rattle.contrasts.specs.Columns.{read}
 use Rattle.contrasts.specs.Rows.{rowNumerator}
 use Rattle.plan.specs.declared.types.Plan.{Plan}
 use Rattle.plan.specs.Outcome.{outcome}
-use Rattle.plan.specs.Check.{runCount}
-use Rattle.plan.specs.Plan.{factorsOf, runsOf}
+use Rattle.plan.specs.Check.{runCount, readingCount}
+use Rattle.plan.specs.Plan.{factorsOf, runsOf, allReadings, runSumsOf}
 use Rattle.plan.specs.Laws.Answers.{written-new, given-is, refused-is}
-use Rattle.plan.specs.Laws.Sizes.{run-count, runs-few}
+use Rattle.plan.specs.Laws.Sizes.{run-count, reading-count, runs-few, readings-few}
 use Rattle.rows.specs.Kinds.{rowsIn, rowCount}
 use Rattle.rows.specs.Laws.Rows.{row-count, rows-few}
 use Rattle.text.specs.Text.{ascii, Wrote}
@@ -79,16 +80,16 @@ module _ (p : Plan) (readings : List ℤ) (marks : List ℕ) (totals : List ℤ)
       made = given-is number (tableFigures p readings marks) (ap tableOutcome (sym is) ∙ told)
 
       module _ {after : List ℕ} (leaves : after ≡ tableRows p readings marks totals rows) where
-        rows-are : after ≡ rowsOf p readings
+        rows-are : after ≡ rowsOf p (runSumsOf p readings)
         unfolding tableRows
-        rows-are = leaves ∙ sym (written-new number (rowsOf p readings) rows (made .0))
+        rows-are = leaves ∙ sym (written-new number (rowsOf p (runSumsOf p readings)) rows (made .0))
 
         pub rows-ready : RowsReady p after
         unfolding rowsOf
         rows-ready =
             record {
               plan = table-admitted p readings marks totals rows (made .0) .plan;
-              long = ap length rows-are ∙ length-tab (rowsIn p) (rowNumerator (factorsOf p) (read readings));
+              long = ap length rows-are ∙ length-tab (rowsIn p) (rowNumerator (factorsOf p) (read (runSumsOf p readings)));
             }
 
         pub made-text : {a b : List ℕ} {at next : ℕ} → Wrote a at (tableText p marks f after) b next
@@ -113,8 +114,15 @@ module _ {p : Plan} {column : List ℤ} {marks : List ℕ} (ready : SheetReady p
     pub few-runs : n ≤ 1024
     few-runs = rw runs-are (runs-few p (ready .plan))
 
-    pub readings-long : length (take n column) ≡ n
-    readings-long = length-take-le n column (omega (arith, few-runs, ready .wide))
+  module _ {m : ℕ} (is : m ≡ readingCount p) where
+    readings-are : m ≡ allReadings p
+    readings-are = is ∙ reading-count p (ready .plan)
+
+    pub few-readings : m ≤ 1024
+    few-readings = rw readings-are (readings-few p (ready .plan))
+
+    pub readings-long : length (take m column) ≡ m
+    readings-long = length-take-le m column (omega (arith, few-readings, ready .wide))
 
   module _ {r : ℕ} (is : r ≡ rowCount p) where
     rows-count : r ≡ rowsIn p
@@ -123,14 +131,14 @@ module _ {p : Plan} {column : List ℤ} {marks : List ℕ} (ready : SheetReady p
     pub few-rows : r ≤ 1024
     few-rows = rw rows-count (rows-few p (ready .plan))
 
-  pub lent-text : {n r : ℕ} → n ≡ runCount p → r ≡ rowCount p → (totals : List ℤ) (rows : List ℕ) {a b : List ℕ} {at next : ℕ}
-      → Wrote a at (answerText p (take n column) marks totals rows) b next
+  pub lent-text : {n m r : ℕ} → n ≡ runCount p → m ≡ readingCount p → r ≡ rowCount p → (totals : List ℤ) (rows : List ℕ) {a b : List ℕ} {at next : ℕ}
+      → Wrote a at (answerText p (take m column) marks totals rows) b next
       → length totals ≡ n → length rows ≡ r
-      → Wrote a at (madeText p (take (runsOf p) column) marks) b next
+      → Wrote a at (madeText p (take (allReadings p) column) marks) b next
   unfolding printed
-  lent-text {n} {r} d e totals rows w l m =
-      let long = runs-are d in
+  lent-text {n} {m} {r} d f e totals rows w l k =
+      let all = readings-are f in
       let z =
-      table-admits p (take n column) marks totals rows (ready .plan) (readings-long d ∙ long) (l ∙ long) (m ∙ rows-count e) (ready .marks-long)
-      (rw long (ready .within)) (ready .lawful) in
-      retext (rw (z, long) refl) w
+      table-admits p (take m column) marks totals rows (ready .plan) (readings-long f ∙ all) (l ∙ runs-are d) (k ∙ rows-count e) (ready .marks-long)
+      (rw all (ready .within)) (ready .lawful) in
+      retext (rw (z, all) refl) w

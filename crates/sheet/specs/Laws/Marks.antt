@@ -18,9 +18,9 @@ use Rattle.algebra.specs.Laws.Search.{none-at}
 use Rattle.algebra.specs.Laws.Tests.{neither}
 use Rattle.plan.specs.declared.types.Plan.{Plan}
 use Rattle.plan.specs.Check.{planRefused}
-use Rattle.plan.specs.Plan.{runsOf, confoundedIn}
+use Rattle.plan.specs.Plan.{allReadings, confoundedIn}
 use Rattle.plan.specs.Laws.Answers.{written-new}
-use Rattle.plan.specs.Laws.Sizes.{runs-few}
+use Rattle.plan.specs.Laws.Sizes.{readings-few}
 use Rattle.rows.specs.Kinds.{rowsIn, badMark, badMarks}
 use Rattle.rows.specs.Laws.Rows.{rows-as-long}
 use Rattle.fields.specs.Fields.{Fields, fieldsOf}
@@ -38,9 +38,9 @@ same-refused sheet room h = by (ℕ-discrete (planRefused p) 0)
     p : Plan
     p = planIn fs
 
-    by : Dec (planRefused p ≡ 0) → refusedWith fs p (ltb room (runsOf p)) ≡ refusedWith fs p false
-    by (yes z) = ap (refusedWith fs p) (le-ltb room (runsOf p) (le-trans (runs-few p z) h))
-    by (no z) = own-refused fs p (ltb room (runsOf p)) z ∙ sym (own-refused fs p false z)
+    by : Dec (planRefused p ≡ 0) → refusedWith fs p (ltb room (allReadings p)) ≡ refusedWith fs p false
+    by (yes z) = ap (refusedWith fs p) (le-ltb room (allReadings p) (le-trans (readings-few p z) h))
+    by (no z) = own-refused fs p (ltb room (allReadings p)) z ∙ sym (own-refused fs p false z)
 
 pub record Lawful (p : Plan) (marks : List ℕ) : Type 0 where
   pub long : length marks ≡ rowsIn p
@@ -58,7 +58,7 @@ module _ (sheet : List ℕ) (room : ℕ) (z : readRefused sheet room ≡ 0) wher
   accepted-without =
       let a = read-admitted sheet room z in
       admits (fieldsOf sheet) (planIn (fieldsOf sheet)) false
-      (record { fields = a .fields; plan = a .plan; wide = refl; readings = a .readings; marks = a .marks; within = a .within; lawful = a .lawful })
+      (record { fields = a .fields; plan = a .plan; needed = a .needed; wide = refl; readings = a .readings; marks = a .marks; within = a .within; lawful = a .lawful })
 
   pub marks-lawful : Lawful (readPlan sheet room) (marksOf sheet)
   unfolding readPlan marksOf

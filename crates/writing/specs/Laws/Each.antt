@@ -15,7 +15,7 @@ use native.Mathlib.Omega.{arith}
 use borrow.Author.Tests.{le-ltb, eq-eqb, ne-eqb}
 use lib.ListN.{length, getD}
 use Rattle.fields.specs.Fields.{Fields, bodies}
-use Rattle.fields.specs.Tags.{tagRules, admits, badFrom}
+use Rattle.fields.specs.Tags.{tagRules, admits, placeOf, badFrom}
 use Rattle.writing.specs.Writer.{each}
 use Rattle.writing.specs.Laws.Back.{Whole}
 
@@ -25,11 +25,12 @@ each-whole t zero body rest h w = w
 each-whole t (suc n) body rest h w = (h 0, each-whole t n (λ i. body (suc i)) rest (λ i. h (suc i)) w)
 
 pub each-fine : (t n : ℕ) (body : ℕ → List ℕ) (rest : Fields) → ((i : ℕ) → admits tagRules t (length (body i)) ≡ true)
-    → ((last : ℕ) → last ≤ t → badFrom last rest ≡ false) → (last : ℕ) → last ≤ t → badFrom last (each t n body rest) ≡ false
+    → ((last : ℕ) → last ≤ placeOf tagRules t → badFrom last rest ≡ false) → (last : ℕ) → last ≤ placeOf tagRules t
+    → badFrom last (each t n body rest) ≡ false
 unfolding each badFrom
 each-fine t zero body rest h r last l = r last l
 each-fine t (suc n) body rest h r last l =
-    rw (le-ltb t last l, h 0) (each-fine t n (λ i. body (suc i)) rest (λ i. h (suc i)) r t (le-refl t))
+    rw (le-ltb (placeOf tagRules t) last l, h 0) (each-fine t n (λ i. body (suc i)) rest (λ i. h (suc i)) r (placeOf tagRules t) (le-refl (placeOf tagRules t)))
 
 pub each-other : (t n : ℕ) (body : ℕ → List ℕ) (rest : Fields) (u : ℕ) → (t ≡ u → ⊥) → bodies u (each t n body rest) ≡ bodies u rest
 unfolding each bodies

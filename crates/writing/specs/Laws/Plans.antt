@@ -1,18 +1,19 @@
 -- The plan that is read back.
 --
---   settled-alike         a plan and the same with 0 beyond its counts are alike
---   settled-same          a plan that has 0 there stays as it is
---   plan-back             what is read of the fields that are written
---   Bodies, the-bodies    the bodies of these fields
+--   settled-alike                a plan and the same with 0 beyond its counts are alike
+--   settled-same                 a plan that has 0 there stays as it is
+--   plan-back                    what is read of the fields that are written
+--   Bodies, the-bodies           the bodies of these fields
+--   at-most-one, not-needless    of tag 6 there is at most one, and it is not needless
 use mathlib.Core.Path.{_≡_, refl, sym, ap, _∙_}
-use mathlib.Core.Bool.{cond}
+use mathlib.Core.Bool.{Bool, true, false, cond, not, _&&_}
 use mathlib.Core.List.{List, [], _∷_, _++_}
 use Prim.Native.Nat.{ℕ, _+_, _≤_, _<_}
 use native.Mathlib.Decide.{decLt}
 use native.Mathlib.Nat.{add-zero}
 use native.Mathlib.Omega.{arith}
-use borrow.Author.Tests.{lt-ltb, le-ltb}
-use lib.Dec.{ltb}
+use borrow.Author.Tests.{lt-ltb, le-ltb, eqb-true}
+use lib.Dec.{eqb, ltb}
 use lib.IntN.{ℤ}
 use lib.ListN.{length, getD, take}
 use lib.Seq.{length-take-le, getD-take}
@@ -22,8 +23,9 @@ use Rattle.plan.specs.declared.types.Plan.{Plan}
 use Rattle.plan.specs.Laws.Alike.{Alike}
 use Rattle.numerals.specs.Numbers.{big}
 use Rattle.fields.specs.Fields.{Fields, end, field, bodies, bodyAt}
-use Rattle.contents.specs.Contents.{byteAt, wordIn, planIn}
-use Rattle.writing.specs.Writer.{bytes, each, readingBytes, addedBody, blockBody, sheetFields, settled}
+use Rattle.fields.specs.Tags.{atMostOnce}
+use Rattle.contents.specs.Contents.{byteAt, wordIn, repeatsIn, needless, planIn}
+use Rattle.writing.specs.Writer.{bytes, each, readingBytes, addedBody, blockBody, repeatsFields, sheetFields, settled}
 use Rattle.writing.specs.Laws.Bytes.{two-back}
 use Rattle.writing.specs.Laws.Each.{each-other, each-count, each-at, each-past}
 use Rattle.writing.specs.RoundTrip.{Shaped, Clean}
@@ -51,6 +53,7 @@ settled-alike p s h k = record {
   signs = front 6 (p .added) (p .signs) (s .signs-long) h;
   blocks = refl;
   blockwords = front 4 (p .blocks) (p .blockwords) (s .blockwords-long) k;
+  repeats = refl;
 }
 
 stays : (m n : ℕ) (ws : List ℕ) → length ws ≡ m → ((i : ℕ) → n ≤ i → getD ws i 0 ≡ 0) → tab m (λ i. cond (ltb i n) (getD ws i 0) 0) ≡ ws
@@ -70,13 +73,45 @@ settled-same p s c = λ i. record {
   signs = stays 6 (p .added) (p .signs) (s .signs-long) (c .signs) i;
   blocks = p .blocks;
   blockwords = stays 4 (p .blocks) (p .blockwords) (s .blockwords-long) (c .blockwords) i;
+  repeats = p .repeats;
 }
 
 -- ---- the bodies of the fields that are written
 
+-- of tag 6, where runs are made r times: none where that is once
+abbrev sixBodies : Bool → ℕ → List (List ℕ)
+sixBodies once r = cond once [] ((r ∷ []) ∷ [])
+
+module _ (fs : Fields) (r : ℕ) (same : bodies 6 fs ≡ sixBodies (eqb r 1) r) where
+  pub at-most-one : atMostOnce (length (bodies 6 fs)) ≡ true
+  at-most-one = rw same (by (eqb r 1))
+    where
+      by : (once : Bool) → atMostOnce (length (sixBodies once r)) ≡ true
+      by true = refl
+      by false = refl
+
+  pub not-needless : needless fs ≡ false
+  unfolding needless bodyAt
+  not-needless = rw same (by (eqb r 1) refl)
+    where
+      by : (once : Bool) → eqb r 1 ≡ once → (not (eqb (length (sixBodies once r)) 0) && eqb (byteAt 0 (getD (sixBodies once r) 0 [])) 1) ≡ false
+      by true e = refl
+      by false e = e
+
+  repeats-back : repeatsIn fs ≡ r
+  unfolding bodyAt
+  repeats-back = rw same (by (eqb r 1) refl)
+    where
+      by : (once : Bool) → eqb r 1 ≡ once → cond (eqb (length (sixBodies once r)) 0) 1 (byteAt 0 (getD (sixBodies once r) 0 [])) ≡ r
+      by true e = sym (eqb-true r 1 e)
+      by false e = refl
+
 module _ (p : Plan) (xs : List ℤ) (marks : List ℕ) where
+  abbrev after-repeats : Fields
+  after-repeats = field 4 (readingBytes xs) (field 5 marks end)
+
   abbrev after-blocks : Fields
-  after-blocks = field 4 (readingBytes xs) (field 5 marks end)
+  after-blocks = repeatsFields p after-repeats
 
   abbrev after-added : Fields
   after-added = each 3 (p .blocks) (blockBody p) after-blocks
@@ -87,6 +122,7 @@ module _ (p : Plan) (xs : List ℤ) (marks : List ℕ) where
     pub no-more-added : bodies 2 after-added ≡ []
     pub block-bodies : bodies 3 (sheetFields p xs marks) ≡ bodies 3 after-added
     pub no-more-blocks : bodies 3 after-blocks ≡ []
+    pub sixes : bodies 6 (sheetFields p xs marks) ≡ sixBodies (eqb (p .repeats) 1) (p .repeats)
     pub fours : bodies 4 (sheetFields p xs marks) ≡ readingBytes xs ∷ []
     pub fives : bodies 5 (sheetFields p xs marks) ≡ marks ∷ []
 
@@ -94,16 +130,27 @@ module _ (p : Plan) (xs : List ℤ) (marks : List ℕ) where
   others : (t : ℕ) → (2 ≡ t → ⊥) → (3 ≡ t → ⊥) → bodies t (each 2 (p .added) (addedBody p) after-added) ≡ bodies t after-blocks
   others t h k = each-other 2 (p .added) (addedBody p) after-added t h ∙ each-other 3 (p .blocks) (blockBody p) after-blocks t k
 
+  -- nor has the field of the repeats
+  no-repeats : (t : ℕ) → (6 ≡ t → ⊥) → bodies t after-blocks ≡ bodies t after-repeats
+  no-repeats t h = each-other 6 (cond (eqb (p .repeats) 1) 0 1) (λ i. p .repeats ∷ []) after-repeats t h
+
+  -- and of its own tag it is the only one
+  own : (once : Bool) → bodies 6 (each 6 (cond once 0 1) (λ i. p .repeats ∷ []) after-repeats) ≡ sixBodies once (p .repeats)
+  unfolding each bodies
+  own true = refl
+  own false = refl
+
   pub the-bodies : Bodies
   unfolding sheetFields bodies
   the-bodies = record {
-    ones = ap (λ bs. (p .levels ∷ p .k ∷ []) ∷ bs) (others 1 (λ e. omega (arith, e)) (λ e. omega (arith, e)));
+    ones = ap (λ bs. (p .levels ∷ p .k ∷ []) ∷ bs) (others 1 (λ e. omega (arith, e)) (λ e. omega (arith, e)) ∙ no-repeats 1 (λ e. omega (arith, e)));
     added-bodies = refl;
-    no-more-added = each-other 3 (p .blocks) (blockBody p) after-blocks 2 (λ e. omega (arith, e));
+    no-more-added = each-other 3 (p .blocks) (blockBody p) after-blocks 2 (λ e. omega (arith, e)) ∙ no-repeats 2 (λ e. omega (arith, e));
     block-bodies = each-other 2 (p .added) (addedBody p) after-added 3 (λ e. omega (arith, e));
-    no-more-blocks = refl;
-    fours = others 4 (λ e. omega (arith, e)) (λ e. omega (arith, e));
-    fives = others 5 (λ e. omega (arith, e)) (λ e. omega (arith, e));
+    no-more-blocks = no-repeats 3 (λ e. omega (arith, e));
+    sixes = others 6 (λ e. omega (arith, e)) (λ e. omega (arith, e)) ∙ own (eqb (p .repeats) 1);
+    fours = others 4 (λ e. omega (arith, e)) (λ e. omega (arith, e)) ∙ no-repeats 4 (λ e. omega (arith, e));
+    fives = others 5 (λ e. omega (arith, e)) (λ e. omega (arith, e)) ∙ no-repeats 5 (λ e. omega (arith, e));
   }
 
 -- what is taken of each of the bodies bs, for m places
@@ -145,6 +192,7 @@ plan-back p xs marks s = λ i. record {
   signs = placed 2 (p .added) 6 (addedBody p) _ (byteAt 2) (λ j. getD (p .signs) j 0) (b .added-bodies) (b .no-more-added) refl (λ j. sign-of (getD (p .words) j 0) (getD (p .signs) j 0)) i;
   blocks = counted 3 (p .blocks) (blockBody p) _ (b .block-bodies) (b .no-more-blocks) i;
   blockwords = placed 3 (p .blocks) 4 (blockBody p) _ wordIn (λ j. getD (p .blockwords) j 0) (b .block-bodies) (b .no-more-blocks) no-word (λ j. block-of (getD (p .blockwords) j 0) (s .blockwords-fit j)) i;
+  repeats = repeats-back (sheetFields p xs marks) (p .repeats) (b .sixes) i;
 }
   where
     b : Bodies p xs marks

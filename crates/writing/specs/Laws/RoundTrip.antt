@@ -17,27 +17,27 @@ use lib.Seq.{length-take-le, getD-take}
 use Rattle.algebra.specs.Laws.Tests.{none}
 use Rattle.contrasts.specs.Columns.{read}
 use Rattle.plan.specs.declared.types.Plan.{Plan}
-use Rattle.plan.specs.Plan.{addedSigns, factorsOf, runsOf}
+use Rattle.plan.specs.Plan.{addedSigns, factorsOf, allReadings}
 use Rattle.plan.specs.Limits.{readingLimit}
 use Rattle.plan.specs.Laws.Accepted.{accepted as accepted-plan, sizes}
 use Rattle.plan.specs.Laws.Alike.{Alike, same-refused, same-factors, same-limit}
 use Rattle.plan.specs.Laws.Answers.{written-new}
 use Rattle.plan.specs.Laws.Limits.{reading-fits}
-use Rattle.plan.specs.Laws.Sizes.{runs-few}
-use Rattle.columns.specs.Refusals.{wrongLength}
+use Rattle.plan.specs.Laws.Sizes.{readings-few, some-repeat}
+use Rattle.columns.specs.Refusals.{wrongReadings}
 use Rattle.columns.specs.Laws.Admitted.{all-within}
 use Rattle.rows.specs.Kinds.{rowsIn, wrongRows}
 use Rattle.rows.specs.Laws.Rows.{rows-few, same-marks}
 use Rattle.fields.specs.Fields.{Fields, end, field, fieldsOf, bodyAt}
-use Rattle.fields.specs.Tags.{tagRules, badFrom, anyNotOnce, badFields}
+use Rattle.fields.specs.Tags.{tagRules, badFrom, anyWrongCount, badFields}
 use Rattle.contents.specs.Contents.{planIn, readingsOf, readingsIn, marksIn}
 use Rattle.sheet.specs.Sheet.{sheetRefused, readRefused, noPlan, readPlan, readColumn, marksRefused, marksOf}
 use Rattle.sheet.specs.Laws.Admitted.{Admitted, admits}
 use Rattle.sheet.specs.Laws.Marks.{small-marks, accepted-without}
-use Rattle.writing.specs.Writer.{bytes, readingBytes, addedBody, blockBody, sheetFields, sheetOf, settled}
+use Rattle.writing.specs.Writer.{bytes, readingBytes, addedBody, blockBody, repeatsFields, sheetFields, sheetOf, settled}
 use Rattle.writing.specs.Laws.Back.{read-back}
 use Rattle.writing.specs.Laws.Each.{each-whole, each-fine}
-use Rattle.writing.specs.Laws.Plans.{settled-alike, settled-same, Bodies, the-bodies, plan-back}
+use Rattle.writing.specs.Laws.Plans.{settled-alike, settled-same, Bodies, the-bodies, at-most-one, not-needless, plan-back}
 use Rattle.writing.specs.RoundTrip.{Clean, AllBytes, Sheetable, ReadBack}
 use Rattle.writing.specs.Laws.Plain.{plain-append, plain-list, plain-bytes, plain-readings, plain-fields, plain-each}
 use Rattle.writing.specs.Laws.Readings.{reading-bytes-length, readings-back}
@@ -61,26 +61,30 @@ module _ {p : Plan} {xs : List ℤ} {marks : List ℕ} (g : Sheetable p xs marks
         omega arith,
         each-whole 2 (p .added) (addedBody p) _ (λ i. omega arith)
             (each-whole 3 (p .blocks) (blockBody p) _ (λ i. omega arith)
-            (omega (arith, reading-bytes-length xs, g .whole, runs-few p (g .accepted)), (omega (arith, g .rows, rows-few p (g .accepted)), tt))),
+            (each-whole 6 _ (λ i. p .repeats ∷ []) _ (λ i. omega arith)
+            (omega (arith, reading-bytes-length xs, g .whole, readings-few p (g .accepted)), (omega (arith, g .rows, rows-few p (g .accepted)), tt)))),
       )
 
-  last-two : (last : ℕ) → last ≤ 4 → badFrom last (field 4 (readingBytes xs) (field 5 marks end)) ≡ false
+  last-two : (last : ℕ) → last ≤ 5 → badFrom last (field 4 (readingBytes xs) (field 5 marks end)) ≡ false
   unfolding badFrom
   last-two last h =
       let e : (4 * length xs) % 4 ≡ 0 = omega arith in
-      rw (le-ltb 4 last h, reading-bytes-length xs, e) refl
+      rw (le-ltb 5 last h, reading-bytes-length xs, e) refl
+
+  last-three : (last : ℕ) → last ≤ 4 → badFrom last (repeatsFields p (field 4 (readingBytes xs) (field 5 marks end))) ≡ false
+  last-three last h = each-fine 6 _ (λ i. p .repeats ∷ []) _ (λ i. refl) (λ l k. last-two l (omega arith)) last h
 
   no-bad : badFrom 0 fs ≡ false
   unfolding badFrom sheetFields bytes
   no-bad =
-      each-fine 2 (p .added) (addedBody p) _ (λ i. refl) (λ m h. each-fine 3 (p .blocks) (blockBody p) _ (λ i. refl) (λ l k. last-two l (omega arith)) m (omega arith)) 1 (omega arith)
+      each-fine 2 (p .added) (addedBody p) _ (λ i. refl) (λ m h. each-fine 3 (p .blocks) (blockBody p) _ (λ i. refl) (λ l k. last-three l (omega arith)) m (omega arith)) 1 (omega arith)
 
-  once : anyNotOnce tagRules fs ≡ false
-  once = rw (b .ones, b .fours, b .fives) refl
+  counts-right : anyWrongCount tagRules fs ≡ false
+  counts-right = rw (b .ones, b .fours, b .fives, at-most-one fs (p .repeats) (b .sixes)) refl
 
   fine : badFields fs ≡ false
   unfolding badFields
-  fine = none no-bad once
+  fine = none no-bad counts-right
 
   -- ---- what they say
 
@@ -100,9 +104,9 @@ module _ {p : Plan} {xs : List ℤ} {marks : List ℕ} (g : Sheetable p xs marks
 
   -- ---- that they are accepted
 
-  readings-right : wrongLength (settled p) (length xs) ≡ false
-  unfolding wrongLength settled factorsOf
-  readings-right = ap not (eq-eqb (length xs) (runsOf p) (g .whole))
+  readings-right : wrongReadings (settled p) (length xs) ≡ false
+  unfolding wrongReadings settled factorsOf
+  readings-right = ap not (eq-eqb (length xs) (allReadings p) (g .whole))
 
   rows-right : wrongRows (settled p) (length marks) ≡ false
   unfolding wrongRows settled
@@ -112,6 +116,7 @@ module _ {p : Plan} {xs : List ℤ} {marks : List ℕ} (g : Sheetable p xs marks
   asked narrow w = record {
     fields = fine;
     plan = rw plan-is (same-refused alike ∙ g .accepted);
+    needed = not-needless fs (p .repeats) (b .sixes);
     wide = w;
     readings = rw (readings-are, plan-is) readings-right;
     marks = rw (marks-are, plan-is) rows-right;
@@ -119,11 +124,11 @@ module _ {p : Plan} {xs : List ℤ} {marks : List ℕ} (g : Sheetable p xs marks
     lawful = rw (marks-are, plan-is) (same-marks alike marks ∙ g .lawful);
   }
 
-  refused-back : (room : ℕ) → readRefused (sheetOf p xs marks) room ≡ sheetRefused fs (ltb room (runsOf (planIn fs)))
+  refused-back : (room : ℕ) → readRefused (sheetOf p xs marks) room ≡ sheetRefused fs (ltb room (allReadings (planIn fs)))
   unfolding readRefused
-  refused-back room = ap (λ f. sheetRefused f (ltb room (runsOf (planIn f)))) fields-back
+  refused-back room = ap (λ f. sheetRefused f (ltb room (allReadings (planIn f)))) fields-back
 
-  pub round-trip : (column : List ℤ) → runsOf p ≤ length column → ReadBack p xs marks column
+  pub round-trip : (column : List ℤ) → allReadings p ≤ length column → ReadBack p xs marks column
   unfolding readPlan readColumn marksOf
   round-trip column room =
       record {
@@ -141,13 +146,13 @@ module _ {p : Plan} {xs : List ℤ} {marks : List ℕ} (g : Sheetable p xs marks
       number : ℕ
       number = readRefused sheet (length column)
 
-      wide : ltb (length column) (runsOf (planIn fs)) ≡ false
-      wide = rw plan-is (le-ltb (length column) (runsOf (settled p)) (rw (same-factors alike) room))
+      wide : ltb (length column) (allReadings (planIn fs)) ≡ false
+      wide = rw plan-is (le-ltb (length column) (allReadings (settled p)) (rw (same-factors alike, alike .repeats) room))
 
       accepted : number ≡ 0
-      accepted = refused-back (length column) ∙ admits fs (planIn fs) (ltb (length column) (runsOf (planIn fs))) (asked (ltb (length column) (runsOf (planIn fs))) wide)
+      accepted = refused-back (length column) ∙ admits fs (planIn fs) (ltb (length column) (allReadings (planIn fs))) (asked (ltb (length column) (allReadings (planIn fs))) wide)
 
-  pub same-back : Clean p → (column : List ℤ) → runsOf p ≤ length column → readPlan (sheetOf p xs marks) (length column) ≡ p
+  pub same-back : Clean p → (column : List ℤ) → allReadings p ≤ length column → readPlan (sheetOf p xs marks) (length column) ≡ p
   same-back c column room = round-trip column room .plan-read ∙ settled-same p (g .shaped) c
 
   -- ---- bytes only
@@ -175,5 +180,6 @@ module _ {p : Plan} {xs : List ℤ} {marks : List ℕ} (g : Sheetable p xs marks
         plain-each 2 (p .added) (addedBody p) _ (omega arith)
             (λ i h. plain-append (bytes 2 (getD (p .words) i 0)) (getD (p .signs) i 0 ∷ []) (plain-bytes 2 (getD (p .words) i 0)) (sign-small i h, tt))
             (plain-each 3 (p .blocks) (blockBody p) _ (omega arith) (λ i h. plain-bytes 2 (getD (p .blockwords) i 0))
-            (omega arith, plain-readings xs, (omega arith, plain-list marks (λ w h. omega (arith, small-marks p marks (g .lawful) w h)), tt))),
+            (plain-each 6 _ (λ i. p .repeats ∷ []) _ (omega arith) (λ i h. (omega (arith, some-repeat p (g .accepted) .1), tt))
+            (omega arith, plain-readings xs, (omega arith, plain-list marks (λ w h. omega (arith, small-marks p marks (g .lawful) w h)), tt)))),
       )

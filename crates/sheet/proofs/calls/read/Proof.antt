@@ -20,7 +20,7 @@ abbrev column : tie.After-sheet-refused → List ℤ
 column c = c .before .before .before .before .args .column .now
 
 number-is : (c : tie.After-sheet-refused) → c .sheet-refused .result ≡ readRefused (sheet c) (length (column c))
-number-is c = read-refused _ (c .before .before .plan-in .ensures) _ (c .before .runs .ensures) (c .sheet-refused .ensures)
+number-is c = read-refused _ (c .before .before .plan-in .ensures) _ (c .before .reading-count .ensures) (c .sheet-refused .ensures)
 
 -- beyond the test the sheet is not refused
 accepted : (c : tie.Else1) → readRefused (sheet (c .before .before)) (length (column (c .before .before))) ≡ 0
