@@ -1,158 +1,188 @@
--- What the table call hands to the check and the sums, and the figures that it makes of what they give.
+-- What the table call hands to the squares, the check and the sums, and the figures that it makes of what they give.
 --
+--   squares-ready                 the sum of squared readings
+--   spread-ready                  the squares of readings about their run's mean
+--   on-used                       a table on a column that one of them has used
+--   column-long                   the column of totals is as long as the one that was lent
 --   check-ready                   the check number
---   form-ready                    totals, rows and sums, on a column that the check has used
---   lengths-few, denominator-is   the denominator, from the lengths of totals and rows
---   squares-ready, squares-are    the sum of squared readings
---   total-small                   the total
---   sum-kept                      the sum of the totals, as code holds it
---   figures-made                  the figures
-use mathlib.Core.Path.{_≡_, refl, sym, _∙_}
+--   lengths-few, denominator-is   the denominator of runs made once, from the numbers of runs and rows
+--   figures-ready, figures-made   the figures
+use mathlib.Core.Path.{_≡_, refl, sym, _∙_, ap}
 use mathlib.Core.Bool.{cond}
 use mathlib.Core.List.{List}
 use Prim.Native.Nat.{ℕ, _-_, _*_, _^_, _<_, _≤_}
-use native.Mathlib.Nat.{mul-le-mul-right, one-mul, pow-le-pow-right}
+use native.Mathlib.Nat.{one-mul, mul-comm, mul-le-mul-right}
 use native.Mathlib.Decide.{ℕ-discrete}
 use native.Mathlib.Omega.{arith}
 use borrow.Author.Tests.{eq-eqb, ne-eqb}
-use lib.Dec.{eqb, lit<}
+use lib.Dec.{eqb}
 use lib.IntN.{ℤ}
-use lib.ListN.{length, getD, replicate}
+use lib.ListN.{length, replicate}
 use Rattle.algebra.specs.Laws.Products.{mul-pow}
-use Rattle.algebra.specs.Laws.Machine.{wrap, back}
-use Rattle.contrasts.specs.Columns.{read}
+use Rattle.algebra.specs.Laws.Tab.{length-tab}
+use Rattle.contrasts.specs.Columns.{read, totalsOf, runSumsIn, squaresOf}
 use Rattle.contrasts.specs.Factors.{ofLevels}
-use Rattle.contrasts.specs.Totals.{total, denominator, squared}
+use Rattle.contrasts.specs.Repeats.{withinRuns}
+use Rattle.contrasts.specs.Totals.{total, denominator}
 use Rattle.contrasts.specs.Checks.{rounds}
 use Rattle.contrasts.specs.Laws.Divisors.{denominator-pos}
-use Rattle.contrasts.specs.Laws.Squares.{check-within}
+use Rattle.contrasts.specs.Laws.Levels.{the-three}
+use Rattle.contrasts.specs.Laws.Repeats.{sums-least, within-is}
 use Rattle.contrasts.specs.Laws.ThreeLevels.{denominator-three}
 use Rattle.contrasts.specs.Laws.TwoLevels.{denominator-two}
 use Rattle.plan.specs.declared.types.Plan.{Plan}
 use Rattle.plan.specs.Limits.{readingLimit}
-use Rattle.plan.specs.Plan.{factorsOf, runsOf}
-use Rattle.plan.specs.Laws.Accepted.{accepted}
-use Rattle.plan.specs.Laws.Limits.{limit-three, reading-admitted, numerator-fits}
-use Rattle.plan.specs.Laws.Sizes.{as-power, plan-kind, factors-two, factors-three, runs-few}
-use Rattle.contrasts.specs.Limits.{threeReadingLimit, valueLimit, mostThree}
-use Rattle.contrasts.specs.Laws.Levels.{the-three}
-use Rattle.rows.specs.Kinds.{rowsIn, Kind, meanRow, blocksRow, errorRow, keptRow, codeOf}
+use Rattle.plan.specs.Plan.{factorsOf, runsOf, allReadings, runSumsOf, denominatorOf}
+use Rattle.plan.specs.Laws.Limits.{plan-rounds, reading-fits, numerator-fits}
+use Rattle.plan.specs.Laws.Sizes.{as-power, plan-kind, factors-two, factors-three, runs-few, readings-few, some-repeat}
+use Rattle.rows.specs.Kinds.{rowsIn, Kind, meanRow, blocksRow, errorRow, keptRow}
 use Rattle.rows.specs.Laws.Rows.{rows-few}
 use Rattle.walks.specs.declared.types.Sums.{Sums}
 use Rattle.walks.specs.After.{sumsAfter}
-use Rattle.anova.specs.declared.types.Source.{Source}
 use Rattle.anova.specs.declared.types.Figures.{Figures}
-use Rattle.anova.specs.Laws.Admitted.{within-limit, TableReady}
+use Rattle.anova.specs.Inner.Figures.{lineIn, figuresFrom}
+use Rattle.anova.specs.Inner.Ready.{SquaresFit, RunSquares, Checkable, Joinable, Figurable}
+use Rattle.anova.specs.Inner.Readings.{aboutMeans}
+use Rattle.anova.specs.Laws.Admitted.{TableReady, sums-ready}
 use Rattle.anova.specs.Laws.After.{numerator-after-all, degrees-after-all, totals-after-all}
-use Rattle.anova.specs.Inner.Ready.{SquaresFit, Checkable}
-use Rattle.anova.specs.Table.{sourceOf, totalSource, checksOf, tableFigures}
-use Rattle.anova.specs.Inner.Readings.{squaresOf}
-
--- of at most six rounds there are five before the last
-rounds-roomy : (k : ℕ) → k ≤ mostThree → 5 ^ (k - 1) * threeReadingLimit ≤ valueLimit
-unfolding mostThree threeReadingLimit valueLimit
-rounds-roomy k h = let s : 5 ^ (k - 1) ≤ 3_125 = pow-le-pow-right {n = 5} (lit< tt) {i = k - 1} {j = 5} (omega arith) in omega (arith, s)
+use Rattle.anova.specs.Laws.Within.{fit, kind-within, total-source-within, within-source-within, error-within}
+use Rattle.anova.specs.Table.{sourceOf, withinSource, joined, totalSource, checksOf, tableFigures}
 
 module _ {p : Plan} {readings : List ℤ} {marks : List ℕ} {totals : List ℤ} {rows : List ℕ} (a : TableReady p readings marks totals rows) where
-  pub check-ready : Checkable (p .levels) (p .k) readings totals
+  abbrev sums : List ℤ
+  sums = runSumsOf p readings
+
+  some : 0 < p .repeats
+  some = some-repeat p (a .plan) .0
+
+  -- ---- squares
+
+  total-small : denominatorOf p * squaresOf readings < 2 ^ 63
+  unfolding totalSource
+  total-small = omega (arith, total-source-within a .numerator, numerator-fits p)
+
+  -- the squares are no more than r times themselves, and these than the total
+  repeated-small : p .repeats * squaresOf readings < 2 ^ 63
+  repeated-small =
+      let d = mul-le-mul-right (p .repeats * squaresOf readings) (denominator-pos (factorsOf p)) in
+      omega (arith, total-small, one-mul (p .repeats * squaresOf readings), d)
+
+  pub squares-ready : SquaresFit readings
+  squares-ready = record { sum-fits = omega (arith, repeated-small, one-mul (squaresOf readings), mul-le-mul-right (squaresOf readings) some) }
+
+  pub spread-ready : {s : ℕ} → s ≡ squaresOf readings → RunSquares (p .repeats) s readings totals
+  spread-ready e =
+      record {
+        few = some-repeat p (a .plan) .1;
+        whole = a .whole ∙ rw (a .same) refl;
+        squares = e;
+        all-fit = rw e repeated-small;
+        sums-least = rw (e, a .same) (sums-least (factorsOf p) (p .repeats) some readings (a .whole));
+      }
+
+  pub on-used : {ts : List ℤ} → length ts ≡ length totals → TableReady p readings marks ts rows
+  on-used e = record { plan = a .plan; whole = a .whole; same = e ∙ a .same; rows-long = a .rows-long; within = a .within }
+
+  pub column-long : {ts : List ℤ} → ts ≡ totalsOf (factorsOf p) sums → length ts ≡ length totals
+  unfolding totalsOf
+  column-long e = ap length e ∙ length-tab (runsOf p) (total (factorsOf p) (read sums)) ∙ sym (a .same)
+
+  -- ---- the check
+
+  pub check-ready : Checkable (p .levels) (p .k) (p .repeats) readings totals
   check-ready =
       record {
         kind = plan-kind p (a .plan);
         limit = readingLimit p;
-        first-roomy = reading-admitted p;
-        rounds-roomy = λ h.
-            rw (limit-three p h) (rounds-roomy (p .k) (accepted p (a .plan) .factors .2 (the-three (p .levels) (plan-kind p (a .plan)) h)));
-        few = rw (a .whole) (runs-few p (a .plan));
-        whole = as-power p (a .plan) (a .whole);
-        same = a .same ∙ sym (a .whole);
+        limit-fits = reading-fits p;
+        rounds-roomy = λ h. plan-rounds p (a .plan) (the-three (p .levels) (plan-kind p (a .plan)) h);
+        some = some;
+        few = some-repeat p (a .plan) .1;
+        column-few = rw (a .same) (runs-few p (a .plan));
+        column-whole = as-power p (a .plan) (a .same);
+        whole = a .whole ∙ rw (a .same) refl;
         within = a .within;
       }
 
-  pub form-ready : {ts : List ℤ} → length ts ≡ length totals → TableReady p readings marks ts rows
-  form-ready e = record { plan = a .plan; whole = a .whole; same = e ∙ a .same; rows-long = a .rows-long; within = a .within }
+  -- ---- the denominator
 
-  -- ---- the denominator, by the length of a column that the check has used
+  pub lengths-few : (length totals ≤ 1024) × (length rows ≤ 1024)
+  lengths-few = (rw (a .same) (runs-few p (a .plan)), rw (a .rows-long) (rows-few p (a .plan)))
 
-  module _ {n : ℕ} (e : n ≡ length totals) where
-    pub lengths-few : (n ≤ 1024) × (length rows ≤ 1024)
-    lengths-few = (rw (e ∙ a .same) (runs-few p (a .plan)), rw (a .rows-long) (rows-few p (a .plan)))
+  pub denominator-is : {d : ℕ} → d ≡ cond (eqb (p .levels) 2) (length totals) (length totals * length rows) → d ≡ denominator (factorsOf p)
+  denominator-is h = h ∙ rw (a .same, a .rows-long) (by (ℕ-discrete (p .levels) 2))
+    where
+      power : runsOf p ≡ p .levels ^ p .k
+      power = as-power p (a .plan) refl
 
-    pub denominator-is : {d : ℕ} → d ≡ cond (eqb (p .levels) 2) (n) (n * length rows) → d ≡ denominator (factorsOf p)
-    denominator-is h = h ∙ rw (e ∙ a .same, a .rows-long) (by (ℕ-discrete (p .levels) 2))
-      where
-        power : runsOf p ≡ p .levels ^ p .k
-        power = as-power p (a .plan) refl
+      by : Dec (p .levels ≡ 2) → cond (eqb (p .levels) 2) (runsOf p) (runsOf p * rowsIn p) ≡ denominator (factorsOf p)
+      by (yes h) = rw (eq-eqb (p .levels) 2 h, power, factors-two p h, h) (sym (denominator-two (p .k)))
+      by (no h) =
+          let l = the-three (p .levels) (plan-kind p (a .plan)) h in
+          rw (ne-eqb (p .levels) 2 h, power, factors-three p l, l) (sym (mul-pow 3 2 (p .k)) ∙ sym (denominator-three (p .k)))
 
-        by : Dec (p .levels ≡ 2) → cond (eqb (p .levels) 2) (runsOf p) (runsOf p * rowsIn p) ≡ denominator (factorsOf p)
-        by (yes h) = rw (eq-eqb (p .levels) 2 h, power, factors-two p h, h) (sym (denominator-two (p .k)))
-        by (no h) =
-            let l = the-three (p .levels) (plan-kind p (a .plan)) h in
-            rw (ne-eqb (p .levels) 2 h, power, factors-three p l, l) (sym (mul-pow 3 2 (p .k)) ∙ sym (denominator-three (p .k)))
+  -- ---- the figures
 
-  -- ---- squares
+  module _ {d s w : ℕ} (once : d ≡ denominator (factorsOf p)) (squares : s ≡ squaresOf readings) (about : w ≡ aboutMeans (length totals) (p .repeats) readings)
+      {held : Sums} (made : held ≡ sumsAfter p (total (factorsOf p) (read sums)) marks (runsOf p)) where
+    over-is : d * p .repeats ≡ denominatorOf p
+    over-is = ap (λ n. n * p .repeats) once ∙ mul-comm (denominator (factorsOf p)) (p .repeats)
 
-  pub squares-are : squaresOf readings ≡ squared (factorsOf p) (read readings)
-  unfolding squaresOf squared
-  squares-are = rw (a .whole) refl
+    total-is : d * p .repeats * s ≡ denominatorOf p * squaresOf readings
+    total-is = rw (over-is, squares) refl
 
-  least : squared (factorsOf p) (read readings) ≤ denominator (factorsOf p) * squared (factorsOf p) (read readings)
-  least =
-      let s = squared (factorsOf p) (read readings) in
-      omega (arith, one-mul s, mul-le-mul-right s (denominator-pos (factorsOf p)))
+    within-are : d * w ≡ withinRuns (factorsOf p) (p .repeats) (read readings)
+    unfolding aboutMeans
+    within-are = rw (once, about, a .same) (sym (within-is (factorsOf p) (p .repeats) some readings (a .whole)))
 
-  pub squares-ready : SquaresFit readings
-  squares-ready = record { sum-fits = rw squares-are (omega (arith, least, within-limit a, numerator-fits p)) }
+    line-is : (c : Kind) → lineIn held c ≡ sourceOf p sums marks c
+    line-is c =
+        let degrees-are : lineIn held c .degrees ≡ sourceOf p sums marks c .degrees = rw made (degrees-after-all p sums marks c) in
+        let numerator-is : lineIn held c .numerator ≡ sourceOf p sums marks c .numerator = rw made (numerator-after-all p sums marks c) in
+        λ i. record { degrees = degrees-are i; numerator = numerator-is i }
 
-  module _ {d s : ℕ} (den : d ≡ denominator (factorsOf p)) (sq : s ≡ squaresOf readings) where
-    total-is : d * s ≡ denominator (factorsOf p) * squared (factorsOf p) (read readings)
-    total-is = rw (den, sq, squares-are) refl
+    join-ready : Joinable (lineIn held errorRow) (length totals) (p .repeats) (d * w)
+    unfolding tableFigures joined withinSource
+    join-ready =
+        rw (line-is errorRow)
+        (record {
+          some = some;
+          few = some-repeat p (a .plan) .1;
+          runs-few = lengths-few .0;
+          degrees-fit = omega (arith, kind-within (sums-ready a) marks errorRow .degrees, numerator-fits p);
+          numerator-fits = rw within-are (omega (arith, error-within a .numerator, numerator-fits p));
+        })
 
-    pub total-small : d * s < 2 ^ 63
-    total-small = rw total-is (omega (arith, within-limit a, numerator-fits p))
+    pub figures-ready : Figurable d (length totals) (p .repeats) s w held
+    unfolding withinSource
+    figures-ready =
+        record {
+          over-fits = rw over-is (omega (arith, fit (sums-ready a) .0, numerator-fits p));
+          total-fits = rw total-is total-small;
+          within-fits = rw within-are (omega (arith, within-source-within a .numerator, numerator-fits p));
+          readings-few = rw (a .same) (readings-few p (a .plan));
+          joinable = join-ready;
+        }
 
-    -- ---- the figures
+    error-is : joined (lineIn held errorRow) (record { degrees = length totals * (p .repeats - 1); numerator = d * w })
+        ≡ joined (sourceOf p sums marks errorRow) (withinSource p readings)
+    unfolding withinSource
+    error-is = rw (line-is errorRow, a .same, within-are) refl
 
-    module _ {sums : Sums} (made : sums ≡ sumsAfter p (total (factorsOf p) (read readings)) marks (runsOf p)) where
-      source-made : (c : Kind) (r : Source) → (r .degrees ≡ getD (sums .degrees) (codeOf c) 0) × (r .numerator ≡ getD (sums .numerators) (codeOf c) 0)
-          → r ≡ sourceOf p readings marks c
-      source-made c r e = λ i. record { degrees = degrees-are i; numerator = numerators-are i }
-        where
-          degrees-are : r .degrees ≡ sourceOf p readings marks c .degrees
-          degrees-are = e .0 ∙ rw made (degrees-after-all p readings marks c)
-
-          numerators-are : r .numerator ≡ sourceOf p readings marks c .numerator
-          numerators-are = e .1 ∙ rw made (numerator-after-all p readings marks c)
-
-      totals-are : sums .totals ≡ checksOf p readings .totals
-      totals-are = rw made (totals-after-all p readings marks)
-
-      pub sum-kept : wrap (sums .totals) ≡ sums .totals
-      unfolding checksOf
-      sum-kept = back (sums .totals) (rw totals-are (omega (arith, check-within (factorsOf p) (read readings) (runsOf p) (omega arith), within-limit a, numerator-fits p)))
-
-      pub figures-made : (mean kept blocks error : Source) (n : ℕ) (sum from : ℤ)
-          → (mean .degrees ≡ getD (sums .degrees) (codeOf meanRow) 0) × (mean .numerator ≡ getD (sums .numerators) (codeOf meanRow) 0)
-          → (kept .degrees ≡ getD (sums .degrees) (codeOf keptRow) 0) × (kept .numerator ≡ getD (sums .numerators) (codeOf keptRow) 0)
-          → (blocks .degrees ≡ getD (sums .degrees) (codeOf blocksRow) 0) × (blocks .numerator ≡ getD (sums .numerators) (codeOf blocksRow) 0)
-          → (error .degrees ≡ getD (sums .degrees) (codeOf errorRow) 0) × (error .numerator ≡ getD (sums .numerators) (codeOf errorRow) 0)
-          → n ≡ length readings → sum ≡ sums .totals → from ≡ rounds (replicate (p .k) (ofLevels (p .levels))) (read readings)
-          → _≡_ {A = Figures} (record {
-            denominator = d;
-            mean = mean;
-            kept = kept;
-            blocks = blocks;
-            error = error;
-            total = record { degrees = n; numerator = d * s };
-            checks = record { totals = sum; readings = from };
-          }) (tableFigures p readings marks)
-      unfolding tableFigures totalSource checksOf factorsOf
-      figures-made mean kept blocks error n sum from m k b e l t f =
-          λ i. record {
-            denominator = den i;
-            mean = source-made meanRow mean m i;
-            kept = source-made keptRow kept k i;
-            blocks = source-made blocksRow blocks b i;
-            error = source-made errorRow error e i;
-            total = record { degrees = (l ∙ a .whole) i; numerator = total-is i };
-            checks = record { totals = (t ∙ totals-are) i; readings = f i };
-          }
+    pub figures-made : {f : Figures} {z : ℤ} → z ≡ rounds (replicate (p .k) (ofLevels (p .levels))) (read (runSumsIn (length totals) (p .repeats) readings))
+        → f ≡ figuresFrom d (length totals) (p .repeats) s w held z → f ≡ tableFigures p readings marks
+    unfolding figuresFrom tableFigures totalSource checksOf factorsOf
+    figures-made {z = z} from e =
+        let readings-are : z ≡ rounds (factorsOf p) (read sums) = from ∙ rw (a .same) refl in
+        let totals-are : held .totals ≡ checksOf p sums .totals = rw made (totals-after-all p sums marks) in
+        let runs-are : length totals * p .repeats ≡ allReadings p = rw (a .same) refl in
+        e
+        ∙ (λ i. record {
+          denominator = over-is i;
+          mean = line-is meanRow i;
+          kept = line-is keptRow i;
+          blocks = line-is blocksRow i;
+          error = error-is i;
+          total = record { degrees = runs-are i; numerator = total-is i };
+          checks = record { totals = totals-are i; readings = readings-are i };
+        })

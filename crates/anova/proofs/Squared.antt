@@ -1,4 +1,4 @@
--- The sum of squared readings.
+-- The sum of squared readings, or of squared run sums.
 --
 --   Summing xs i s                            s is the sum of the first i squares
 --   summing-none, summing-more, summing-all   before the first reading, after one more, after the last
@@ -12,10 +12,9 @@ use lib.IntN.{ℤ, natAbs}
 use lib.ListN.{length}
 use Rattle.algebra.specs.Naturals.{Σℕ}
 use Rattle.algebra.specs.Laws.Naturals.{Σℕ-term, Σℕ-shorter}
-use Rattle.contrasts.specs.Columns.{read}
+use Rattle.contrasts.specs.Columns.{read, squaresOf}
 use Rattle.walks.specs.Ready.{Squarable}
 use Rattle.anova.specs.Inner.Ready.{SquaresFit}
-use Rattle.anova.specs.Inner.Readings.{squaresOf}
 
 abbrev squareAt : List ℤ → ℕ → ℕ
 squareAt xs i = natAbs (read xs i) * natAbs (read xs i)

@@ -3,7 +3,9 @@
 --   four-figures     readings 3, 5, 4, 8 with marks 0, 0, 0, 1
 --   three-figures    two three-level factors, the interaction pooled
 --   block-figures    eight readings in two blocks, the block word being ABC
+--   twice-figures    the readings of the first, of two runs made twice
 --   lengths          refusal 11, slice by slice
+--   more-often       refusals 11 and 16, of runs made more than once
 --   small-inputs     refusals 12 and 13, and the lowest number where several apply
 --   unchanged        a table that is refused
 use mathlib.Core.Path.{_≡_, refl}
@@ -15,22 +17,25 @@ use Rattle.algebra.specs.Bits.{bits}
 use Rattle.algebra.specs.Search.{some}
 use Rattle.algebra.specs.Sorted.{sumAt}
 use Rattle.algebra.specs.Sum.{Σ}
-use Rattle.contrasts.specs.Limits.{twoReadingLimit, threeReadingLimit, mostTwo, mostThree}
+use Rattle.algebra.specs.Tab.{tabFrom}
+use Rattle.contrasts.specs.Columns.{runSumsIn, squaresOf}
+use Rattle.contrasts.specs.Limits.{twoReadingLimit, threeReadingLimit, mostTwo, mostThree, isRepeats, mostReadings}
+use Rattle.contrasts.specs.Repeats.{runSums, withinRuns}
 use Rattle.contrasts.specs.Rows.{rowOf, degreesOf}
 use Rattle.contrasts.specs.Factors.{two, three}
 use Rattle.contrasts.specs.Codings.{neg}
-use Rattle.contrasts.specs.Totals.{size, coef*, total, divisor*, denominator, weight*, numeratorOf, squared}
+use Rattle.contrasts.specs.Totals.{size, coef*, total, divisor*, denominator, weight*, numeratorOf}
 use Rattle.contrasts.specs.Checks.{checkWeight, round, rounds}
 use Rattle.words.specs.Words.{letters, beyond, times, combined, any, among, repeated}
 use Rattle.plan.specs.declared.types.Plan.{Plan}
-use Rattle.plan.specs.Examples.{plan, ABC, AD}
+use Rattle.plan.specs.Examples.{plan, made, ABC, AD}
 use Rattle.plan.specs.Limits.{readingLimit, isBeyond}
 use Rattle.plan.specs.Plan.{factorsOf, someCombination, combinesTo}
-use Rattle.plan.specs.Check.{badLevels, badFactors, badCounts, badWord, badSign, badWords, dependent, factorWord, losesFactor, planRefused, withPlan}
-use Rattle.columns.specs.Refusals.{wrongLength, anyBeyond}
+use Rattle.plan.specs.Check.{badLevels, badFactors, badCounts, badWord, badSign, badWords, dependent, factorWord, losesFactor, badRepeats, planRefused, withPlan}
+use Rattle.columns.specs.Refusals.{wrongLength, wrongReadings, anyBeyond}
 use Rattle.rows.specs.Kinds.{wrongRows, kindByMark, kindOf, badMark, badMarks}
 use Rattle.anova.specs.declared.types.Figures.{Figures}
-use Rattle.anova.specs.Table.{wrongLengths, tableRefused, sourceOf, totalSource, checksOf, tableFigures, tableTotals, tableRows}
+use Rattle.anova.specs.Table.{wrongLengths, tableRefused, sourceOf, withinSource, joined, totalSource, checksOf, tableFigures, tableTotals, tableRows}
 
 -- degrees and numerators of mean, kept, blocks, error and total, after the denominator; then both check numbers
 abbrev numbers : Figures → List ℤ
@@ -47,26 +52,36 @@ numbers f =
 abbrev four : Plan
 four = plan 2 2 [] [] []
 
+abbrev twice : Plan
+twice = made 2 (plan 2 1 [] [] [])
+
 abbrev readings : List ℤ
 readings = pos 3 ∷ pos 5 ∷ pos 4 ∷ pos 8 ∷ []
 
 -- W4: "over 4", "mean 1 400", "A 1 36" and "B 1 16" kept, "blocks 0 0", "error 1 4", "total 4 456", "check 12 12"
 four-figures : numbers (tableFigures four readings (0 ∷ 0 ∷ 0 ∷ 1 ∷ []))
     ≡ pos 4 ∷ pos 1 ∷ pos 400 ∷ pos 2 ∷ pos 52 ∷ pos 0 ∷ pos 0 ∷ pos 1 ∷ pos 4 ∷ pos 4 ∷ pos 456 ∷ pos 12 ∷ pos 12 ∷ []
-unfolding tableFigures sourceOf totalSource checksOf kindOf kindByMark combinesTo someCombination some combined times bits Σℕ Σ factorsOf size two total coef* divisor* denominator weight* numeratorOf squared checkWeight round rounds rowOf degreesOf sumAt
+unfolding tableFigures sourceOf withinSource joined totalSource checksOf withinRuns runSumsIn runSums squaresOf tabFrom kindOf kindByMark combinesTo someCombination some combined times bits Σℕ Σ factorsOf size two total coef* divisor* denominator weight* numeratorOf checkWeight round rounds rowOf degreesOf sumAt
 four-figures = refl
 
 -- 1 to 9 over 36: the totals are 45, -6, 0, -18, and 0 from there on; a main effect has 2 degrees and the interaction 4
 three-figures : numbers (tableFigures (plan 3 2 [] [] []) (pos 1 ∷ pos 2 ∷ pos 3 ∷ pos 4 ∷ pos 5 ∷ pos 6 ∷ pos 7 ∷ pos 8 ∷ pos 9 ∷ []) (0 ∷ 0 ∷ 0 ∷ 1 ∷ []))
     ≡ pos 36 ∷ pos 1 ∷ pos 8_100 ∷ pos 4 ∷ pos 2_160 ∷ pos 0 ∷ pos 0 ∷ pos 4 ∷ pos 0 ∷ pos 9 ∷ pos 10_260 ∷ pos 21 ∷ pos 21 ∷ []
-unfolding tableFigures sourceOf totalSource checksOf kindOf kindByMark combinesTo someCombination some combined times bits Σℕ Σ factorsOf size three total coef* divisor* denominator weight* numeratorOf squared checkWeight round rounds rowOf degreesOf sumAt
+unfolding tableFigures sourceOf withinSource joined totalSource checksOf withinRuns runSumsIn runSums squaresOf tabFrom kindOf kindByMark combinesTo someCombination some combined times bits Σℕ Σ factorsOf size three total coef* divisor* denominator weight* numeratorOf checkWeight round rounds rowOf degreesOf sumAt
 three-figures = refl
 
 -- readings 1 to 7 and 9, over 8: row ABC is blocks, and AB, AC and BC are pooled
 block-figures : numbers (tableFigures (plan 2 3 [] [] (ABC ∷ [])) (pos 1 ∷ pos 2 ∷ pos 3 ∷ pos 4 ∷ pos 5 ∷ pos 6 ∷ pos 7 ∷ pos 9 ∷ []) (0 ∷ 0 ∷ 0 ∷ 1 ∷ 0 ∷ 1 ∷ 1 ∷ 0 ∷ []))
     ≡ pos 8 ∷ pos 1 ∷ pos 1_369 ∷ pos 3 ∷ pos 395 ∷ pos 1 ∷ pos 1 ∷ pos 3 ∷ pos 3 ∷ pos 8 ∷ pos 1_768 ∷ pos 8 ∷ pos 8 ∷ []
-unfolding tableFigures sourceOf totalSource checksOf kindOf kindByMark combinesTo someCombination some combined times bits Σℕ Σ factorsOf size two total coef* divisor* denominator weight* numeratorOf squared checkWeight round rounds rowOf degreesOf sumAt
+unfolding tableFigures sourceOf withinSource joined totalSource checksOf withinRuns runSumsIn runSums squaresOf tabFrom kindOf kindByMark combinesTo someCombination some combined times bits Σℕ Σ factorsOf size two total coef* divisor* denominator weight* numeratorOf checkWeight round rounds rowOf degreesOf sumAt
 block-figures = refl
+
+-- V16, T30, T31: the run sums are 8 and 12, and readings differ from their run's mean by 1, 1, 2 and 2: over 4 that is 40, with 2 degrees, and
+-- no row is marked
+twice-figures : numbers (tableFigures twice readings (0 ∷ 0 ∷ []))
+    ≡ pos 4 ∷ pos 1 ∷ pos 400 ∷ pos 1 ∷ pos 16 ∷ pos 0 ∷ pos 0 ∷ pos 2 ∷ pos 40 ∷ pos 4 ∷ pos 456 ∷ pos 16 ∷ pos 16 ∷ []
+unfolding tableFigures sourceOf withinSource joined totalSource checksOf withinRuns runSumsIn runSums squaresOf tabFrom kindOf kindByMark combinesTo someCombination some combined times bits Σℕ Σ factorsOf size two total coef* divisor* denominator weight* numeratorOf checkWeight round rounds rowOf degreesOf sumAt
+twice-figures = refl
 
 abbrev noMarks : List ℕ
 noMarks = 0 ∷ 0 ∷ 0 ∷ 0 ∷ []
@@ -79,8 +94,18 @@ lengths : tableRefused four (pos 3 ∷ pos 5 ∷ pos 4 ∷ []) noMarks readings 
     ∷ tableRefused four readings noMarks readings noMarks
     ∷ []
     ≡ 11 ∷ 11 ∷ 11 ∷ 11 ∷ 0 ∷ []
-unfolding tableRefused wrongLengths wrongRows wrongLength anyBeyond isBeyond badMarks badMark withPlan planRefused badLevels badFactors mostTwo mostThree badCounts badWords badWord badSign repeated dependent losesFactor factorWord any among beyond letters combined times someCombination combinesTo some bits Σℕ readingLimit twoReadingLimit threeReadingLimit factorsOf size two
+unfolding tableRefused wrongLengths wrongRows wrongReadings wrongLength anyBeyond isBeyond badMarks badMark withPlan planRefused badLevels badFactors mostTwo mostThree badCounts badWords badWord badSign repeated dependent losesFactor factorWord badRepeats isRepeats mostReadings any among beyond letters combined times someCombination combinesTo some bits Σℕ readingLimit twoReadingLimit threeReadingLimit factorsOf size two
 lengths = refl
+
+-- N11, R10: two readings where runs are made twice, and four; N16: runs made three times
+more-often : tableRefused twice (pos 3 ∷ pos 5 ∷ []) (0 ∷ 0 ∷ []) (pos 0 ∷ pos 0 ∷ []) (0 ∷ 0 ∷ [])
+    ∷ tableRefused twice readings (0 ∷ 0 ∷ []) (pos 0 ∷ pos 0 ∷ []) (0 ∷ 0 ∷ [])
+    ∷ tableRefused twice readings (0 ∷ 0 ∷ []) readings (0 ∷ 0 ∷ [])
+    ∷ tableRefused (made 3 four) readings noMarks readings noMarks
+    ∷ []
+    ≡ 11 ∷ 0 ∷ 11 ∷ 16 ∷ []
+unfolding tableRefused wrongLengths wrongRows wrongReadings wrongLength anyBeyond isBeyond badMarks badMark withPlan planRefused badLevels badFactors mostTwo mostThree badCounts badWords badWord badSign repeated dependent losesFactor factorWord badRepeats isRepeats mostReadings any among beyond letters combined times someCombination combinesTo some bits Σℕ readingLimit twoReadingLimit threeReadingLimit factorsOf size two
+more-often = refl
 
 -- N12: "its small input is now a three-level one", a reading of 100,001, and as much below 0; two levels admit it
 -- N13: "mark 1 on row 0", a mark of 2, mark 1 on BCD, which AD and ABC combine to
@@ -114,10 +139,10 @@ small-inputs : tableRefused three-runs large (0 ∷ 0 ∷ []) three-zeros (0 ∷
     ∷ tableRefused (plan 4 2 [] [] []) large (1 ∷ []) three-zeros []
     ∷ []
     ≡ 12 ∷ 12 ∷ 0 ∷ 13 ∷ 13 ∷ 13 ∷ 11 ∷ 12 ∷ 2 ∷ []
-unfolding tableRefused wrongLengths wrongRows wrongLength anyBeyond isBeyond badMarks badMark withPlan planRefused badLevels badFactors mostTwo mostThree badCounts badWords badWord badSign repeated dependent losesFactor factorWord any among beyond letters combined times someCombination combinesTo some bits Σℕ readingLimit twoReadingLimit threeReadingLimit factorsOf size two three
+unfolding tableRefused wrongLengths wrongRows wrongReadings wrongLength anyBeyond isBeyond badMarks badMark withPlan planRefused badLevels badFactors mostTwo mostThree badCounts badWords badWord badSign repeated dependent losesFactor factorWord badRepeats isRepeats mostReadings any among beyond letters combined times someCombination combinesTo some bits Σℕ readingLimit twoReadingLimit threeReadingLimit factorsOf size two three
 small-inputs = refl
 
 -- L2
 unchanged : (tableTotals four readings (1 ∷ 0 ∷ 0 ∷ 0 ∷ []) readings noMarks ≡ readings) × (tableRows four readings (1 ∷ 0 ∷ 0 ∷ 0 ∷ []) readings noMarks ≡ noMarks)
-unfolding tableTotals tableRows tableRefused wrongLengths wrongRows wrongLength anyBeyond isBeyond badMarks badMark withPlan planRefused badLevels badFactors mostTwo mostThree badCounts badWords badWord badSign repeated dependent losesFactor factorWord any among beyond letters combined times someCombination combinesTo some bits Σℕ readingLimit twoReadingLimit threeReadingLimit factorsOf size two
+unfolding tableTotals tableRows tableRefused wrongLengths wrongRows wrongReadings wrongLength anyBeyond isBeyond badMarks badMark withPlan planRefused badLevels badFactors mostTwo mostThree badCounts badWords badWord badSign repeated dependent losesFactor factorWord badRepeats isRepeats mostReadings any among beyond letters combined times someCombination combinesTo some bits Σℕ readingLimit twoReadingLimit threeReadingLimit factorsOf size two
 unchanged = (refl, refl)

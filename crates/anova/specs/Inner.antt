@@ -1,6 +1,8 @@
 -- What the inner functions ask of what they are handed, and what they leave; no promise of a call.
 --
 --   Ready      what they ask
---   Readings   what they form of the readings: the sum of squares, and a round of the check
+--   Readings   what they form of the readings: the squares about their run's mean, and a round of the check
+--   Figures    what they make of all of it
 pub mod Ready
 pub mod Readings
+pub mod Figures

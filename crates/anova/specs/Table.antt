@@ -3,32 +3,35 @@
 --   wrongLengths               refusal 11, of all four slices
 --   tableRefusals              the refusals of the call besides those of the plan
 --   tableRefused               the lowest number that applies, 0 where the table is made
---   sourceOf p xs marks c      degrees and numerator of the rows of the kind c
---   totalSource p xs           those of the total
---   checksOf p xs              both check numbers
+--   sourceOf p sums marks c    degrees and numerator of the rows of the kind c, from the run sums
+--   withinSource p xs          those of the squares of readings about their run's mean
+--   joined s t                 two sources in one line
+--   totalSource p xs           degrees and numerator of the total
+--   checksOf p sums            both check numbers
 --   tableFigures p xs marks    the figures
---   rowsOf p xs                the row numerators
+--   rowsOf p sums              the row numerators
 --   tableTotals, tableRows     the lent slices at exit
 --   tableOutcome               the cases of the call's answer
 --   SourceWithin limit s       degrees and numerator of a source are within a limit
 use mathlib.Core.Bool.{Bool, cond, _||_}
 use mathlib.Core.List.{List, [], _∷_}
-use Prim.Native.Nat.{ℕ, _*_, _≤_}
+use Prim.Native.Nat.{ℕ, _+_, _-_, _*_, _≤_}
 use lib.IntN.{ℤ}
 use lib.ListN.{length}
 use Rattle.algebra.specs.Naturals.{Σℕ}
 use Rattle.algebra.specs.Sum.{Σ}
 use Rattle.algebra.specs.Tab.{tab}
-use Rattle.contrasts.specs.Columns.{read, totalsOf}
+use Rattle.contrasts.specs.Columns.{read, totalsOf, squaresOf}
+use Rattle.contrasts.specs.Repeats.{withinRuns}
 use Rattle.contrasts.specs.Rows.{degreesOf, rowNumerator}
-use Rattle.contrasts.specs.Totals.{total, denominator, squared, numerator}
+use Rattle.contrasts.specs.Totals.{total}
 use Rattle.contrasts.specs.Checks.{rounds}
 use Rattle.plan.specs.declared.types.Plan.{Plan}
 use Rattle.plan.specs.Check.{withPlan}
 use Rattle.plan.specs.Limits.{readingLimit}
 use Rattle.plan.specs.Outcome.{Refusal, refusal, Outcome, given, refused, written}
-use Rattle.plan.specs.Plan.{factorsOf, runsOf}
-use Rattle.columns.specs.Refusals.{wrongLength, anyBeyond}
+use Rattle.plan.specs.Plan.{factorsOf, runsOf, allReadings, runSumsOf, denominatorOf}
+use Rattle.columns.specs.Refusals.{wrongLength, wrongReadings, anyBeyond}
 use Rattle.rows.specs.Kinds.{rowsIn, wrongRows, Kind, meanRow, blocksRow, errorRow, keptRow, kindOf, same, badMarks}
 use Rattle.anova.specs.declared.types.Source.{Source}
 use Rattle.anova.specs.declared.types.Checks.{Checks}
@@ -38,9 +41,9 @@ use Rattle.anova.specs.declared.types.Table.the-variants.{Made, Refused}
 
 -- ---- what is refused
 
--- N11: "readings, totals, rows or marks not N, N, R, R long"
+-- N11: "readings, totals, rows or marks not N, N, R, R long"; of readings there are N times r (R10)
 unfoldable pub wrongLengths : Plan → ℕ → ℕ → ℕ → ℕ → Bool
-wrongLengths p readings marks totals rows = wrongLength p readings || (wrongLength p totals || (wrongRows p rows || wrongRows p marks))
+wrongLengths p readings marks totals rows = wrongReadings p readings || (wrongLength p totals || (wrongRows p rows || wrongRows p marks))
 
 -- L11: "the table 11, 12, 13", after the plan's own numbers
 abbrev pub tableRefusals : Plan → List ℤ → List ℕ → List ℤ → List ℕ → List Refusal
@@ -55,53 +58,65 @@ tableRefused p readings marks totals rows = withPlan p (tableRefusals p readings
 
 -- ---- the figures
 
--- V10: "Each of these four adds up the degrees and numerators of its rows."
+-- V10: "Each of these four adds up the degrees and numerators of its rows."; T29: "passes work on the run sums"
 unfoldable pub sourceOf : Plan → List ℤ → List ℕ → Kind → Source
-sourceOf p readings marks c = record {
+sourceOf p sums marks c = record {
   degrees = Σℕ (rowsIn p) (λ w. cond (same (kindOf p marks w) c) (degreesOf (factorsOf p) w) 0);
-  numerator = Σℕ (rowsIn p) (λ w. cond (same (kindOf p marks w) c) (rowNumerator (factorsOf p) (read readings) w) 0);
+  numerator = Σℕ (rowsIn p) (λ w. cond (same (kindOf p marks w) c) (rowNumerator (factorsOf p) (read sums) w) 0);
 }
 
--- V5, V13: "the total (denominator times the sum of squared readings)"; its degrees are the number of runs
+-- V16: "The squares of readings about their run's mean, over the new denominator, [..] with N times (r - 1) degrees"
+unfoldable pub withinSource : Plan → List ℤ → Source
+withinSource p readings = record {
+  degrees = runsOf p * (p .repeats - 1);
+  numerator = withinRuns (factorsOf p) (p .repeats) (read readings);
+}
+
+-- V16: they "join the error line"
+unfoldable pub joined : Source → Source → Source
+joined s t = record { degrees = s .degrees + t .degrees; numerator = s .numerator + t .numerator }
+
+-- V5, V13: "the total (denominator times the sum of squared readings)"; its degrees are the number of readings
 unfoldable pub totalSource : Plan → List ℤ → Source
 totalSource p readings = record {
-  degrees = runsOf p;
-  numerator = denominator (factorsOf p) * squared (factorsOf p) (read readings);
+  degrees = allReadings p;
+  numerator = denominatorOf p * squaresOf readings;
 }
 
 -- T21, T22: "The check sum of the totals is N times the first reading at two levels. At three levels it is what k rounds leave": what a
--- round for each factor leaves, which at two levels is N times the first reading (`rounds-two`)
+-- round for each factor leaves, which at two levels is N times the first of the column (`rounds-two`); T31: "The check number is worked
+-- from the run sums."
 unfoldable pub checksOf : Plan → List ℤ → Checks
-checksOf p readings = record {
-  totals = Σ (runsOf p) (total (factorsOf p) (read readings));
-  readings = rounds (factorsOf p) (read readings);
+checksOf p sums = record {
+  totals = Σ (runsOf p) (total (factorsOf p) (read sums));
+  readings = rounds (factorsOf p) (read sums);
 }
 
 -- V13: "denominator, degrees and numerators of mean, kept effects, blocks and error, the total [..] and both check numbers"
 unfoldable pub tableFigures : Plan → List ℤ → List ℕ → Figures
 tableFigures p readings marks = record {
-  denominator = denominator (factorsOf p);
-  mean = sourceOf p readings marks meanRow;
-  kept = sourceOf p readings marks keptRow;
-  blocks = sourceOf p readings marks blocksRow;
-  error = sourceOf p readings marks errorRow;
+  denominator = denominatorOf p;
+  mean = sourceOf p (runSumsOf p readings) marks meanRow;
+  kept = sourceOf p (runSumsOf p readings) marks keptRow;
+  blocks = sourceOf p (runSumsOf p readings) marks blocksRow;
+  error = joined (sourceOf p (runSumsOf p readings) marks errorRow) (withinSource p readings);
   total = totalSource p readings;
-  checks = checksOf p readings;
+  checks = checksOf p (runSumsOf p readings);
 }
 
 -- ---- what is written
 
 -- V12: "R row numerators"
 unfoldable pub rowsOf : Plan → List ℤ → List ℕ
-rowsOf p readings = tab (rowsIn p) (rowNumerator (factorsOf p) (read readings))
+rowsOf p sums = tab (rowsIn p) (rowNumerator (factorsOf p) (read sums))
 
 -- V12: "writes N totals"
 unfoldable pub tableTotals : Plan → List ℤ → List ℕ → List ℤ → List ℕ → List ℤ
-tableTotals p readings marks totals rows = written (tableRefused p readings marks totals rows) (totalsOf (factorsOf p) readings) totals
+tableTotals p readings marks totals rows = written (tableRefused p readings marks totals rows) (totalsOf (factorsOf p) (runSumsOf p readings)) totals
 
 -- V12
 unfoldable pub tableRows : Plan → List ℤ → List ℕ → List ℤ → List ℕ → List ℕ
-tableRows p readings marks totals rows = written (tableRefused p readings marks totals rows) (rowsOf p readings) rows
+tableRows p readings marks totals rows = written (tableRefused p readings marks totals rows) (rowsOf p (runSumsOf p readings)) rows
 
 -- ---- the answer
 

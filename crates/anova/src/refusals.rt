@@ -5,6 +5,7 @@ use plan::Plan;
 use plan::lowest;
 use rows::bad_marks;
 use rows::row_count;
+use sizes::reading_count;
 use sizes::runs;
 ghost use Rattle.plan.specs.Check.{planRefused};
 ghost use Rattle.anova.specs.Table.{wrongLengths, tableRefused};
@@ -14,11 +15,10 @@ fn wrong_lengths(p: Plan, readings: usize, marks: usize, totals: usize, rows: us
     requires { ⌜ planRefused p ≡ 0 ⌝ }
     ensures { λ r. ⌜ r ≡ wrongLengths p readings marks totals rows ⌝ }
 {
-    let runs = runs(p);
-    if readings != runs {
+    if readings != reading_count(p) {
         return true;
     }
-    if totals != runs {
+    if totals != runs(p) {
         return true;
     }
     let row_count = row_count(p);

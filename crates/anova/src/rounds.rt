@@ -1,9 +1,10 @@
-// The check number from the readings.
+// The check number from the run sums.
 ghost use mathlib.Core.Path.{_≡_};
 ghost use lib.IntN.{pos, _+ℤ_, _-ℤ_, _*ℤ_};
 ghost use lib.ListN.{length, replicate};
-use columns::copy;
-ghost use Rattle.contrasts.specs.Columns.{read};
+use repeats::run_sum;
+use repeats::sum_runs;
+ghost use Rattle.contrasts.specs.Columns.{read, runSumsIn};
 ghost use Rattle.contrasts.specs.Factors.{three, ofLevels};
 ghost use Rattle.contrasts.specs.Checks.{rounds};
 ghost use Rattle.contrasts.specs.Laws.Small.{Small};
@@ -47,14 +48,14 @@ fn all_rounds(k: usize, column: &mut [i64]) -> i64
 }
 
 // What the totals must add up to. At three levels the column is used for the rounds.
-pub fn check_number(levels: u8, k: u8, readings: &[i32], column: &mut [i64]) -> i64
-    requires { ⌜ Checkable levels k (now readings) (now column) ⌝ }
-    ensures { λ r. ⌜ r ≡ rounds (replicate k (ofLevels levels)) (read (now (readings .entry))) ⌝ }
+pub fn check_number(levels: u8, k: u8, repeats: usize, readings: &[i32], column: &mut [i64]) -> i64
+    requires { ⌜ Checkable levels k repeats (now readings) (now column) ⌝ }
+    ensures { λ r. ⌜ r ≡ rounds (replicate k (ofLevels levels)) (read (runSumsIn (length (now (column .entry))) repeats (now (readings .entry)))) ⌝ }
     ensures { λ _. ⌜ length (now (column .exit)) ≡ length (now (column .entry)) ⌝ }
 {
     if levels == 2 {
-        return (readings.len() as i64) * (readings[0] as i64);
+        return (column.len() as i64) * run_sum(readings, repeats, 0);
     }
-    copy(readings, column);
+    sum_runs(readings, repeats, column);
     all_rounds(k as usize, column)
 }

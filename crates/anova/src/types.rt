@@ -6,7 +6,7 @@ pub struct Source {
     pub numerator: u64,
 }
 
-// Both check numbers: the sum of the totals, and what it must be by the readings.
+// Both check numbers: the sum of the totals, and what it must be by the run sums of the readings.
 pub struct Checks {
     pub totals: i64,
     pub readings: i64,

@@ -1,7 +1,7 @@
 -- The answers of the call, by the number that was found; a total is as code holds it, as bits and read again.
 --
 --   stopped     where the number is not 0, the refusal
---   ready       where it is 0, there is a factor, and doubles hold the total and 2 ^ k
+--   ready       where it is 0, there are two or more readings, and doubles hold the total and their number
 --   answered    and then the values, by whether the effect was found to be confounded
 use mathlib.Core.Path.{_≡_, sym, ap, _∙_}
 use mathlib.Core.Bool.{Bool}
@@ -17,8 +17,8 @@ use Rattle.plan.specs.Outcome.{Outcome, given, refused, outcome}
 use Rattle.plan.specs.Laws.Answers.{refused-with, given-with}
 use Rattle.plan.specs.Laws.Sizes.{confounded-is}
 use Rattle.estimates.specs.Quotient.{InDouble}
-use Rattle.estimates.specs.Estimate.{Value, valueBy, estimateRefused, estimateValue}
-use Rattle.estimates.specs.Laws.Given.{Admitted, admitted, some-factor, held}
+use Rattle.estimates.specs.Estimate.{Value, powerOf, valueBy, estimateRefused, estimateValue}
+use Rattle.estimates.specs.Laws.Given.{Admitted, admitted, some-power, held}
 
 module _ (p : Plan) (e : ℕ) {t : ℤ} (f : SFits w64 t) {n : ℕ} (d : n ≡ estimateRefused p e (wrap t)) where
   found : n ≡ estimateRefused p e t
@@ -31,11 +31,14 @@ module _ (p : Plan) (e : ℕ) {t : ℤ} (f : SFits w64 t) {n : ℕ} (d : n ≡ e
     none : estimateRefused p e t ≡ 0
     none = sym found ∙ z
 
-    pub ready : (0 < p .k) × InDouble (wrap t) (p .k)
-    ready = let a : Admitted p e t = admitted p e t none in (some-factor a, rw (toZ-ofZ f) (held a))
+    module _ {m : ℕ} (c : m ≡ powerOf p) where
+      pub ready : (0 < m) × InDouble (wrap t) m
+      ready =
+          let a : Admitted p e t = admitted p e t none in
+          rw (c, toZ-ofZ f) (some-power a, held a)
 
-    pub answered : {b : Bool} → b ≡ confoundedAccepted p e → {x : Outcome Value} → x ≡ given (valueBy b (p .k) e (wrap t))
-        → x ≡ outcome (estimateRefused p e t) (estimateValue p e t)
-    answered l v =
-        v
-        ∙ rw (toZ-ofZ f, l, confounded-is p e (admitted p e t none .plan)) (sym (given-with (estimateRefused p e t) (estimateValue p e t) none))
+      pub answered : {b : Bool} → b ≡ confoundedAccepted p e → {x : Outcome Value} → x ≡ given (valueBy b m e (wrap t))
+          → x ≡ outcome (estimateRefused p e t) (estimateValue p e t)
+      answered l v =
+          v
+          ∙ rw (c, toZ-ofZ f, l, confounded-is p e (admitted p e t none .plan)) (sym (given-with (estimateRefused p e t) (estimateValue p e t) none))

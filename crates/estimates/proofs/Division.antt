@@ -59,7 +59,7 @@ rounded t j h k =
     let room : 53 + (1074 - j) ≤ 2098 = omega arith in
     let back : 1074 - j + j ≡ 1074 = omega arith in
     exact t j h k .only (round binary64 s n (2 ^ j)) (round-fits binary64 s n (2 ^ j))
-    (of-value t j (round binary64 s n (2 ^ j))
+    (of-value t (2 ^ j) (round binary64 s n (2 ^ j))
     (round-exact binary64 s n (2 ^ j) n (1074 - j) (pow-pos j) h (lt-of-lt-of-le (shl-lt 53 (1074 - j) h) (pow-mono room))
     (ap (λ (x : ℕ). n * 2 ^ x) (sym back) ∙ ap (λ (x : ℕ). n * x) (pow-add 2 (1074 - j) j) ∙ sym (mul-assoc n (2 ^ (1074 - j)) (2 ^ j)))))
 

@@ -1,9 +1,14 @@
 -- The estimate call: the mean, a difference, or lost to blocks.
 --
 --   Value                   the three outcomes
+--   meanDivisor p           what the total is divided by for the mean
+--   differenceDivisor p     and for a difference
+--   exponentOf r            r as a power of two
+--   powerOf p               the number of readings as a power of two
 --   printedTotal e t        the total t of the effect e with the sign that journals print, high minus low
---   meanOf, differenceOf    the mean, by k and the total; a difference, by the effect too
---   valueBy lost k e t      the outcome of the effect e with the total t, by whether it is lost
+--   meanOf m t              the mean of 2 ^ m readings with the total t
+--   differenceOf m e t      a difference of two halves of them, by the effect e too
+--   valueBy lost m e t      the outcome of the effect e with the total t, by whether it is lost
 --   estimateValue p e t     the outcome of an effect of a plan
 --   totalLimit p            the largest size of a total that is admitted
 --   estimateRefusals p e t  the refusals of the call besides those of the plan
@@ -12,7 +17,7 @@
 --   ExactlyGiven p e t o    a mean or a difference that is given is exactly its quotient
 use mathlib.Core.Bool.{Bool, cond}
 use mathlib.Core.List.{List, [], _∷_}
-use Prim.Native.Nat.{ℕ, _*_, _-_, _^_}
+use Prim.Native.Nat.{ℕ, _+_, _*_, _-_, _^_}
 use lib.Dec.{eqb}
 use lib.IntN.{ℤ, negℤ}
 use lib.Ieee.{Float}
@@ -21,7 +26,7 @@ use Rattle.plan.specs.declared.types.Plan.{Plan}
 use Rattle.plan.specs.Outcome.{Refusal, refusal, Outcome, given, refused}
 use Rattle.plan.specs.Plan.{confoundedIn}
 use Rattle.plan.specs.Check.{withPlan}
-use Rattle.plan.specs.Limits.{readingLimit, isBeyond}
+use Rattle.plan.specs.Limits.{runLimit, isBeyond}
 use Rattle.estimates.specs.declared.types.Estimate.{Estimate}
 use Rattle.estimates.specs.declared.types.Estimate.the-variants as answer
 use Rattle.estimates.specs.Quotient.{Exactly, quotient}
@@ -34,32 +39,51 @@ pub data Value : Type 0 where
   difference : Float → Value
   lost : Value
 
--- E3: "The mean is the total over 2 to the power k (the report's first entry is twice that)"
+-- E3: "The mean is the total over 2 to the power k (the report's first entry is twice that)"; T30: "all divisors (the estimate's too) [..] are
+-- multiplied by r"
+abbrev pub meanDivisor : Plan → ℕ
+meanDivisor p = 2 ^ p .k * p .repeats
+
+-- E4: "a difference the total over 2 to the power k - 1"; T30
+abbrev pub differenceDivisor : Plan → ℕ
+differenceDivisor p = 2 ^ (p .k - 1) * p .repeats
+
+-- P12: "1, 2, 4 or 8" are 2 to the power 0, 1, 2 and 3 (`repeats-power` in `Laws/Powers.antt`)
+unfoldable pub exponentOf : ℕ → ℕ
+exponentOf r = cond (eqb r 8) 3 (cond (eqb r 4) 2 (cond (eqb r 2) 1 0))
+
+-- 2 to this power is the mean's divisor, the number of readings, and half of that the divisor of a difference (`mean-power`,
+-- `difference-power`)
+abbrev pub powerOf : Plan → ℕ
+powerOf p = p .k + exponentOf (p .repeats)
+
+-- E3: "the total over" that divisor, 2 to the power m
 unfoldable pub meanOf : ℕ → ℤ → Float
-meanOf k t = quotient t k
+meanOf m t = quotient t m
 
 -- E4: "negated when the effect has an odd number of letters"
 -- E6: "A zero total still gives positive zero.": it is the whole number that is negated, and not the double
 unfoldable pub printedTotal : ℕ → ℤ → ℤ
 printedTotal e t = cond (oddWord e) (negℤ t) t
 
--- E4: "a difference the total over 2 to the power k - 1"
+-- E4: "a difference the total over" half of that, as it is printed
 unfoldable pub differenceOf : ℕ → ℕ → ℤ → Float
-differenceOf k e t = quotient (printedTotal e t) (k - 1)
+differenceOf m e t = quotient (printedTotal e t) (m - 1)
 
 -- E1, E2: the empty effect, 0, has the mean, and every other a difference
 unfoldable pub valueBy : Bool → ℕ → ℕ → ℤ → Value
-valueBy b k e t = cond b lost (cond (eqb e 0) (mean (meanOf k t)) (difference (differenceOf k e t)))
+valueBy b m e t = cond b lost (cond (eqb e 0) (mean (meanOf m t)) (difference (differenceOf m e t)))
 
 -- E2: "Lost is the outcome exactly when the effect is confounded."
 abbrev pub estimateValue : Plan → ℕ → ℤ → Value
-estimateValue p e t = valueBy (confoundedIn p e) (p .k) e t
+estimateValue p e t = valueBy (confoundedIn p e) (powerOf p) e t
 
 -- ---- the numbers
 
--- E7: "The caller hands in the total"; "the reading limit becomes 1,000,000 either way, and the estimate's limit 2 to the power k times that"
+-- E7: "The caller hands in the total"; "the reading limit becomes 1,000,000 either way, and the estimate's limit 2 to the power k times that";
+-- T30: "and the estimate's limit are multiplied by r"
 abbrev pub totalLimit : Plan → ℕ
-totalLimit p = 2 ^ p .k * readingLimit p
+totalLimit p = 2 ^ p .k * runLimit p
 
 -- L8: "the estimate 9, 10, 12"
 -- N9: "estimate, alias or run call asked at three levels"; N10: "[..] estimate's letter not a base factor";
@@ -79,10 +103,10 @@ estimateOutcome (answer.Difference x) = given (difference x)
 estimateOutcome answer.Lost = given lost
 estimateOutcome (answer.Refused n) = refused n
 
--- E5: "The double is exactly that quotient": a mean times 2 to the power k is the total, and a difference times 2 to the power k - 1 the total
--- as it is printed; there is no number where the effect is lost or the call is refused
+-- E5: "The double is exactly that quotient": a mean times 2 to the power k times r is the total, and a difference times 2 to the power k - 1
+-- times r the total as it is printed; there is no number where the effect is lost or the call is refused
 abbrev pub ExactlyGiven : Plan → ℕ → ℤ → Outcome Value → Type 0
-ExactlyGiven p e t (given (mean x)) = Exactly t (p .k) x
-ExactlyGiven p e t (given (difference x)) = Exactly (printedTotal e t) (p .k - 1) x
+ExactlyGiven p e t (given (mean x)) = Exactly t (meanDivisor p) x
+ExactlyGiven p e t (given (difference x)) = Exactly (printedTotal e t) (differenceDivisor p) x
 ExactlyGiven p e t (given lost) = Unit
 ExactlyGiven p e t (refused n) = Unit

@@ -1,8 +1,8 @@
--- A whole number over a power of two, as a double.
+-- A whole number over another, as a double, and over a power of two.
 --
 --   negative t          the whole number t is below zero
---   IsQuotient t j x    x is finite, has the sign of t, and times 2 ^ j it is t
---   Exactly t j x       besides, x is a double, and no other double is that quotient
+--   IsQuotient t d x    x is finite, has the sign of t, and times d it is t
+--   Exactly t d x       besides, x is a double, and no other double is that quotient
 --   double s m j        the double with the sign s that is m / 2 ^ j
 --   quotient t j        the double that is t / 2 ^ j
 --   positiveZero        zero with the sign of a positive number
@@ -21,18 +21,18 @@ negative (negsuc n) = true
 
 -- ---- what the double is
 
--- E5: x is finite, has the sign of t, and times 2 ^ j it is t: in size x is digits * 2 ^ exponent, and 2 ^ e is the fraction up e / down e.
-pub record IsQuotient (t : ℤ) (j : ℕ) (x : Float) : Type 0 where
+-- E5: x is finite, has the sign of t, and times d it is t: in size x is digits * 2 ^ exponent, and 2 ^ e is the fraction up e / down e.
+pub record IsQuotient (t : ℤ) (d : ℕ) (x : Float) : Type 0 where
   pub digits : ℕ
   pub exponent : ℤ
   pub finite : x ≡ fin (negative t) digits exponent
-  pub times : digits * up exponent * 2 ^ j ≡ natAbs t * down exponent
+  pub times : digits * up exponent * d ≡ natAbs t * down exponent
 
 -- E5: "The double is exactly that quotient"
-pub record Exactly (t : ℤ) (j : ℕ) (x : Float) : Type 0 where
-  pub value : IsQuotient t j x
+pub record Exactly (t : ℤ) (d : ℕ) (x : Float) : Type 0 where
+  pub value : IsQuotient t d x
   pub double : T (fits binary64 x)
-  pub only : (y : Float) → T (fits binary64 y) → IsQuotient t j y → y ≡ x
+  pub only : (y : Float) → T (fits binary64 y) → IsQuotient t d y → y ≡ x
 
 -- ---- the double
 

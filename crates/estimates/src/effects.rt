@@ -1,6 +1,6 @@
 // The estimate call: the lowest number that applies, and else the mean, a difference, or lost to blocks.
 ghost use mathlib.Core.Path.{_≡_};
-ghost use Prim.Native.Nat.{_^_, _<_};
+ghost use Prim.Native.Nat.{_^_, _<_, _≤_};
 ghost use lib.IntN.{natAbs};
 use super::quotients::scaled;
 use super::types::Estimate;
@@ -14,14 +14,16 @@ use words::is_odd_word;
 ghost use Rattle.plan.specs.Check.{planRefused};
 ghost use Rattle.plan.specs.Outcome.{outcome, given};
 ghost use Rattle.estimates.specs.Quotient.{InDouble};
-ghost use Rattle.estimates.specs.Estimate.{printedTotal, valueBy, totalLimit, estimateRefused, estimateValue, estimateOutcome, ExactlyGiven};
+ghost use Rattle.estimates.specs.Estimate.{printedTotal, exponentOf, valueBy, totalLimit, estimateRefused, estimateValue, estimateOutcome, ExactlyGiven};
 
-// The limit of a total: 2 to the power k times that of a reading.
+// The limit of a total: 2 to the power k times that of a run sum, which is r times that of a reading.
 fn total_limit(p: Plan) -> u32
     requires { ⌜ (planRefused p ≡ 0) × (p .levels ≡ 2) ⌝ }
     ensures { λ r. ⌜ r ≡ totalLimit p ⌝ }
 {
-    reading_limit(p) << (p.k as u32)
+    let repeats = p.repeats;
+    let run_limit = (repeats as u32) * reading_limit(p);
+    run_limit << (p.k as u32)
 }
 
 // The lowest number that applies, and 0 where none does.
@@ -56,18 +58,34 @@ fn printed(effect: u16, total: i64) -> i64
     total
 }
 
-// The answer where nothing is refused, by whether the effect is lost.
-fn value(lost: bool, k: usize, effect: u16, total: i64) -> Estimate
-    requires { ⌜ (0 < k) × InDouble total k ⌝ }
-    ensures { λ r. ⌜ estimateOutcome r ≡ given (valueBy lost k effect total) ⌝ }
+// The power of two that r is, where a run may be made r times, and 0 for any other r.
+fn exponent(repeats: u8) -> usize
+    ensures { λ r. ⌜ (r ≡ exponentOf repeats) × (r ≤ 3) ⌝ }
+{
+    if repeats == 8 {
+        return 3;
+    }
+    if repeats == 4 {
+        return 2;
+    }
+    if repeats == 2 {
+        return 1;
+    }
+    0
+}
+
+// The answer where nothing is refused, by whether the effect is lost, and by the power of two that there are readings.
+fn value(lost: bool, power: usize, effect: u16, total: i64) -> Estimate
+    requires { ⌜ (0 < power) × InDouble total power ⌝ }
+    ensures { λ r. ⌜ estimateOutcome r ≡ given (valueBy lost power effect total) ⌝ }
 {
     if lost {
         return Estimate::Lost;
     }
     if effect == 0 {
-        return Estimate::Mean(scaled(total, k));
+        return Estimate::Mean(scaled(total, power));
     }
-    Estimate::Difference(scaled(printed(effect, total), k - 1))
+    Estimate::Difference(scaled(printed(effect, total), power - 1))
 }
 
 // The mean or the difference by the total of an effect, or that the effect is lost to blocks.
@@ -80,5 +98,6 @@ pub fn estimate(p: Plan, effect: u16, total: i64) -> Estimate
         return Estimate::Refused(n);
     }
     let lost = confounded(p, effect);
-    value(lost, p.k as usize, effect, total)
+    let power = p.k as usize + exponent(p.repeats);
+    value(lost, power, effect, total)
 }

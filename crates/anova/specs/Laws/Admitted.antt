@@ -3,8 +3,9 @@
 --   TableReady p readings marks totals rows    lengths and bounds of a table that is not refused
 --   table-admitted                             these, from the number
 --   table-admits                               and this is all that is asked, with readings within the limit and marks that are lawful
+--   SumsReady p sums, sums-ready               run sums of an accepted plan within their limit: those of such a table
 --   rows-power                                 R is 2 to the power of the number of factors
---   within-limit                               the total, by the sum of squares, is within the plan's limit of numerators
+--   within-limit                               the sum of all numerators of run sums is within the plan's limit of numerators
 use mathlib.Core.Path.{_≡_, refl, _∙_, ap}
 use mathlib.Core.Bool.{false, _||_}
 use mathlib.Core.List.{List}
@@ -18,21 +19,22 @@ use Rattle.contrasts.specs.Columns.{read, AllWithin}
 use Rattle.contrasts.specs.Factors.{ofLevels}
 use Rattle.contrasts.specs.Totals.{denominator, squared}
 use Rattle.contrasts.specs.Laws.Limits.{total-fits}
+use Rattle.contrasts.specs.Laws.Repeats.{sums-within}
 use Rattle.plan.specs.declared.types.Plan.{Plan}
 use Rattle.plan.specs.Check.{planRefused}
-use Rattle.plan.specs.Limits.{readingLimit, numeratorLimit}
-use Rattle.plan.specs.Plan.{factorsOf, runsOf}
+use Rattle.plan.specs.Limits.{readingLimit, runLimit, numeratorLimit}
+use Rattle.plan.specs.Plan.{factorsOf, runsOf, allReadings, runSumsOf}
 use Rattle.plan.specs.Laws.Answers.{passed, plan-passed, after-plan}
 use Rattle.plan.specs.Laws.Limits.{plan-roomy}
-use Rattle.columns.specs.Refusals.{wrongLength, anyBeyond}
-use Rattle.columns.specs.Laws.Admitted.{all-within, as-long}
+use Rattle.columns.specs.Refusals.{wrongLength, wrongReadings, anyBeyond}
+use Rattle.columns.specs.Laws.Admitted.{all-within, as-long, all-readings}
 use Rattle.rows.specs.Kinds.{rowsIn, wrongRows, badMarks}
 use Rattle.rows.specs.Laws.Rows.{rows-as-long}
 use Rattle.anova.specs.Table.{wrongLengths, tableRefused}
 
 pub record TableReady (p : Plan) (readings : List ℤ) (marks : List ℕ) (totals : List ℤ) (rows : List ℕ) : Type 0 where
   pub plan : planRefused p ≡ 0
-  pub whole : length readings ≡ runsOf p
+  pub whole : length readings ≡ allReadings p
   pub same : length totals ≡ runsOf p
   pub rows-long : length rows ≡ rowsIn p
   pub within : AllWithin (readingLimit p) readings
@@ -44,26 +46,36 @@ table-admitted p readings marks totals rows e =
     let q = plan-passed p _ e in
     let l11 = passed (wrongLengths p (length readings) (length marks) (length totals) (length rows)) 11 _ (omega arith) (q .1) in
     let l12 = passed (anyBeyond (readingLimit p) readings) 12 _ (omega arith) (l11 .1) in
-    let a = neither (wrongLength p (length readings)) (wrongLength p (length totals) || (wrongRows p (length rows) || wrongRows p (length marks))) (l11 .0) in
+    let a = neither (wrongReadings p (length readings)) (wrongLength p (length totals) || (wrongRows p (length rows) || wrongRows p (length marks))) (l11 .0) in
     let b = neither (wrongLength p (length totals)) (wrongRows p (length rows) || wrongRows p (length marks)) (a .1) in
     let c = neither (wrongRows p (length rows)) (wrongRows p (length marks)) (b .1) in
     record {
       plan = q .0;
-      whole = as-long p (length readings) (a .0);
+      whole = all-readings p (length readings) (a .0);
       same = as-long p (length totals) (b .0);
       rows-long = rows-as-long p (length rows) (c .0);
       within = all-within (readingLimit p) readings (l12 .0);
     }
 
 module _ (p : Plan) (readings : List ℤ) (marks : List ℕ) (totals : List ℤ) (rows : List ℕ) where
-  pub table-admits : planRefused p ≡ 0 → length readings ≡ runsOf p → length totals ≡ runsOf p → length rows ≡ rowsIn p → length marks ≡ rowsIn p
+  pub table-admits : planRefused p ≡ 0 → length readings ≡ allReadings p → length totals ≡ runsOf p → length rows ≡ rowsIn p → length marks ≡ rowsIn p
       → anyBeyond (readingLimit p) readings ≡ false → badMarks p marks ≡ false → tableRefused p readings marks totals rows ≡ 0
-  unfolding tableRefused wrongLengths wrongLength wrongRows
+  unfolding tableRefused wrongLengths wrongReadings wrongLength wrongRows
   table-admits ok n m r q within lawful =
       after-plan p _ ok
       ∙ rw
-      (eq-eqb (length readings) (runsOf p) n, eq-eqb (length totals) (runsOf p) m, eq-eqb (length rows) (rowsIn p) r, eq-eqb (length marks) (rowsIn p) q, within, lawful)
+      (eq-eqb (length readings) (allReadings p) n, eq-eqb (length totals) (runsOf p) m, eq-eqb (length rows) (rowsIn p) r, eq-eqb (length marks) (rowsIn p) q, within, lawful)
       refl
+
+-- ---- the run sums
+
+pub record SumsReady (p : Plan) (sums : List ℤ) : Type 0 where
+  pub plan : planRefused p ≡ 0
+  pub within : AllWithin (runLimit p) sums
+
+pub sums-ready : {p : Plan} {readings : List ℤ} {marks : List ℕ} {totals : List ℤ} {rows : List ℕ} → TableReady p readings marks totals rows
+    → SumsReady p (runSumsOf p readings)
+sums-ready {p} {readings} a = record { plan = a .plan; within = sums-within (runsOf p) (p .repeats) (readingLimit p) readings (a .within) }
 
 -- ---- sizes
 
@@ -71,6 +83,5 @@ pub rows-power : (p : Plan) → 2 ^ length (factorsOf p) ≡ rowsIn p
 unfolding factorsOf
 rows-power p = ap (λ n. 2 ^ n) (length-replicate (p .k) (ofLevels (p .levels)))
 
-pub within-limit : {p : Plan} {readings : List ℤ} {marks : List ℕ} {totals : List ℤ} {rows : List ℕ} → TableReady p readings marks totals rows
-    → denominator (factorsOf p) * squared (factorsOf p) (read readings) ≤ numeratorLimit p
-within-limit {p} {readings} a = total-fits (plan-roomy p (a .plan)) (read readings) (λ r _. a .within r)
+pub within-limit : {p : Plan} {sums : List ℤ} → SumsReady p sums → denominator (factorsOf p) * squared (factorsOf p) (read sums) ≤ numeratorLimit p
+within-limit {p} {sums} a = total-fits (plan-roomy p (a .plan)) (read sums) (λ r _. a .within r)

@@ -1,4 +1,4 @@
--- What rows and sums hold after all totals is what the table has, and the totals that the walk is handed.
+-- What rows and sums hold after all totals is what the table has, and the totals that the walk is handed: those of the run sums.
 --
 --   rows-after-all                           the rows
 --   numerator-after-all, degrees-after-all   numerator and degrees of each kind
@@ -9,7 +9,7 @@ use mathlib.Core.List.{List}
 use Prim.Native.Nat.{ℕ, _*_, _<_}
 use native.Mathlib.Omega.{arith}
 use lib.IntN.{ℤ, pos}
-use lib.ListN.{getD}
+use lib.ListN.{length, getD}
 use Rattle.algebra.specs.Laws.Naturals.{Σℕ-cong}
 use Rattle.algebra.specs.Laws.Tab.{length-tab, getD-tab}
 use Rattle.algebra.specs.Naturals.{Σℕ}
@@ -21,19 +21,19 @@ use Rattle.contrasts.specs.Totals.{total, denominator, numeratorOf, squared}
 use Rattle.plan.specs.declared.types.Plan.{Plan}
 use Rattle.plan.specs.Laws.Limits.{numerator-fits}
 use Rattle.plan.specs.Plan.{factorsOf, runsOf}
-use Rattle.rows.specs.Kinds.{Kind, kindOf, codeOf}
+use Rattle.rows.specs.Kinds.{rowsIn, Kind, kindOf, codeOf}
 use Rattle.rows.specs.Laws.Kinds.{four-kinds}
 use Rattle.walks.specs.After.{kindAt, numeratorAt, rowsAfter, sumsBy, sumsAfter}
 use Rattle.walks.specs.Ready.{PlanWalkable}
-use Rattle.anova.specs.Laws.Admitted.{TableReady, rows-power, within-limit}
+use Rattle.anova.specs.Laws.Admitted.{SumsReady, rows-power, within-limit}
 use Rattle.anova.specs.Table.{sourceOf, checksOf, rowsOf}
 
-module _ (p : Plan) (readings : List ℤ) where
-  pub rows-after-all : rowsAfter p (total (factorsOf p) (read readings)) (runsOf p) ≡ rowsOf p readings
+module _ (p : Plan) (sums : List ℤ) where
+  pub rows-after-all : rowsAfter p (total (factorsOf p) (read sums)) (runsOf p) ≡ rowsOf p sums
   unfolding rowsAfter rowsOf
   rows-after-all = refl
 
-  pub totals-after-all : (marks : List ℕ) → sumsAfter p (total (factorsOf p) (read readings)) marks (runsOf p) .totals ≡ checksOf p readings .totals
+  pub totals-after-all : (marks : List ℕ) → sumsAfter p (total (factorsOf p) (read sums)) marks (runsOf p) .totals ≡ checksOf p sums .totals
   unfolding sumsBy checksOf
   totals-after-all marks = refl
 
@@ -42,15 +42,15 @@ module _ (p : Plan) (readings : List ℤ) where
     abbrev code : ℕ → ℕ
     code w = codeOf (kindOf p marks w)
 
-    pub numerator-after-all : getD (sumsAfter p (total (factorsOf p) (read readings)) marks (runsOf p) .numerators) (codeOf c) 0
-        ≡ sourceOf p readings marks c .numerator
+    pub numerator-after-all : getD (sumsAfter p (total (factorsOf p) (read sums)) marks (runsOf p) .numerators) (codeOf c) 0
+        ≡ sourceOf p sums marks c .numerator
     unfolding sumsBy sourceOf
     numerator-after-all =
-        getD-tab 0 4 (sumAt (kindAt p marks) (numeratorAt p (total (factorsOf p) (read readings))) (runsOf p)) (codeOf c) (four-kinds c)
-        ∙ sym (rw (rows-power p) at (numerators-of-kind (factorsOf p) code (codeOf c) (read readings)))
+        getD-tab 0 4 (sumAt (kindAt p marks) (numeratorAt p (total (factorsOf p) (read sums))) (runsOf p)) (codeOf c) (four-kinds c)
+        ∙ sym (rw (rows-power p) at (numerators-of-kind (factorsOf p) code (codeOf c) (read sums)))
 
-    pub degrees-after-all : getD (sumsAfter p (total (factorsOf p) (read readings)) marks (runsOf p) .degrees) (codeOf c) 0
-        ≡ sourceOf p readings marks c .degrees
+    pub degrees-after-all : getD (sumsAfter p (total (factorsOf p) (read sums)) marks (runsOf p) .degrees) (codeOf c) 0
+        ≡ sourceOf p sums marks c .degrees
     unfolding sumsBy sourceOf
     degrees-after-all =
         getD-tab 0 4 (sumAt (kindAt p marks) (λ i. 1) (runsOf p)) (codeOf c) (four-kinds c)
@@ -59,22 +59,22 @@ module _ (p : Plan) (readings : List ℤ) where
 -- ---- the totals that are handed to the walk
 
 -- a total, as the column has it
-pub total-read : (p : Plan) (readings : List ℤ) (i : ℕ) → i < runsOf p → read (totalsOf (factorsOf p) readings) i ≡ total (factorsOf p) (read readings) i
+pub total-read : (p : Plan) (sums : List ℤ) (i : ℕ) → i < runsOf p → read (totalsOf (factorsOf p) sums) i ≡ total (factorsOf p) (read sums) i
 unfolding totalsOf
-total-read p readings i h = getD-tab (pos 0) (runsOf p) (total (factorsOf p) (read readings)) i h
+total-read p sums i h = getD-tab (pos 0) (runsOf p) (total (factorsOf p) (read sums)) i h
 
-module _ {p : Plan} {readings : List ℤ} {marks : List ℕ} {totals : List ℤ} {rows : List ℕ} (a : TableReady p readings marks totals rows) where
-  -- the sum of all numerators is the total, which is within the limit of numerators
-  all-numerators : Σℕ (runsOf p) (numeratorAt p (read (totalsOf (factorsOf p) readings))) ≡ denominator (factorsOf p) * squared (factorsOf p) (read readings)
+module _ {p : Plan} {sums : List ℤ} (a : SumsReady p sums) where
+  -- the sum of all numerators, which is within the limit of numerators
+  all-numerators : Σℕ (runsOf p) (numeratorAt p (read (totalsOf (factorsOf p) sums))) ≡ denominator (factorsOf p) * squared (factorsOf p) (read sums)
   all-numerators =
-      Σℕ-cong (runsOf p) (λ i h. ap (numeratorOf (factorsOf p) i) (total-read p readings i h)) ∙ numerators (factorsOf p) (read readings)
+      Σℕ-cong (runsOf p) (λ i h. ap (numeratorOf (factorsOf p) i) (total-read p sums i h)) ∙ numerators (factorsOf p) (read sums)
 
-  pub table-walkable : PlanWalkable p (totalsOf (factorsOf p) readings) rows
+  pub table-walkable : {rows : List ℕ} → length rows ≡ rowsIn p → PlanWalkable p (totalsOf (factorsOf p) sums) rows
   unfolding totalsOf
-  table-walkable =
+  table-walkable long =
       record {
         plan = a .plan;
-        whole = length-tab (runsOf p) (total (factorsOf p) (read readings));
-        rows-long = a .rows-long;
+        whole = length-tab (runsOf p) (total (factorsOf p) (read sums));
+        rows-long = long;
         sum-fits = rw all-numerators (omega (arith, within-limit a, numerator-fits p));
       }

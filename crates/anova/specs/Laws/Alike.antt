@@ -8,21 +8,21 @@ use Prim.Native.Nat.{ℕ}
 use lib.IntN.{ℤ}
 use Rattle.plan.specs.declared.types.Plan.{Plan}
 use Rattle.plan.specs.Check.{withPlan}
-use Rattle.plan.specs.Plan.{factorsOf}
+use Rattle.plan.specs.Plan.{factorsOf, runSumsOf}
 use Rattle.plan.specs.Laws.Alike.{Alike, same-refused as same-plan-refused, same-limit}
-use Rattle.columns.specs.Refusals.{wrongLength}
+use Rattle.columns.specs.Refusals.{wrongLength, wrongReadings}
 use Rattle.rows.specs.Kinds.{wrongRows, kindOf, badMark, badMarks}
-use Rattle.anova.specs.Table.{wrongLengths, tableRefused, sourceOf, totalSource, checksOf, tableFigures, rowsOf}
+use Rattle.anova.specs.Table.{wrongLengths, tableRefused, sourceOf, withinSource, totalSource, checksOf, tableFigures, rowsOf}
 
 module _ {p q : Plan} (a : Alike p q) (readings : List ℤ) where
   pub same-refused : (marks : List ℕ) (totals : List ℤ) (rows : List ℕ) → tableRefused p readings marks totals rows ≡ tableRefused q readings marks totals rows
-  unfolding tableRefused withPlan wrongLengths wrongRows wrongLength badMarks badMark factorsOf
-  same-refused marks totals rows = rw (same-limit a, same-plan-refused a, a .blockwords, a .levels, a .k) refl
+  unfolding tableRefused withPlan wrongLengths wrongRows wrongReadings wrongLength badMarks badMark factorsOf
+  same-refused marks totals rows = rw (same-limit a, same-plan-refused a, a .blockwords, a .levels, a .k, a .repeats) refl
 
   pub same-figures : (marks : List ℕ) → tableFigures p readings marks ≡ tableFigures q readings marks
-  unfolding tableFigures sourceOf totalSource checksOf kindOf factorsOf
-  same-figures marks = rw (a .blockwords, a .levels, a .k) refl
+  unfolding tableFigures sourceOf withinSource totalSource checksOf kindOf factorsOf
+  same-figures marks = rw (a .blockwords, a .levels, a .k, a .repeats) refl
 
-  pub same-rows : rowsOf p readings ≡ rowsOf q readings
+  pub same-rows : rowsOf p (runSumsOf p readings) ≡ rowsOf q (runSumsOf q readings)
   unfolding rowsOf factorsOf
-  same-rows = rw (a .levels, a .k) refl
+  same-rows = rw (a .levels, a .k, a .repeats) refl

@@ -12,7 +12,7 @@ use Rattle.estimates.specs.Estimate.{estimateRefused, estimateValue}
 module _ {p q : Plan} (a : Alike p q) (e : ℕ) (t : ℤ) where
   pub same-refused : estimateRefused p e t ≡ estimateRefused q e t
   unfolding estimateRefused withPlan
-  same-refused = rw (same-limit a, same-plan-refused a, a .levels, a .k) refl
+  same-refused = rw (same-limit a, same-plan-refused a, a .levels, a .k, a .repeats) refl
 
   pub same-value : estimateValue p e t ≡ estimateValue q e t
-  same-value = rw (a .blockwords, a .k) refl
+  same-value = rw (a .blockwords, a .k, a .repeats) refl

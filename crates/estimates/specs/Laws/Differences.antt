@@ -1,7 +1,7 @@
 -- The total as journals print it: high minus low.
 --
 --   printed-size       it has the size of the total
---   printed-held       so doubles hold it and 2 ^ (k - 1) where they hold the total and 2 ^ k
+--   printed-held       so doubles hold it and 2 ^ (m - 1) where they hold the total and 2 ^ m
 --   zero-difference    a total of 0 gives positive zero, of an effect with an odd number of letters too
 --   negated-difference, same-difference
 --                      of any other total the double is negated for an odd number of letters; for an even number it is as it was
@@ -24,14 +24,14 @@ printed-size e t = by (oddWord e)
     by true = natAbs-neg t
     by false = refl
 
-pub printed-held : {t : ℤ} {k : ℕ} (e : ℕ) → InDouble t k → InDouble (printedTotal e t) (k - 1)
+pub printed-held : {t : ℤ} {m : ℕ} (e : ℕ) → InDouble t m → InDouble (printedTotal e t) (m - 1)
 printed-held {t} e h = record { number = rw (printed-size e t) (h .number); power = omega (arith, h .power) }
 
-pub zero-difference : (k e : ℕ) → differenceOf k e (pos 0) ≡ positiveZero
+pub zero-difference : (m e : ℕ) → differenceOf m e (pos 0) ≡ positiveZero
 unfolding differenceOf printedTotal quotient
-zero-difference k e = by (oddWord e)
+zero-difference m e = by (oddWord e)
   where
-    by : (b : Bool) → quotient (cond b (negℤ (pos 0)) (pos 0)) (k - 1) ≡ positiveZero
+    by : (b : Bool) → quotient (cond b (negℤ (pos 0)) (pos 0)) (m - 1) ≡ positiveZero
     by true = refl
     by false = refl
 
@@ -39,12 +39,12 @@ zero-difference k e = by (oddWord e)
 
 -- "The estimate's difference is now negated when the effect has an odd number of letters.": the double is the one of the total, with its sign
 -- turned, but for a total of 0
-pub negated-difference : (k e : ℕ) (t : ℤ) → oddWord e ≡ true → (t ≡ pos 0 → ⊥) → differenceOf k e t ≡ minus (quotient t (k - 1))
+pub negated-difference : (m e : ℕ) (t : ℤ) → oddWord e ≡ true → (t ≡ pos 0 → ⊥) → differenceOf m e t ≡ minus (quotient t (m - 1))
 unfolding differenceOf printedTotal quotient double minus
-negated-difference k e (pos zero) o h = absurd (h refl)
-negated-difference k e (pos (suc n)) o h = rw o refl
-negated-difference k e (negsuc n) o h = rw o refl
+negated-difference m e (pos zero) o h = absurd (h refl)
+negated-difference m e (pos (suc n)) o h = rw o refl
+negated-difference m e (negsuc n) o h = rw o refl
 
-pub same-difference : (k e : ℕ) (t : ℤ) → oddWord e ≡ false → differenceOf k e t ≡ quotient t (k - 1)
+pub same-difference : (m e : ℕ) (t : ℤ) → oddWord e ≡ false → differenceOf m e t ≡ quotient t (m - 1)
 unfolding differenceOf printedTotal
-same-difference k e t o = rw o refl
+same-difference m e t o = rw o refl

@@ -20,10 +20,10 @@ use lib.Ieee.Fits.{odd-fits}
 use Rattle.estimates.specs.Quotient.{negative, IsQuotient, Exactly, double, quotient, positiveZero}
 use Rattle.estimates.specs.Laws.Doubles.{one-double}
 
-pub of-value : (t : ℤ) (j : ℕ) (x : Float) → HasValue x (negative t) (natAbs t) (2 ^ j) → IsQuotient t j x
-of-value t j nan v = absurd v
-of-value t j (inf s) v = absurd v
-of-value t j (fin s m e) v = record { digits = m; exponent = e; finite = ap (λ (b : Bool). fin b m e) (v .0); times = v .1 }
+pub of-value : (t : ℤ) (d : ℕ) (x : Float) → HasValue x (negative t) (natAbs t) d → IsQuotient t d x
+of-value t d nan v = absurd v
+of-value t d (inf s) v = absurd v
+of-value t d (fin s m e) v = record { digits = m; exponent = e; finite = ap (λ (b : Bool). fin b m e) (v .0); times = v .1 }
 
 -- ---- no other double
 
@@ -37,16 +37,16 @@ cross x y p q a c h k l =
     ∙ ap (λ (z : ℕ). z * p) (sym l)
     ∙ mul-right-comm y c p)
 
-unique : {t : ℤ} {j : ℕ} {x y : Float} → T (fits binary64 x) → T (fits binary64 y) → IsQuotient t j x → IsQuotient t j y → x ≡ y
-unique {t} {j} f g v w =
+unique : {t : ℤ} {d : ℕ} {x y : Float} → 0 < d → T (fits binary64 x) → T (fits binary64 y) → IsQuotient t d x → IsQuotient t d y → x ≡ y
+unique {t} {d} some f g v w =
     let m = v .digits in
     let n = w .digits in
-    let d = v .exponent in
-    let e = w .exponent in
-    let p : T (fits binary64 (fin (negative t) m d)) = subst (λ (z : Float). T (fits binary64 z)) (v .finite) f in
-    let q : T (fits binary64 (fin (negative t) n e)) = subst (λ (z : Float). T (fits binary64 z)) (w .finite) g in
-    let c = cross (m * up d) (n * up e) (down d) (down e) (natAbs t) (2 ^ j) (pow-pos j) (v .times) (w .times) in
-    v .finite ∙ one-double binary64 (negative t) m n d e p q c ∙ sym (w .finite)
+    let a = v .exponent in
+    let b = w .exponent in
+    let p : T (fits binary64 (fin (negative t) m a)) = subst (λ (z : Float). T (fits binary64 z)) (v .finite) f in
+    let q : T (fits binary64 (fin (negative t) n b)) = subst (λ (z : Float). T (fits binary64 z)) (w .finite) g in
+    let c = cross (m * up a) (n * up b) (down a) (down b) (natAbs t) d some (v .times) (w .times) in
+    v .finite ∙ one-double binary64 (negative t) m n a b p q c ∙ sym (w .finite)
 
 -- ---- it is a double
 
@@ -79,13 +79,13 @@ is-double s n j h k =
 
 -- ---- the laws
 
-pub exact : (t : ℤ) (j : ℕ) → natAbs t < 2 ^ 53 → j ≤ 1074 → Exactly t j (quotient t j)
+pub exact : (t : ℤ) (j : ℕ) → natAbs t < 2 ^ 53 → j ≤ 1074 → Exactly t (2 ^ j) (quotient t j)
 unfolding quotient
 exact t j h k =
     let a : HasValue (quotient t j) (negative t) (natAbs t * 1) (2 ^ j) = odd-sign 53 (negative t) (natAbs t) 0 j in
-    let v : IsQuotient t j (quotient t j) = of-value t j (quotient t j) (rw (mul-one (natAbs t)) at a) in
+    let v : IsQuotient t (2 ^ j) (quotient t j) = of-value t (2 ^ j) (quotient t j) (rw (mul-one (natAbs t)) at a) in
     let f : T (fits binary64 (quotient t j)) = is-double (negative t) (natAbs t) j h k in
-    record { value = v; double = f; only = λ y g w. unique g f w v }
+    record { value = v; double = f; only = λ y g w. unique (pow-pos j) g f w v }
 
 pub positive-zero : (j : ℕ) → quotient (pos 0) j ≡ positiveZero
 unfolding quotient

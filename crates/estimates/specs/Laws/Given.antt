@@ -3,7 +3,7 @@
 --   estimate-two         of an accepted plan of two levels refusals 10 and 12 are left
 --   Admitted p e t       the plan is accepted and has two levels, the effect has base letters only, the total is within its limit
 --   admitted, admits     so it is where the call gives no number, and it gives none where this holds
---   some-factor, held    such a plan has a factor, and doubles hold the total and 2 ^ k
+--   some-power, held     such a plan has two or more readings, and doubles hold the total and their number
 --   Estimated p e t      the outcome of the effect e of the plan p with the total t
 --   estimated            so it is where the call gives no number
 --   exactly-given        and the mean or the difference that the call gives is exactly its quotient
@@ -11,7 +11,7 @@ use mathlib.Core.Path.{_≡_, refl, sym, ap, _∙_, subst}
 use mathlib.Core.Bool.{Bool, true, false, cond}
 use Prim.Native.Nat.{ℕ, _*_, _-_, _^_, _<_, _≤_}
 use native.Mathlib.Decide.{ℕ-discrete}
-use native.Mathlib.Nat.{mul-le-mul-right}
+use native.Mathlib.Nat.{mul-le-mul, le-of-lt}
 use native.Mathlib.Omega.{arith}
 use borrow.Author.Tests.{eq-eqb, ne-eqb, eqb-false, le-ltb, ltb-false}
 use lib.Dec.{eqb}
@@ -23,16 +23,17 @@ use Rattle.plan.specs.declared.types.Plan.{Plan}
 use Rattle.plan.specs.Outcome.{Outcome, given, outcome}
 use Rattle.plan.specs.Plan.{confoundedIn}
 use Rattle.plan.specs.Check.{planRefused}
-use Rattle.plan.specs.Limits.{readingLimit, isBeyond}
+use Rattle.plan.specs.Limits.{runLimit, isBeyond}
 use Rattle.plan.specs.Laws.Accepted.{accepted, sizes}
 use Rattle.plan.specs.Laws.Answers.{after-plan, passed, plan-passed, refused-with, given-with}
 use Rattle.plan.specs.Laws.Confounded.{not-empty}
 use Rattle.plan.specs.Laws.Limits.{reading-fits}
-use Rattle.plan.specs.Laws.Sizes.{two-levels}
+use Rattle.plan.specs.Laws.Sizes.{two-levels, some-repeat}
 use Rattle.estimates.specs.Quotient.{Exactly, InDouble}
-use Rattle.estimates.specs.Estimate.{Value, mean, difference, lost, printedTotal, meanOf, differenceOf, valueBy, estimateValue, totalLimit, estimateRefused, ExactlyGiven}
+use Rattle.estimates.specs.Estimate.{Value, mean, difference, lost, meanDivisor, differenceDivisor, powerOf, printedTotal, meanOf, differenceOf, valueBy, estimateValue, totalLimit, estimateRefused, ExactlyGiven}
 use Rattle.estimates.specs.Laws.Exact.{exact}
 use Rattle.estimates.specs.Laws.Differences.{printed-held}
+use Rattle.estimates.specs.Laws.Powers.{exponent-few, mean-power, difference-power}
 
 -- ---- the numbers
 
@@ -68,14 +69,15 @@ module _ {p : Plan} {e : ℕ} {t : ℤ} (a : Admitted p e t) where
       estimate-two p e t (a .plan) (λ h. omega (arith, h, a .levels))
       ∙ rw (a .letters, le-ltb (totalLimit p) (natAbs t) (a .within)) refl
 
-  pub some-factor : 0 < p .k
-  some-factor = accepted p (a .plan) .factors .0
+  pub some-power : 0 < powerOf p
+  some-power = omega (arith, accepted p (a .plan) .factors .0)
 
-  pub held : InDouble t (p .k)
+  pub held : InDouble t (powerOf p)
   held =
       let k : p .k ≤ 10 = sizes p (a .plan) .0 in
-      let l : totalLimit p ≤ 2 ^ 10 * readingLimit p = mul-le-mul-right (readingLimit p) (pow-mono k) in
-      record { number = omega (arith, a .within, l, reading-fits p); power = omega (arith, k) }
+      let run : runLimit p ≤ 8 * 2 ^ 31 = mul-le-mul (some-repeat p (a .plan) .1) (le-of-lt (reading-fits p)) in
+      let l : totalLimit p ≤ 2 ^ 10 * (8 * 2 ^ 31) = mul-le-mul (pow-mono k) run in
+      record { number = omega (arith, a .within, l); power = omega (arith, k, exponent-few (p .repeats)) }
 
 -- ---- the outcome
 
@@ -83,13 +85,13 @@ pub record Estimated (p : Plan) (e : ℕ) (t : ℤ) : Type 0 where
   -- "Lost is the outcome exactly when the effect is confounded."
   pub lost-when : confoundedIn p e ≡ true → estimateValue p e t ≡ lost
   pub lost-only : estimateValue p e t ≡ lost → confoundedIn p e ≡ true
-  -- "The mean is the total over 2 to the power k": of the empty effect, which is never lost
-  pub of-mean : e ≡ 0 → estimateValue p e t ≡ mean (meanOf (p .k) t)
-  pub mean-exact : Exactly t (p .k) (meanOf (p .k) t)
-  -- "a difference the total over 2 to the power k - 1", "negated when the effect has an odd number of letters": of every other effect that is
-  -- not lost
-  pub of-difference : confoundedIn p e ≡ false → (e ≡ 0 → ⊥) → estimateValue p e t ≡ difference (differenceOf (p .k) e t)
-  pub difference-exact : Exactly (printedTotal e t) (p .k - 1) (differenceOf (p .k) e t)
+  -- "The mean is the total over 2 to the power k", times r: of the empty effect, which is never lost
+  pub of-mean : e ≡ 0 → estimateValue p e t ≡ mean (meanOf (powerOf p) t)
+  pub mean-exact : Exactly t (meanDivisor p) (meanOf (powerOf p) t)
+  -- "a difference the total over 2 to the power k - 1", times r, "negated when the effect has an odd number of letters": of every other effect
+  -- that is not lost
+  pub of-difference : confoundedIn p e ≡ false → (e ≡ 0 → ⊥) → estimateValue p e t ≡ difference (differenceOf (powerOf p) e t)
+  pub difference-exact : Exactly (printedTotal e t) (differenceDivisor p) (differenceOf (powerOf p) e t)
 
 -- an accepted plan does not lose the mean
 never-lost : {p : Plan} {e : ℕ} {t : ℤ} → Admitted p e t → e ≡ 0 → (b : Bool) → confoundedIn p e ≡ b → b ≡ false
@@ -110,21 +112,22 @@ pub estimated : (p : Plan) (e : ℕ) (t : ℤ) → estimateRefused p e t ≡ 0 �
 unfolding valueBy meanOf differenceOf
 estimated p e t n =
     let a = admitted p e t n in
+    let ok = accepted p (a .plan) in
     let h = held a in
     record {
       lost-when = λ c. rw c refl;
-      lost-only = λ c. sym (lost-by (confoundedIn p e) (eqb e 0) (meanOf (p .k) t) (differenceOf (p .k) e t)) ∙ ap isLost c;
+      lost-only = λ c. sym (lost-by (confoundedIn p e) (eqb e 0) (meanOf (powerOf p) t) (differenceOf (powerOf p) e t)) ∙ ap isLost c;
       of-mean = λ z. rw (never-lost a z (confoundedIn p e) refl, eq-eqb e 0 z) refl;
-      mean-exact = exact t (p .k) (h .number) (omega (arith, h .power));
+      mean-exact = rw (← (mean-power ok)) (exact t (powerOf p) (h .number) (omega (arith, h .power)));
       of-difference = λ c z. rw (c, ne-eqb e 0 z) refl;
       difference-exact =
           let g = printed-held e h in
-          exact (printedTotal e t) (p .k - 1) (g .number) (omega (arith, g .power));
+          rw (← (difference-power ok)) (exact (printedTotal e t) (powerOf p - 1) (g .number) (omega (arith, g .power)));
     }
 
 module _ (p : Plan) (e : ℕ) (t : ℤ) where
   exactly : Estimated p e t → (b zero : Bool)
-      → ExactlyGiven p e t (given (cond b lost (cond zero (mean (meanOf (p .k) t)) (difference (differenceOf (p .k) e t)))))
+      → ExactlyGiven p e t (given (cond b lost (cond zero (mean (meanOf (powerOf p) t)) (difference (differenceOf (powerOf p) e t)))))
   exactly d true zero = tt
   exactly d false true = d .mean-exact
   exactly d false false = d .difference-exact

@@ -1,4 +1,4 @@
--- The limit of a total: no total of readings that are within their own limit is refused.
+-- The limit of a total: no total of run sums that are within their own limit is refused.
 --
 --   totals-admitted    every effect of an accepted plan of two levels is admitted with its total
 use mathlib.Core.Path.{_≡_, ap, _∙_}
@@ -13,7 +13,7 @@ use Rattle.contrasts.specs.Laws.Bounds.{Within, reach, growth, bound-total}
 use Rattle.words.specs.Laws.Letters.{beyond-none}
 use Rattle.plan.specs.declared.types.Plan.{Plan}
 use Rattle.plan.specs.Check.{planRefused}
-use Rattle.plan.specs.Limits.{readingLimit}
+use Rattle.plan.specs.Limits.{runLimit}
 use Rattle.plan.specs.Plan.{factorsOf, runsOf}
 use Rattle.plan.specs.Laws.Sizes.{factors-two, runs-two}
 use Rattle.estimates.specs.Laws.Given.{Admitted}
@@ -22,10 +22,10 @@ growth-two : (k : ℕ) → growth (replicate k two) ≡ 2 ^ k
 unfolding reach most Σℕ two
 growth-two k = growth-alike k two
 
-pub totals-admitted : (p : Plan) → planRefused p ≡ 0 → p .levels ≡ 2 → (x : Column) → Within (runsOf p) (readingLimit p) x
+pub totals-admitted : (p : Plan) → planRefused p ≡ 0 → p .levels ≡ 2 → (x : Column) → Within (runsOf p) (runLimit p) x
     → (e : ℕ) → e < runsOf p → Admitted p e (total (factorsOf p) x e)
 totals-admitted p z l x w e h =
     let n : runsOf p ≡ 2 ^ p .k = runs-two p l in
     let g : growth (factorsOf p) ≡ 2 ^ p .k = ap growth (factors-two p l) ∙ growth-two (p .k) in
-    let b : natAbs (total (factorsOf p) x e) ≤ growth (factorsOf p) * readingLimit p = bound-total (factorsOf p) x (readingLimit p) w e h in
+    let b : natAbs (total (factorsOf p) x e) ≤ growth (factorsOf p) * runLimit p = bound-total (factorsOf p) x (runLimit p) w e h in
     record { plan = z; levels = l; letters = beyond-none (p .k) e (rw n at h); within = rw g at b }

@@ -7,18 +7,22 @@ wrong-lengths-spec =
     tie.close
     (tie.spec
     (λ c κs. tt)
-    (λ c. readings-wrong _ (c .before .before .pre) (c .before .runs .ensures) _ _ _ _ (c .if1 .taken))
-    (λ c.
-    let pre = c .before .before .before .pre in
-    totals-wrong _ pre (c .before .before .runs .ensures) _ _ _ _ (c .before .if1 .left) (c .if2 .taken))
+    (λ c. readings-wrong _ (c .before .before .pre) _ _ _ _ (c .before .reading-count .ensures) (c .if1 .taken))
     (λ c κs. tt)
     (λ c.
-    let pre = c .before .before .before .before .before .pre in
-    let runs-is = c .before .before .before .before .runs .ensures in
-    let if1-left = c .before .before .before .if1 .left in
-    rows-not _ pre runs-is _ _ _ _ if1-left (c .before .before .if2 .left) (c .before .row-count .ensures) (c .if3 .taken))
+    let pre = c .before .before .before .before .pre in
+    let count-is = c .before .before .before .reading-count .ensures in
+    totals-wrong _ pre _ _ _ _ count-is (c .before .before .if1 .left) (c .before .runs .ensures) (c .if2 .taken))
+    (λ c κs. tt)
     (λ c.
-    let pre = c .before .before .before .before .before .pre in
-    let runs-is = c .before .before .before .before .runs .ensures in
-    let if1-left = c .before .before .before .if1 .left in
-    by-marks _ pre runs-is _ _ _ _ if1-left (c .before .before .if2 .left) (c .before .row-count .ensures) (c .if3 .left)))
+    let pre = c .before .before .before .before .before .before .pre in
+    let count-is = c .before .before .before .before .before .reading-count .ensures in
+    let if1-left = c .before .before .before .before .if1 .left in
+    let runs-is = c .before .before .before .runs .ensures in
+    rows-not _ pre _ _ _ _ count-is if1-left runs-is (c .before .before .if2 .left) (c .before .row-count .ensures) (c .if3 .taken))
+    (λ c.
+    let pre = c .before .before .before .before .before .before .pre in
+    let count-is = c .before .before .before .before .before .reading-count .ensures in
+    let if1-left = c .before .before .before .before .if1 .left in
+    let runs-is = c .before .before .before .runs .ensures in
+    by-marks _ pre _ _ _ _ count-is if1-left runs-is (c .before .before .if2 .left) (c .before .row-count .ensures) (c .if3 .left)))

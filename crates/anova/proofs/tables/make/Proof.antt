@@ -1,9 +1,7 @@
 use mathlib.Core.Path.{refl, _∙_}
-use native.Mathlib.Omega.{arith}
 use borrow.Author.Needs.{needs}
-use lib.Dec.{lit<}
 use Rattle.algebra.specs.Laws.Machine.{kept}
-use Rattle.anova.proofs.Made.{check-ready, form-ready, lengths-few, denominator-is, squares-ready, total-small, sum-kept, figures-made}
+use Rattle.anova.proofs.Made.{squares-ready, spread-ready, on-used, column-long, check-ready, lengths-few, denominator-is, figures-ready, figures-made}
 use Rattle.anova.proofs.tables.make.Statement.{statement}
 use Rattle.anova.proofs.tables.make.Tie as tie
 
@@ -11,47 +9,48 @@ pub make-spec : {M : Type 1} → statement M
 make-spec =
     tie.close
     (tie.spec
-    (λ c κs.
-    let pre = c .before .before .before .pre in
-    check-ready pre)
+    (λ c. search needs)
+    (λ c κs. squares-ready (c .before .before .before .pre))
     (λ c κs.
     let pre = c .before .before .before .before .before .pre in
-    lengths-few pre (c .before .check-number .ensures .1))
+    spread-ready pre (c .before .sum-of-squares .ensures))
     (λ c κs.
     let pre = c .before .before .before .before .before .before .before .before .pre in
-    let check-number-is = c .before .before .before .before .check-number .ensures in
-    form-ready pre (check-number-is .1))
+    check-ready (on-used pre (c .before .before .within-runs .ensures .1)))
+    (λ c κs.
+    let pre = c .before .before .before .before .before .before .before .before .before .before .pre in
+    lengths-few pre)
     (λ c. search needs)
     (λ c κs.
-    let pre = c .before .before .before .before .before .before .before .before .before .before .before .before .pre in
-    squares-ready pre)
+    let checked = c .before .before .before .before in
+    let spread = checked .before .before .before in
+    let pre = spread .before .before .before .before .before .before .pre in
+    on-used pre (checked .check-number .ensures .1 ∙ spread .within-runs .ensures .1))
+    (λ c κs.
+    let formed = c .before .before .before in
+    let over = formed .before .before .before in
+    let spread = over .before .before .before .before .before in
+    let squared = spread .before .before in
+    let pre = squared .before .before .before .before .pre in
+    let once-is = denominator-is pre (over .denominator .ensures) in
+    figures-ready pre once-is (squared .sum-of-squares .ensures) (spread .within-runs .ensures .0) (formed .form .ensures .0))
     (λ c.
-    let pre = c .before .before .before .before .before .before .before .before .before .before .before .before .before .pre in
-    let check-number-is = c .before .before .before .before .before .before .before .before .before .check-number .ensures in
-    let over-given = c .before .before .before .before .before .before .before .denominator .ensures in
-    omega (arith, total-small pre (denominator-is pre (check-number-is .1) over-given) (c .sum-of-squares .ensures)))
-    (λ c κs. lit< tt)
-    (λ c κs. lit< tt)
-    (λ c κs. lit< tt)
-    (λ c κs. lit< tt)
-    (λ c. search needs)
-    (λ c. search needs)
+    let formed = c .before .before .before .before in
+    let spread = formed .before .before .before .before .before .before .before .before in
+    let pre = spread .before .before .before .before .before .before .pre in
+    column-long pre (formed .form .ensures .1 .0))
     (λ c. search needs)
     (λ c.
-    let mean-is = c .before .before .before .source .ensures in
-    let kept-is = c .before .before .source2 .ensures in
-    let blocks-is = c .before .source3 .ensures in
-    let error-is = c .source4 .ensures in
-    let squared = c .before .before .before .before .before .before .before in
-    let formed = squared .before .before .before .before in
-    let form-is = formed .form .ensures in
-    let over-given = formed .before .before .before .denominator .ensures in
-    let checked = formed .before .before .before .before .before in
-    let check-number-is = checked .check-number .ensures in
-    let pre = checked .before .before .before .before .pre in
+    let formed = c .before .before .before .before in
+    let over = formed .before .before .before in
+    let checked = over .before .before in
+    let spread = checked .before .before .before in
+    let squared = spread .before .before in
+    let pre = squared .before .before .before .before .pre in
+    let once-is = denominator-is pre (over .denominator .ensures) in
     let squares-is = squared .sum-of-squares .ensures in
-    let over-is = denominator-is pre (check-number-is .1) over-given in
-    let sum-is = sum-kept pre over-is squares-is (form-is .0) in
-    let from-is = kept _ (checked .check-number .ok) ∙ check-number-is .0 in
-    let figures-are = figures-made pre over-is squares-is (form-is .0) _ _ _ _ _ _ _ mean-is kept-is blocks-is error-is refl sum-is from-is in
+    let within-is = spread .within-runs .ensures in
+    let form-is = formed .form .ensures in
+    let check-is = kept _ (checked .check-number .ok) ∙ checked .check-number .ensures .0 ∙ rw (within-is .1) refl in
+    let figures-are = figures-made pre once-is squares-is (within-is .0) (form-is .0) check-is (c .figures .ensures) in
     (figures-are, (form-is .1 .0, form-is .1 .1))))
