@@ -20,14 +20,14 @@ use Rattle.algebra.specs.Sum.{Σ}
 use Rattle.algebra.specs.Tab.{tab, tabFrom}
 use Rattle.contrasts.specs.Columns.{read, passOf}
 use Rattle.contrasts.specs.Contrast.{sumWhere, countWhere}
-use Rattle.contrasts.specs.Limits.{valueLimit, mostTwo, mostThree}
-use Rattle.contrasts.specs.Factors.{two}
+use Rattle.contrasts.specs.Limits.{valueLimit, mostTwo, mostThree, isRepeats, mostReadings}
+use Rattle.contrasts.specs.Factors.{two, three}
 use Rattle.contrasts.specs.Codings.{neg}
 use Rattle.contrasts.specs.Totals.{size, coef*}
 use Rattle.contrasts.specs.Passes.{passAt, passFrom}
 use Rattle.plan.specs.declared.types.Plan.{Plan}
 use Rattle.words.specs.Words.{letters, beyond, times, combined, any, among, repeated, shared, oddIn, lows, plusIn}
-use Rattle.plan.specs.Check.{badLevels, badFactors, badCounts, badWord, badSign, badWords, dependent, factorWord, losesFactor, planRefused, withPlan}
+use Rattle.plan.specs.Check.{badLevels, badFactors, badCounts, badWord, badSign, badWords, dependent, factorWord, losesFactor, planRefused, withPlan, badRepeats}
 use Rattle.plan.specs.Examples.{plan, A, C, AB, ABC, AD, BC}
 use Rattle.plan.specs.Outcome.{given, refused}
 use Rattle.plan.specs.Plan.{factorsOf, someCombination, combinesTo}
@@ -60,7 +60,7 @@ calls-of-four : (tab 4 (answer four fourCalls fourReadings) ≡ refused 10 ∷ g
     ∷ (pos 7 ∷ pos 13 ∷ neg 1 ∷ neg 3 ∷ [])
     ∷ (pos 20 ∷ neg 6 ∷ neg 4 ∷ pos 2 ∷ [])
     ∷ [])
-unfolding afterCalls passRefused passColumn passOf passFrom passAt withPlan planRefused badLevels badFactors mostTwo mostThree badCounts badWords badWord badSign repeated dependent losesFactor factorWord any among beyond letters combined times someCombination combinesTo some bits Σℕ Σ wrongLength anyBeyond isBeyond valueLimit factorsOf size two tabFrom
+unfolding afterCalls passRefused passColumn passOf passFrom passAt withPlan planRefused badLevels badFactors mostTwo mostThree badCounts badWords badWord badSign repeated dependent losesFactor factorWord any among beyond letters combined times someCombination combinesTo some bits Σℕ Σ wrongLength anyBeyond isBeyond valueLimit factorsOf size two tabFrom badRepeats isRepeats mostReadings three
 calls-of-four = (refl, refl)
 
 -- ---- letters
@@ -69,7 +69,7 @@ abbrev half : ℕ → Plan
 half s = plan 2 3 (ABC ∷ []) (s ∷ []) []
 
 half-fits : TwoLevels (half 0) × TwoLevels (half 1)
-unfolding planRefused badLevels badFactors mostTwo mostThree badCounts badWords badWord badSign repeated dependent losesFactor factorWord any among beyond letters combined times someCombination combinesTo some bits Σℕ
+unfolding planRefused badLevels badFactors mostTwo mostThree badCounts badWords badWord badSign repeated dependent losesFactor factorWord any among beyond letters combined times someCombination combinesTo some bits Σℕ badRepeats isRepeats mostReadings factorsOf size two three
 half-fits = (record { accepted = refl; two = refl }, record { accepted = refl; two = refl })
 
 -- D is letter 3

@@ -21,7 +21,7 @@ use Rattle.plan.specs.declared.types.Plan.{Plan}
 use Rattle.plan.specs.Check.{planRefused}
 use Rattle.plan.specs.Laws.Answers.{plan-first, after-plan, unwritten, written-new, given-is, refused-is}
 use Rattle.plan.specs.Outcome.{refusal, outcome, written}
-use Rattle.plan.specs.Plan.{factorsOf}
+use Rattle.plan.specs.Plan.{factorsOf, runSumsOf}
 use Rattle.anova.specs.declared.types.Figures.{Figures}
 use Rattle.anova.specs.declared.types.Table.{Table}
 use Rattle.anova.specs.declared.types.Table.the-variants.{Made, Refused}
@@ -80,8 +80,8 @@ module _ {p : Plan} {readings : List ℤ} {marks : List ℕ} {totals : List ℤ}
       let h = room-stopped p in
       record {
         number = e ∙ rw w refl;
-        totals-left = rw w (unwritten (roomRefused p) (totalsOf (factorsOf p) readings) totals h);
-        rows-left = rw w (unwritten (roomRefused p) (rowsOf p readings) rows h);
+        totals-left = rw w (unwritten (roomRefused p) (totalsOf (factorsOf p) (runSumsOf p readings)) totals h);
+        rows-left = rw w (unwritten (roomRefused p) (rowsOf p (runSumsOf p readings)) rows h);
         figures-left = rw w (unwritten (roomRefused p) (figureNumbers (tableFigures p readings marks)) figures h);
         checks-left = rw w (unwritten (roomRefused p) (checkNumbers (tableFigures p readings marks)) checks h);
       }

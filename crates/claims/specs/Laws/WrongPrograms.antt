@@ -14,8 +14,8 @@ use Rattle.algebra.specs.Naturals.{Σℕ}
 use Rattle.algebra.specs.Search.{some}
 use Rattle.algebra.specs.Sum.{Σ}
 use Rattle.algebra.specs.Tab.{tabFrom}
-use Rattle.contrasts.specs.Columns.{read, passOf, totalsOf}
-use Rattle.contrasts.specs.Limits.{twoReadingLimit, threeReadingLimit, valueLimit, mostTwo, mostThree}
+use Rattle.contrasts.specs.Columns.{read, passOf, totalsOf, runSumsIn, squaresOf}
+use Rattle.contrasts.specs.Limits.{twoReadingLimit, threeReadingLimit, valueLimit, mostTwo, mostThree, isRepeats, mostReadings}
 use Rattle.contrasts.specs.Rows.{degreesOf}
 use Rattle.contrasts.specs.Factors.{two, three}
 use Rattle.contrasts.specs.Codings.{neg}
@@ -24,43 +24,44 @@ use Rattle.contrasts.specs.Passes.{passAt, passFrom}
 use Rattle.contrasts.specs.Checks.{checkWeight, round, rounds}
 use Rattle.words.specs.Words.{letters, beyond, times, combined, any, among, repeated}
 use Rattle.plan.specs.declared.types.Plan.{Plan}
-use Rattle.plan.specs.Check.{badLevels, badFactors, badCounts, badWord, badSign, badWords, dependent, factorWord, losesFactor, planRefused, withPlan}
+use Rattle.plan.specs.Check.{badLevels, badFactors, badCounts, badWord, badSign, badWords, dependent, factorWord, losesFactor, planRefused, withPlan, badRepeats}
 use Rattle.plan.specs.Limits.{readingLimit, isBeyond}
 use Rattle.plan.specs.Outcome.{Outcome, given, refused}
 use Rattle.plan.specs.Plan.{factorsOf, someCombination, combinesTo}
 use Rattle.plan.specs.Laws.Answers.{refused-is, given-is, given-with, written-new}
 use Rattle.plan.specs.Laws.Limits.{reading-admitted}
-use Rattle.columns.specs.Refusals.{wrongLength, anyBeyond, columnsRefused}
+use Rattle.columns.specs.Refusals.{wrongLength, anyBeyond, columnsRefused, wrongReadings}
 use Rattle.rows.specs.Kinds.{keptRow, wrongRows, kindByMark, kindOf, badMark, badMarks}
 use Rattle.yates.specs.Calls.{passRefused, passColumn, totalsColumn}
 use Rattle.yates.specs.Laws.Admitted.{pass-admits}
-use Rattle.estimates.specs.Estimate.{Value, mean, difference, lost, differenceOf, valueBy, estimateRefused, estimateValue}
+use Rattle.estimates.specs.Estimate.{Value, mean, difference, lost, differenceOf, valueBy, estimateRefused, estimateValue, exponentOf}
 use Rattle.anova.specs.declared.types.Figures.{Figures}
-use Rattle.anova.specs.Table.{wrongLengths, tableRefused, sourceOf, totalSource, checksOf, tableFigures, tableTotals}
+use Rattle.anova.specs.Table.{wrongLengths, tableRefused, sourceOf, totalSource, checksOf, tableFigures, tableTotals, joined, withinSource}
 use Rattle.numerals.specs.Numbers.{big, twos}
 use Rattle.fields.specs.Fields.{parse, fieldsOf, bodies, bodyAt}
 use Rattle.fields.specs.Tags.{badFrom, badFields}
-use Rattle.contents.specs.Contents.{planIn, readingAt, readingsOf}
+use Rattle.contents.specs.Contents.{planIn, readingAt, readingsOf, needless}
 use Rattle.sheet.specs.Sheet.{refusedWith, marksRefused, marksOf}
 use Rattle.printing.specs.Printed.{printed, printRefused, textOf}
 use Rattle.printing.specs.Examples.{rulesSheet, rules-text, threeSheet, three-text}
 use Rattle.promises.specs.Promised.{promisedEstimate}
 use Rattle.claims.specs.AnyOrder.{RunSums, ownPass}
+use Rattle.contrasts.specs.Repeats.{runSums, withinRuns}
 use Rattle.claims.specs.WrongPrograms.{PassCall, KeepsPass, KeepsTable, KeepsPrint, constantTable, figuresBy, untouchedPass, doesAll, firstDoesAll, doesAllAtA, afterTold, four, readings, fourTotals, zeros, allKept, pooled, blank, WrongPrograms, rowsOfKind, threeLevels, threeReadings}
 
 -- ---- what the promises come to at the named inputs, computed
 
 four-accepted : planRefused four ≡ 0
-unfolding planRefused badLevels badFactors mostTwo mostThree badCounts badWords badWord badSign repeated dependent losesFactor factorWord any among beyond letters combined times someCombination combinesTo some bits Σℕ
+unfolding planRefused badLevels badFactors mostTwo mostThree badCounts badWords badWord badSign repeated dependent losesFactor factorWord any among beyond letters combined times someCombination combinesTo some bits Σℕ badRepeats isRepeats mostReadings factorsOf size two three
 four-accepted = refl
 
 -- the pass of A over 3, 5, 4, 8 is made, by the call and by demand 3; that of B over the totals
 pass-A : passColumn four 0 readings ≡ pos 8 ∷ neg 2 ∷ pos 12 ∷ neg 4 ∷ []
-unfolding passColumn passRefused withPlan planRefused badLevels badFactors mostTwo mostThree badCounts badWords badWord badSign repeated dependent losesFactor factorWord any among beyond letters combined times someCombination combinesTo some bits Σℕ wrongLength anyBeyond isBeyond valueLimit factorsOf size two passOf passFrom passAt Σ tabFrom
+unfolding passColumn passRefused withPlan planRefused badLevels badFactors mostTwo mostThree badCounts badWords badWord badSign repeated dependent losesFactor factorWord any among beyond letters combined times someCombination combinesTo some bits Σℕ wrongLength anyBeyond isBeyond valueLimit factorsOf size two passOf passFrom passAt Σ tabFrom badRepeats isRepeats mostReadings three
 pass-A = refl
 
 done-A : passRefused four 0 readings ≡ 0
-unfolding passRefused withPlan planRefused badLevels badFactors mostTwo mostThree badCounts badWords badWord badSign repeated dependent losesFactor factorWord any among beyond letters combined times someCombination combinesTo some bits Σℕ wrongLength anyBeyond isBeyond valueLimit factorsOf size two
+unfolding passRefused withPlan planRefused badLevels badFactors mostTwo mostThree badCounts badWords badWord badSign repeated dependent losesFactor factorWord any among beyond letters combined times someCombination combinesTo some bits Σℕ wrongLength anyBeyond isBeyond valueLimit factorsOf size two badRepeats isRepeats mostReadings three
 done-A = refl
 
 own-A : ownPass four 0 readings ≡ pos 8 ∷ neg 2 ∷ pos 12 ∷ neg 4 ∷ []
@@ -76,55 +77,55 @@ unfolding factorsOf size two totalsOf total coef* Σ tabFrom
 four-totals = refl
 
 totals-over-zeros : totalsColumn four readings zeros ≡ fourTotals
-unfolding totalsColumn columnsRefused withPlan planRefused badLevels badFactors mostTwo mostThree badCounts badWords badWord badSign repeated dependent losesFactor factorWord any among beyond letters combined times someCombination combinesTo some bits Σℕ wrongLength anyBeyond isBeyond readingLimit twoReadingLimit threeReadingLimit factorsOf size two totalsOf total coef* Σ tabFrom
+unfolding totalsColumn columnsRefused withPlan planRefused badLevels badFactors mostTwo mostThree badCounts badWords badWord badSign repeated dependent losesFactor factorWord any among beyond letters combined times someCombination combinesTo some bits Σℕ wrongLength anyBeyond isBeyond readingLimit twoReadingLimit threeReadingLimit factorsOf size two totalsOf total coef* Σ tabFrom badRepeats isRepeats mostReadings three runSums runSumsIn
 totals-over-zeros = refl
 
 -- three tables are made: of 3, 5, 4, 8 with every row kept and with AB pooled, and of zeros
 made : (tableRefused four readings allKept zeros allKept ≡ 0) × (tableRefused four readings pooled zeros allKept ≡ 0) × (tableRefused four zeros allKept zeros allKept ≡ 0)
-unfolding tableRefused wrongLengths wrongRows wrongLength anyBeyond isBeyond badMarks badMark withPlan planRefused badLevels badFactors mostTwo mostThree badCounts badWords badWord badSign repeated dependent losesFactor factorWord any among beyond letters combined times someCombination combinesTo some bits Σℕ readingLimit twoReadingLimit threeReadingLimit factorsOf size two
+unfolding tableRefused wrongLengths wrongRows wrongLength anyBeyond isBeyond badMarks badMark withPlan planRefused badLevels badFactors mostTwo mostThree badCounts badWords badWord badSign repeated dependent losesFactor factorWord any among beyond letters combined times someCombination combinesTo some bits Σℕ readingLimit twoReadingLimit threeReadingLimit factorsOf size two badRepeats isRepeats mostReadings three wrongReadings
 made = (refl, refl, refl)
 
 table-totals : tableTotals four readings allKept zeros allKept ≡ fourTotals
-unfolding tableTotals
+unfolding tableTotals runSums runSumsIn
 table-totals = sym (written-new _ (totalsOf (factorsOf four) readings) zeros (made .0)) ∙ four-totals
 
 total-numerators : (tableFigures four readings allKept .total .numerator ≡ 456) × (tableFigures four zeros allKept .total .numerator ≡ 0)
-unfolding tableFigures totalSource factorsOf size two denominator squared Σℕ
+unfolding tableFigures totalSource factorsOf size two denominator squared Σℕ withinSource joined withinRuns runSums runSumsIn squaresOf
 total-numerators = (refl, refl)
 
 kept-degrees : (tableFigures four readings allKept .kept .degrees ≡ 3) × (tableFigures four readings pooled .kept .degrees ≡ 2)
-unfolding tableFigures sourceOf kindOf kindByMark combinesTo someCombination some combined times bits Σℕ factorsOf size two degreesOf
+unfolding tableFigures sourceOf kindOf kindByMark combinesTo someCombination some combined times bits Σℕ factorsOf size two degreesOf withinSource joined withinRuns runSums runSumsIn squaresOf
 kept-degrees = (refl, refl)
 
 -- one three-level factor: one row is kept, and it has 2 degrees
 three-made : tableRefused threeLevels threeReadings (0 ∷ 0 ∷ []) threeReadings (0 ∷ 0 ∷ []) ≡ 0
-unfolding tableRefused wrongLengths wrongRows wrongLength anyBeyond isBeyond badMarks badMark withPlan planRefused badLevels badFactors mostTwo mostThree badCounts badWords badWord badSign repeated dependent losesFactor factorWord any among beyond letters combined times someCombination combinesTo some bits Σℕ readingLimit twoReadingLimit threeReadingLimit factorsOf size two three
+unfolding tableRefused wrongLengths wrongRows wrongLength anyBeyond isBeyond badMarks badMark withPlan planRefused badLevels badFactors mostTwo mostThree badCounts badWords badWord badSign repeated dependent losesFactor factorWord any among beyond letters combined times someCombination combinesTo some bits Σℕ readingLimit twoReadingLimit threeReadingLimit factorsOf size two three badRepeats isRepeats mostReadings wrongReadings
 three-made = refl
 
 two-degrees : (rowsOfKind threeLevels (0 ∷ 0 ∷ []) keptRow ≡ 1) × (tableFigures threeLevels threeReadings (0 ∷ 0 ∷ []) .kept .degrees ≡ 2)
-unfolding tableFigures sourceOf kindOf kindByMark combinesTo someCombination some combined times bits Σℕ factorsOf size two three degreesOf
+unfolding tableFigures sourceOf kindOf kindByMark combinesTo someCombination some combined times bits Σℕ factorsOf size two three degreesOf withinSource joined withinRuns runSums runSumsIn squaresOf
 two-degrees = (refl, refl)
 
 check-numbers : (tableFigures four readings allKept .checks .readings ≡ pos 12) × (tableFigures four zeros allKept .checks .readings ≡ pos 0)
-unfolding tableFigures checksOf factorsOf size two checkWeight round rounds Σ
+unfolding tableFigures checksOf factorsOf size two checkWeight round rounds Σ withinSource joined withinRuns runSums runSumsIn squaresOf
 check-numbers = (refl, refl)
 
 -- the estimate of A, whose total is -6, is not lost
 A-estimated : estimateRefused four 1 (neg 6) ≡ 0
-unfolding estimateRefused withPlan planRefused badLevels badFactors mostTwo mostThree badCounts badWords badWord badSign repeated dependent losesFactor factorWord any among beyond letters combined times someCombination combinesTo some bits Σℕ isBeyond readingLimit twoReadingLimit threeReadingLimit
+unfolding estimateRefused withPlan planRefused badLevels badFactors mostTwo mostThree badCounts badWords badWord badSign repeated dependent losesFactor factorWord any among beyond letters combined times someCombination combinesTo some bits Σℕ isBeyond readingLimit twoReadingLimit threeReadingLimit badRepeats isRepeats mostReadings factorsOf size two three
 A-estimated = refl
 
 A-not-lost : estimateValue four 1 (neg 6) ≡ difference (differenceOf 2 1 (neg 6))
-unfolding valueBy combinesTo someCombination combined times some bits Σℕ
+unfolding valueBy combinesTo someCombination combined times some bits Σℕ exponentOf
 A-not-lost = refl
 
 -- the sheet of the rules' example, and that of 2, 5, 3 at three levels
 sheets-accepted : (printRefused rulesSheet ≡ 0) × (printRefused threeSheet ≡ 0)
-unfolding printRefused marksRefused refusedWith planIn readingsOf readingAt twos big fieldsOf parse bodies bodyAt badFields badFrom wrongLength wrongRows anyBeyond isBeyond badMarks badMark withPlan planRefused badLevels badFactors mostTwo mostThree badCounts badWords badWord badSign repeated dependent losesFactor factorWord any among beyond letters combined times someCombination combinesTo some bits Σℕ readingLimit twoReadingLimit threeReadingLimit factorsOf size two three tabFrom
+unfolding printRefused marksRefused refusedWith planIn readingsOf readingAt twos big fieldsOf parse bodies bodyAt badFields badFrom wrongLength wrongRows anyBeyond isBeyond badMarks badMark withPlan planRefused badLevels badFactors mostTwo mostThree badCounts badWords badWord badSign repeated dependent losesFactor factorWord any among beyond letters combined times someCombination combinesTo some bits Σℕ readingLimit twoReadingLimit threeReadingLimit factorsOf size two three tabFrom badRepeats isRepeats mostReadings needless wrongReadings
 sheets-accepted = (refl, refl)
 
 rules-marks : marksOf rulesSheet ≡ 0 ∷ 0 ∷ 0 ∷ 1 ∷ []
-unfolding marksOf marksRefused refusedWith planIn readingsOf readingAt twos big fieldsOf parse bodies bodyAt badFields badFrom wrongLength wrongRows anyBeyond isBeyond badMarks badMark withPlan planRefused badLevels badFactors mostTwo mostThree badCounts badWords badWord badSign repeated dependent losesFactor factorWord any among beyond letters combined times someCombination combinesTo some bits Σℕ readingLimit twoReadingLimit threeReadingLimit factorsOf size two three tabFrom
+unfolding marksOf marksRefused refusedWith planIn readingsOf readingAt twos big fieldsOf parse bodies bodyAt badFields badFrom wrongLength wrongRows anyBeyond isBeyond badMarks badMark withPlan planRefused badLevels badFactors mostTwo mostThree badCounts badWords badWord badSign repeated dependent losesFactor factorWord any among beyond letters combined times someCombination combinesTo some bits Σℕ readingLimit twoReadingLimit threeReadingLimit factorsOf size two three tabFrom badRepeats isRepeats mostReadings needless wrongReadings
 rules-marks = refl
 
 -- ---- the proof
