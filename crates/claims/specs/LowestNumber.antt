@@ -15,7 +15,7 @@ use lib.ListN.{length}
 use Rattle.plan.specs.declared.types.Plan.{Plan}
 use Rattle.plan.specs.Check.{planRefusals, planRefused}
 use Rattle.plan.specs.Outcome.{Refusal, refusal, Lowest}
-use Rattle.plan.specs.Plan.{runsOf}
+use Rattle.plan.specs.Plan.{allReadings}
 use Rattle.plan.specs.Limits.{readingLimit}
 use Rattle.columns.specs.Refusals.{anyBeyond}
 use Rattle.rows.specs.Kinds.{badMarks}
@@ -69,16 +69,16 @@ pub record LowestNumber : Type 0 where
   pub table : (p : Plan) (readings : List ℤ) (marks : List ℕ) (column : List ℤ) (rows : List ℕ)
       → Lowest (tableRefused p readings marks column rows) (onPlan p (tableRefusals p readings marks column rows))
   -- L5: "the reader gives 1, 11, 12, 13"
-  pub reader : (sheet : List ℕ) (room : ℕ) → Lowest (readRefused sheet room) (onSheet (fieldsOf sheet) (ltb room (runsOf (planIn (fieldsOf sheet)))))
+  pub reader : (sheet : List ℕ) (room : ℕ) → Lowest (readRefused sheet room) (onSheet (fieldsOf sheet) (ltb room (allReadings (planIn (fieldsOf sheet)))))
   -- L6: "the marks call, each as its empty part, 1, 11 (without the column), 12, 13"
   pub marks : (sheet : List ℕ) → Lowest (marksRefused sheet) (onSheet (fieldsOf sheet) false)
   -- W3: of the print call "any refusal prints that line alone with its number"
   pub print : (sheet : List ℕ) → Lowest (printRefused sheet) (onBytes sheet)
-  -- the calls for C, which take a whole plan by its levels and k
+  -- the calls for C, which take a whole plan by its levels, k and, but for the pass, how often its runs are made
   pub pass-C : (levels k f : ℕ) (column : List ℤ)
-      → Lowest (passRefused (wholePlan levels k) f column) (onPlan (wholePlan levels k) (passRefusals (wholePlan levels k) f column))
-  pub totals-C : (levels k : ℕ) (readings column : List ℤ)
-      → Lowest (totalsRefused (wholePlan levels k) readings column) (onPlan (wholePlan levels k) (totalsRefusals (wholePlan levels k) readings column))
-  pub table-C : (levels k : ℕ) (readings : List ℤ) (marks : List ℕ) (column : List ℤ) (rows figures : List ℕ) (checks : List ℤ)
-      → Lowest (callRefused (wholePlan levels k) readings marks column rows figures checks)
-      (onPlan (wholePlan levels k) (tableRefusalsC (wholePlan levels k) readings marks column rows figures checks))
+      → Lowest (passRefused (wholePlan levels k 1) f column) (onPlan (wholePlan levels k 1) (passRefusals (wholePlan levels k 1) f column))
+  pub totals-C : (levels k r : ℕ) (readings column : List ℤ)
+      → Lowest (totalsRefused (wholePlan levels k r) readings column) (onPlan (wholePlan levels k r) (totalsRefusals (wholePlan levels k r) readings column))
+  pub table-C : (levels k r : ℕ) (readings : List ℤ) (marks : List ℕ) (column : List ℤ) (rows figures : List ℕ) (checks : List ℤ)
+      → Lowest (callRefused (wholePlan levels k r) readings marks column rows figures checks)
+      (onPlan (wholePlan levels k r) (tableRefusalsC (wholePlan levels k r) readings marks column rows figures checks))

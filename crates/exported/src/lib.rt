@@ -57,7 +57,13 @@ pub extern "C" fn yates_pass(levels: u8, k: u8, factor: usize, column: &mut [i64
 
 // The totals of all effects.
 #[no_mangle]
-pub extern "C" fn yates_totals(levels: u8, k: u8, repeats: u8, readings: &[i32], totals: &mut [i64]) -> u8
+pub extern "C" fn yates_totals(
+    levels: u8,
+    k: u8,
+    repeats: u8,
+    readings: &[i32],
+    totals: &mut [i64],
+) -> u8
     ensures { λ r. ⌜ r ≡ totalsRefused (wholePlan levels k repeats) (now (readings .entry)) (now (totals .entry)) ⌝ }
     ensures { λ _. ⌜ now (totals .exit) ≡ totalsColumn (wholePlan levels k repeats) (now (readings .entry)) (now (totals .entry)) ⌝ }
 {

@@ -40,12 +40,10 @@ check-numbers p readings marks totals rows n =
     let sums = runSumsOf p readings in
     record {
       sum = sum-of p sums ∙ ap (λ (ts : List ℤ). Σ (runsOf p) (read ts)) (written-new _ (totalsOf (factorsOf p) sums) totals n);
-      two-levels = λ t. by-first t ∙ ap (λ (z : ℤ). pos (runsOf p) *ℤ z) (sums-read (runsOf p) (p .repeats) readings 0 (size-pos (factorsOf p)));
+      two-levels = λ t. of-column t (read sums) ∙ ap (λ (z : ℤ). pos (runsOf p) *ℤ z) (sums-read (runsOf p) (p .repeats) readings 0 (size-pos (factorsOf p)));
       three-levels = λ t. rw (factors-three p t) (rounds-three (p .k) (read sums));
       equal = check-rounds (factorsOf p) (read sums);
     }
   where
-    by-first : p .levels ≡ 2 → rounds (factorsOf p) (read (runSumsOf p readings)) ≡ pos (runsOf p) *ℤ read (runSumsOf p readings) 0
-    by-first t =
-        rw (factors-two p t)
-        (sym (check-rounds (replicate (p .k) two) (read (runSumsOf p readings))) ∙ check-two (p .k) (read (runSumsOf p readings)))
+    of-column : p .levels ≡ 2 → (x : Column) → rounds (factorsOf p) x ≡ pos (runsOf p) *ℤ x 0
+    of-column t x = rw (factors-two p t) (sym (check-rounds (replicate (p .k) two) x) ∙ check-two (p .k) x)

@@ -11,7 +11,7 @@ use lib.ListN.{length}
 use Rattle.plan.specs.declared.types.Plan.{Plan}
 use Rattle.plan.specs.Check.{planRefusals, planRefused, withPlan}
 use Rattle.plan.specs.Outcome.{Refusal, refusal, lowest, rank, Lowest}
-use Rattle.plan.specs.Plan.{runsOf}
+use Rattle.plan.specs.Plan.{allReadings}
 use Rattle.plan.specs.Limits.{readingLimit}
 use Rattle.plan.specs.Laws.Lowest.{is-lowest, with-plan, lowest-with-plan}
 use Rattle.columns.specs.Refusals.{anyBeyond, columnsRefused}
@@ -74,7 +74,7 @@ lowest-number =
       step = λ p from to. lowest-with-plan p (stepRefusals p from to) tt;
       totals = λ p readings column. lowest-with-plan p (totalsRefusals p readings column) tt;
       table = λ p readings marks column rows. lowest-with-plan p (tableRefusals p readings marks column rows) tt;
-      reader = λ sheet room. of-sheet (fieldsOf sheet) (ltb room (runsOf (planIn (fieldsOf sheet))));
+      reader = λ sheet room. of-sheet (fieldsOf sheet) (ltb room (allReadings (planIn (fieldsOf sheet))));
       marks = λ sheet. of-sheet (fieldsOf sheet) false;
       print = λ sheet. rw (of-bytes sheet) (is-lowest (onBytes sheet) tt);
       pass-C = λ levels k f column. lowest-with-plan (wholePlan levels k) (passRefusals (wholePlan levels k) f column) tt;

@@ -76,7 +76,7 @@ unfolding refusedWith known
 of-sheet fs narrow = by (badFields fs)
   where
     by : (bad : Bool) → OneOfTheNumbers (cond bad 1 (withPlan (planIn fs) (sheetRefusals fs (planIn fs) narrow)))
-    by true h = omega arith
+    by true = λ h. omega arith
     by false = by-plan (planIn fs) (sheetRefusals fs (planIn fs) narrow) tt
 
 of-print : (sheet : List ℕ) → OneOfTheNumbers (printRefused sheet)
@@ -84,7 +84,7 @@ unfolding printRefused marksRefused
 of-print sheet = by (ltb longestSheet (length sheet))
   where
     by : (long : Bool) → OneOfTheNumbers (cond long 1 (marksRefused sheet))
-    by true h = omega arith
+    by true = λ h. omega arith
     by false = of-sheet (fieldsOf sheet) false
 
 pub on-any-sheet : (sheet : List ℕ) → OnSheet sheet

@@ -16,21 +16,23 @@ use Rattle.algebra.specs.Sum.{Σ}
 use Rattle.algebra.specs.Tab.{tabFrom}
 use Rattle.contrasts.specs.Columns.{read, passOf, totalsOf, runSumsIn, squaresOf}
 use Rattle.contrasts.specs.Limits.{twoReadingLimit, threeReadingLimit, valueLimit, mostTwo, mostThree, isRepeats, mostReadings}
+use Rattle.contrasts.specs.Repeats.{runSums, withinRuns}
 use Rattle.contrasts.specs.Rows.{degreesOf}
 use Rattle.contrasts.specs.Factors.{two, three}
 use Rattle.contrasts.specs.Codings.{neg}
 use Rattle.contrasts.specs.Totals.{size, coef*, total, denominator, squared}
 use Rattle.contrasts.specs.Passes.{passAt, passFrom}
 use Rattle.contrasts.specs.Checks.{checkWeight, round, rounds}
+use Rattle.contrasts.specs.Laws.Repeats.{sums-once}
 use Rattle.words.specs.Words.{letters, beyond, times, combined, any, among, repeated}
 use Rattle.plan.specs.declared.types.Plan.{Plan}
 use Rattle.plan.specs.Check.{badLevels, badFactors, badCounts, badWord, badSign, badWords, dependent, factorWord, losesFactor, planRefused, withPlan, badRepeats}
 use Rattle.plan.specs.Limits.{readingLimit, isBeyond}
 use Rattle.plan.specs.Outcome.{Outcome, given, refused}
-use Rattle.plan.specs.Plan.{factorsOf, someCombination, combinesTo}
+use Rattle.plan.specs.Plan.{factorsOf, runSumsOf, someCombination, combinesTo}
 use Rattle.plan.specs.Laws.Answers.{refused-is, given-is, given-with, written-new}
-use Rattle.plan.specs.Laws.Limits.{reading-admitted}
-use Rattle.columns.specs.Refusals.{wrongLength, anyBeyond, columnsRefused, wrongReadings}
+use Rattle.plan.specs.Laws.Limits.{run-admitted}
+use Rattle.columns.specs.Refusals.{wrongLength, wrongReadings, anyBeyond, readingsRefused}
 use Rattle.rows.specs.Kinds.{keptRow, wrongRows, kindByMark, kindOf, badMark, badMarks}
 use Rattle.yates.specs.Calls.{passRefused, passColumn, totalsColumn}
 use Rattle.yates.specs.Laws.Admitted.{pass-admits}
@@ -46,7 +48,6 @@ use Rattle.printing.specs.Printed.{printed, printRefused, textOf}
 use Rattle.printing.specs.Examples.{rulesSheet, rules-text, threeSheet, three-text}
 use Rattle.promises.specs.Promised.{promisedEstimate}
 use Rattle.claims.specs.AnyOrder.{RunSums, ownPass}
-use Rattle.contrasts.specs.Repeats.{runSums, withinRuns}
 use Rattle.claims.specs.WrongPrograms.{PassCall, KeepsPass, KeepsTable, KeepsPrint, constantTable, figuresBy, untouchedPass, doesAll, firstDoesAll, doesAllAtA, afterTold, four, readings, fourTotals, zeros, allKept, pooled, blank, WrongPrograms, rowsOfKind, threeLevels, threeReadings}
 
 -- ---- what the promises come to at the named inputs, computed
@@ -77,7 +78,7 @@ unfolding factorsOf size two totalsOf total coef* Σ tabFrom
 four-totals = refl
 
 totals-over-zeros : totalsColumn four readings zeros ≡ fourTotals
-unfolding totalsColumn columnsRefused withPlan planRefused badLevels badFactors mostTwo mostThree badCounts badWords badWord badSign repeated dependent losesFactor factorWord any among beyond letters combined times someCombination combinesTo some bits Σℕ wrongLength anyBeyond isBeyond readingLimit twoReadingLimit threeReadingLimit factorsOf size two totalsOf total coef* Σ tabFrom badRepeats isRepeats mostReadings three runSums runSumsIn
+unfolding totalsColumn readingsRefused withPlan planRefused badLevels badFactors mostTwo mostThree badCounts badWords badWord badSign repeated dependent losesFactor factorWord any among beyond letters combined times someCombination combinesTo some bits Σℕ wrongLength anyBeyond isBeyond readingLimit twoReadingLimit threeReadingLimit factorsOf size two totalsOf total coef* Σ tabFrom badRepeats isRepeats mostReadings three runSums runSumsIn wrongReadings
 totals-over-zeros = refl
 
 -- three tables are made: of 3, 5, 4, 8 with every row kept and with AB pooled, and of zeros
@@ -85,9 +86,16 @@ made : (tableRefused four readings allKept zeros allKept ≡ 0) × (tableRefused
 unfolding tableRefused wrongLengths wrongRows wrongLength anyBeyond isBeyond badMarks badMark withPlan planRefused badLevels badFactors mostTwo mostThree badCounts badWords badWord badSign repeated dependent losesFactor factorWord any among beyond letters combined times someCombination combinesTo some bits Σℕ readingLimit twoReadingLimit threeReadingLimit factorsOf size two badRepeats isRepeats mostReadings three wrongReadings
 made = (refl, refl, refl)
 
+sums-of-four : runSumsOf four readings ≡ readings
+unfolding factorsOf size two
+sums-of-four = sums-once refl
+
 table-totals : tableTotals four readings allKept zeros allKept ≡ fourTotals
-unfolding tableTotals runSums runSumsIn
-table-totals = sym (written-new _ (totalsOf (factorsOf four) readings) zeros (made .0)) ∙ four-totals
+unfolding tableTotals
+table-totals =
+    sym (written-new _ (totalsOf (factorsOf four) (runSumsOf four readings)) zeros (made .0))
+    ∙ ap (totalsOf (factorsOf four)) sums-of-four
+    ∙ four-totals
 
 total-numerators : (tableFigures four readings allKept .total .numerator ≡ 456) × (tableFigures four zeros allKept .total .numerator ≡ 0)
 unfolding tableFigures totalSource factorsOf size two denominator squared Σℕ withinSource joined withinRuns runSums runSumsIn squaresOf
@@ -107,7 +115,7 @@ unfolding tableFigures sourceOf kindOf kindByMark combinesTo someCombination som
 two-degrees = (refl, refl)
 
 check-numbers : (tableFigures four readings allKept .checks .readings ≡ pos 12) × (tableFigures four zeros allKept .checks .readings ≡ pos 0)
-unfolding tableFigures checksOf factorsOf size two checkWeight round rounds Σ withinSource joined withinRuns runSums runSumsIn squaresOf
+unfolding tableFigures checksOf factorsOf size two checkWeight round rounds Σ runSums runSumsIn tabFrom
 check-numbers = (refl, refl)
 
 -- the estimate of A, whose total is -6, is not lost
@@ -173,7 +181,7 @@ unfolding afterTold
 all-at-once p ok column start f base fs =
     idle 0 p fs _
     ∙ sym (written-new (passRefused p f column) (totalsOf (factorsOf p) column) column
-    (pass-admits (record { plan = ok; base = base; whole = start .whole; within = λ i. le-trans (start .within i) (reading-admitted p) })))
+    (pass-admits (record { plan = ok; base = base; whole = start .whole; within = λ i. le-trans (start .within i) (run-admitted p ok) })))
 
 -- a pass call that keeps its promise has 8 in the first place after the pass of A
 eight : (program : PassCall) → KeepsPass program → first (program four 0 readings .column) ≡ 8

@@ -4,11 +4,12 @@
 --   plan-roomy                  of an accepted plan: from run sums within their limit values and numerators do not leave theirs
 --   plan-rounds                 nor do the numbers of the rounds of the check
 --   some-reading, reading-fits  the limit of readings is not 0, and fits an i32
---   reading-admitted            a reading is a value that a pass admits
+--   run-admitted                a run sum is a value that a pass admits
 --   numerator-fits              the limit of numerators fits an i64
 use mathlib.Core.Path.{_≡_, refl}
 use mathlib.Core.Logic.{_⊎_, inl, inr}
 use Prim.Native.Nat.{_-_, _*_, _^_, _<_, _≤_}
+use native.Mathlib.Nat.{mul-le-mul}
 use native.Mathlib.Omega.{arith}
 use borrow.Author.Tests.{eq-eqb, ne-eqb}
 use lib.Dec.{eqb, lit<, lit≤}
@@ -23,7 +24,7 @@ use Rattle.plan.specs.Plan.{factorsOf}
 use Rattle.plan.specs.Check.{planRefused}
 use Rattle.plan.specs.Limits.{readingLimit, runLimit, numeratorLimit}
 use Rattle.plan.specs.Laws.Accepted.{Accepted, accepted}
-use Rattle.plan.specs.Laws.Sizes.{factors-two, factors-three}
+use Rattle.plan.specs.Laws.Sizes.{factors-two, factors-three, some-repeat}
 
 pub limit-two : (p : Plan) → p .levels ≡ 2 → readingLimit p ≡ twoReadingLimit
 unfolding readingLimit
@@ -54,6 +55,13 @@ module _ (p : Plan) (z : planRefused p ≡ 0) where
   pub plan-rounds : p .levels ≡ 3 → 5 ^ (p .k - 1) * runLimit p ≤ valueLimit
   plan-rounds e = rw (limit-three p (omega arith)) (three-rounds (p .k) (p .repeats) (ok .factors .2 e) (ok .repeats .0) (few-three e))
 
+  pub run-admitted : runLimit p ≤ valueLimit
+  unfolding readingLimit twoReadingLimit threeReadingLimit valueLimit
+  run-admitted =
+      let reading : readingLimit p ≤ 1_000_000
+      = either (eqb (p .levels) 2) twoReadingLimit threeReadingLimit (λ n. n ≤ 1_000_000) (λ _. lit≤ tt) (λ _. lit≤ tt) in
+      omega (arith, mul-le-mul (some-repeat p z .1) reading)
+
 -- ---- of any plan
 
 pub some-reading : (p : Plan) → 0 < readingLimit p
@@ -63,10 +71,6 @@ some-reading p = either (eqb (p .levels) 2) twoReadingLimit threeReadingLimit (�
 pub reading-fits : (p : Plan) → readingLimit p < 2 ^ 31
 unfolding readingLimit twoReadingLimit threeReadingLimit
 reading-fits p = either (eqb (p .levels) 2) twoReadingLimit threeReadingLimit (λ n. n < 2 ^ 31) (λ _. lit< tt) (λ _. lit< tt)
-
-pub reading-admitted : (p : Plan) → readingLimit p ≤ valueLimit
-unfolding readingLimit twoReadingLimit threeReadingLimit valueLimit
-reading-admitted p = either (eqb (p .levels) 2) twoReadingLimit threeReadingLimit (λ n. n ≤ valueLimit) (λ _. lit≤ tt) (λ _. lit≤ tt)
 
 pub numerator-fits : (p : Plan) → numeratorLimit p < 2 ^ 63
 unfolding numeratorLimit twoNumeratorLimit threeNumeratorLimit
