@@ -56,6 +56,10 @@ four : (r : ℕ) (kind : ℕ → Kind) (g : ℕ → ℕ)
 unfolding Σℕ
 four r kind g = omega (arith, Σℕ-by r 4 (λ w. codeOf (kind w)) g (λ w _. four-kinds (kind w)))
 
+-- N degrees, and "N times (r - 1) degrees"
+all-repeats : (n r : ℕ) → 0 < r → n + n * (r - 1) ≡ n * r
+all-repeats n r some = omega (arith, mul-sub n r 1, mul-le-mul-left n some)
+
 -- ---- of the run sums
 
 module _ {p : Plan} {sums : List ℤ} (a : SumsReady p sums) where
@@ -136,10 +140,6 @@ module _ {p : Plan} {readings : List ℤ} {marks : List ℕ} {totals : List ℤ}
       f .mean .numerator + f .kept .numerator + f .blocks .numerator + f .error .numerator ≡ f .total .numerator
   unfolding tableFigures sourceOf withinSource joined totalSource
   numerators-add-up = omega (arith, four (rowsIn p) (kindOf p marks) (rowNumerator (factorsOf p) (read sums)), together)
-
-  -- "N times (r - 1) degrees" beside N
-  all-repeats : (n r : ℕ) → 0 < r → n + n * (r - 1) ≡ n * r
-  all-repeats n r some = omega (arith, mul-sub n r 1, mul-le-mul-left n some)
 
   pub degrees-add-up : let f = tableFigures p readings marks in
       f .mean .degrees + f .kept .degrees + f .blocks .degrees + f .error .degrees ≡ f .total .degrees

@@ -10,6 +10,7 @@ use Rattle.algebra.specs.Sum.{Σ}
 use Rattle.algebra.specs.Laws.Sum.{Σ-cong}
 use Rattle.algebra.specs.Laws.Tab.{getD-tab}
 use Rattle.contrasts.specs.Columns.{read, totalsOf}
+use Rattle.contrasts.specs.Factor.{Factor}
 use Rattle.contrasts.specs.Factors.{two, three}
 use Rattle.contrasts.specs.Totals.{Column, total}
 use Rattle.contrasts.specs.Checks.{rounds}
@@ -41,7 +42,7 @@ check-numbers p readings marks totals rows n =
     record {
       sum = sum-of p sums ∙ ap (λ (ts : List ℤ). Σ (runsOf p) (read ts)) (written-new _ (totalsOf (factorsOf p) sums) totals n);
       two-levels = λ t. of-column t (read sums) ∙ ap (λ (z : ℤ). pos (runsOf p) *ℤ z) (sums-read (runsOf p) (p .repeats) readings 0 (size-pos (factorsOf p)));
-      three-levels = λ t. rw (factors-three p t) (rounds-three (p .k) (read sums));
+      three-levels = λ t. ap (λ (Fs : List Factor). rounds Fs (read sums)) (factors-three p t) ∙ rounds-three (p .k) (read sums);
       equal = check-rounds (factorsOf p) (read sums);
     }
   where

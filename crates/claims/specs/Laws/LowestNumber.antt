@@ -14,7 +14,7 @@ use Rattle.plan.specs.Outcome.{Refusal, refusal, lowest, rank, Lowest}
 use Rattle.plan.specs.Plan.{allReadings}
 use Rattle.plan.specs.Limits.{readingLimit}
 use Rattle.plan.specs.Laws.Lowest.{is-lowest, with-plan, lowest-with-plan}
-use Rattle.columns.specs.Refusals.{anyBeyond, columnsRefused}
+use Rattle.columns.specs.Refusals.{anyBeyond, columnsRefused, readingsRefused}
 use Rattle.rows.specs.Kinds.{badMarks}
 use Rattle.runs.specs.Run.{runRefusals, runRefused}
 use Rattle.aliases.specs.Alias.{aliasRefusals, aliasRefused}
@@ -63,7 +63,7 @@ of-table p readings marks column rows figures checks = by (wrongRoom (length fig
     by false = refl
 
 pub lowest-number : LowestNumber
-unfolding planRefused runRefused aliasRefused estimateRefused passRefused columnsRefused tableRefused readRefused marksRefused rank
+unfolding planRefused runRefused aliasRefused estimateRefused passRefused columnsRefused readingsRefused tableRefused readRefused marksRefused rank
 lowest-number =
     record {
       check = λ p. is-lowest (planRefusals p) tt;
@@ -77,9 +77,9 @@ lowest-number =
       reader = λ sheet room. of-sheet (fieldsOf sheet) (ltb room (allReadings (planIn (fieldsOf sheet))));
       marks = λ sheet. of-sheet (fieldsOf sheet) false;
       print = λ sheet. rw (of-bytes sheet) (is-lowest (onBytes sheet) tt);
-      pass-C = λ levels k f column. lowest-with-plan (wholePlan levels k) (passRefusals (wholePlan levels k) f column) tt;
-      totals-C = λ levels k readings column. lowest-with-plan (wholePlan levels k) (totalsRefusals (wholePlan levels k) readings column) tt;
-      table-C = λ levels k readings marks column rows figures checks.
-          rw (of-table (wholePlan levels k) readings marks column rows figures checks)
-          (lowest-with-plan (wholePlan levels k) (tableRefusalsC (wholePlan levels k) readings marks column rows figures checks) tt);
+      pass-C = λ levels k f column. lowest-with-plan (wholePlan levels k 1) (passRefusals (wholePlan levels k 1) f column) tt;
+      totals-C = λ levels k r readings column. lowest-with-plan (wholePlan levels k r) (totalsRefusals (wholePlan levels k r) readings column) tt;
+      table-C = λ levels k r readings marks column rows figures checks.
+          rw (of-table (wholePlan levels k r) readings marks column rows figures checks)
+          (lowest-with-plan (wholePlan levels k r) (tableRefusalsC (wholePlan levels k r) readings marks column rows figures checks) tt);
     }
