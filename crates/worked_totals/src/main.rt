@@ -3,12 +3,12 @@
 mod calls;
 mod limits;
 mod readings;
-mod repeats;
+mod repeated;
 mod text;
 mod works;
 
 use limits::try_limits;
-use repeats::try_repeats;
+use repeated::try_repeats;
 use works::work;
 use works::work_repeated;
 
