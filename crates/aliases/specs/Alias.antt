@@ -5,7 +5,7 @@
 --   turned                whether the sign turns, high minus low
 --   aliasValues p e       both, of a plan
 --   aliasRefusals p e     the refusals of the call besides those of the plan
---   aliasRefused p e      the lowest number that applies, 0 where the alias is given
+--   aliasRefused p e      the first number that applies, 0 where the alias is given
 --   aliasOutcome          the cases of the call's answer
 use mathlib.Core.Bool.{Bool, cond, not, _&&_}
 use mathlib.Core.List.{List, [], _∷_}

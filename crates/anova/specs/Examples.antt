@@ -6,7 +6,7 @@
 --   twice-figures    the readings of the first, of two runs made twice
 --   lengths          refusal 11, slice by slice
 --   more-often       refusals 11 and 16, of runs made more than once
---   small-inputs     refusals 12 and 13, and the lowest number where several apply
+--   small-inputs     refusals 12 and 13, and the first number where several apply
 --   unchanged        a table that is refused
 use mathlib.Core.Path.{_≡_, refl}
 use mathlib.Core.List.{List, [], _∷_}

@@ -2,7 +2,7 @@
 --
 --   wrongLengths               refusal 11, of all four slices
 --   tableRefusals              the refusals of the call besides those of the plan
---   tableRefused               the lowest number that applies, 0 where the table is made
+--   tableRefused               the first number that applies, 0 where the table is made
 --   sourceOf p sums marks c    degrees and numerator of the rows of the kind c, from the run sums
 --   withinSource p xs          those of the squares of readings about their run's mean
 --   joined s t                 two sources in one line

@@ -28,7 +28,7 @@ fn wrong_lengths(p: Plan, readings: usize, marks: usize, totals: usize, rows: us
     marks != row_count
 }
 
-// The lowest number that applies, and 0 where none does.
+// The first number that applies, and 0 where none does.
 pub fn table_refused(p: Plan, readings: &[i32], marks: &[u8], totals: &[i64], rows: &[u64]) -> u8
     ensures { λ r. ⌜ r ≡ tableRefused p (now (readings .entry)) (now (marks .entry)) (now (totals .entry)) (now (rows .entry)) ⌝ }
 {

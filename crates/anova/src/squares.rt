@@ -36,7 +36,7 @@ fn sum_of_run_squares(column: &[i64]) -> u64
 
 // The squares of readings about their run's mean, as often as a run is made, from the squares of all readings. The column is used for the
 // run sums; of runs made once there are none, and it stays.
-pub fn within_runs(readings: &[i32], repeats: usize, squares: u64, column: &mut [i64]) -> u64
+pub fn about_means(readings: &[i32], repeats: usize, squares: u64, column: &mut [i64]) -> u64
     requires { ⌜ RunSquares repeats squares (now readings) (now column) ⌝ }
     ensures { λ r. ⌜ r ≡ aboutMeans (length (now (column .entry))) repeats (now (readings .entry)) ⌝ }
     ensures { λ _. ⌜ length (now (column .exit)) ≡ length (now (column .entry)) ⌝ }

@@ -6,8 +6,8 @@ ghost use lib.Dec.{eqb};
 ghost use lib.ListN.{getD};
 use super::refusals::table_refused;
 use super::rounds::check_number;
+use super::squares::about_means;
 use super::squares::sum_of_squares;
-use super::squares::within_runs;
 use super::types::Checks;
 use super::types::Figures;
 use super::types::Source;
@@ -135,7 +135,7 @@ fn make(p: Plan, readings: &[i32], marks: &[u8], column: &mut [i64], rows: &mut 
     let runs = column.len();
     let repeats = p.repeats as usize;
     let squares = sum_of_squares(readings);
-    let within = within_runs(readings, repeats, squares, column);
+    let within = about_means(readings, repeats, squares, column);
     let check = check_number(p.levels, p.k, repeats, readings, column);
     let once = denominator(p.levels, runs, rows.len()) as u64;
     let sums = form(p, readings, marks, column, rows);

@@ -50,7 +50,7 @@ call calls n = getD calls n 0
 abbrev pub found : Plan → List ℕ → List ℤ → ℕ → List ℤ
 found p calls column n = afterCalls p (take n calls) column
 
--- what call n answers: `passRefused` is the lowest number that applies to it, 0 where it is done
+-- what call n answers: `passRefused` is the first number that applies to it, 0 where it is done
 abbrev pub answer : Plan → List ℕ → List ℤ → ℕ → Outcome Unit
 answer p calls column n = outcome (passRefused p (call calls n) (found p calls column n)) tt
 

@@ -114,7 +114,7 @@ Generators = (p : Plan) → TwoLevels p → (j : ℕ) → j < length (addedWords
 -- ---- the claims on estimates: of readings that the totals call admits, and the totals that it leaves
 
 -- E1 to E5, E11: of every effect of base letters but the mean, unless it is lost: the sum of the readings where it counts plus less the sum where
--- it counts minus, over half of the runs.
+-- it counts minus, over half of the readings.
 abbrev pub Estimates : Type 0
 Estimates =
     (p : Plan) → TwoLevels p → (readings totals : List ℤ) → totalsRefused p readings totals ≡ 0

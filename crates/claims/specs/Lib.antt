@@ -1,7 +1,7 @@
 -- The demands, as theorems about the calls' own definitions: first what is claimed, then the proofs.
 --
---   LowestNumber   demand 1: the number of every call is the lowest that applies
---   Refusals       demand 1: thirteen numbers, and nothing is written
+--   LowestNumber   demand 1: the number of every call is the first that applies, in one order of checks
+--   Refusals       demand 1: which numbers there are, and that nothing is written
 --   Letters        demand 2: coefficients, totals, blocks and aliases in letters, at two levels
 --   HighMinusLow   estimates and aliases with the signs that journals print
 --   CheckNumbers   demand 2: both checks, in the rules' words

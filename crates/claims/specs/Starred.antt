@@ -19,13 +19,13 @@ use lib.Ieee.{fin}
 use lib.ListN.{length, getD, take, replicate}
 use Rattle.algebra.specs.Naturals.{Σℕ}
 use Rattle.algebra.specs.Tab.{tab}
-use Rattle.contrasts.specs.Columns.{read}
+use Rattle.contrasts.specs.Columns.{read, squaresOf}
 use Rattle.contrasts.specs.Codings.{neg}
-use Rattle.contrasts.specs.Totals.{total, divisor*, denominator, numeratorOf, squared}
+use Rattle.contrasts.specs.Totals.{numeratorOf}
 use Rattle.plan.specs.declared.types.Plan.{Plan}
 use Rattle.plan.specs.Examples.{plan, A, AB, BC, ABC, AD, BCD}
 use Rattle.plan.specs.Outcome.{Outcome, given, refused}
-use Rattle.plan.specs.Plan.{factorsOf, runsOf}
+use Rattle.plan.specs.Plan.{factorsOf, runsOf, denominatorOf, divisorOf}
 use Rattle.plan.specs.Check.{confoundedAccepted}
 use Rattle.effects.specs.Effects.{effectDivisors}
 use Rattle.rows.specs.Kinds.{Kind, meanRow, blocksRow, keptRow, rowsIn, kindOf}
@@ -80,8 +80,8 @@ numeratorsOf p totals = tab (runsOf p) (λ e. numeratorOf (factorsOf p) e (read 
 abbrev sumIn : Plan → List ℤ → List ℕ → Sum
 sumIn p readings rows = record {
   rows = Σℕ (length rows) (λ w. getD rows w 0);
-  denominator = denominator (factorsOf p);
-  squares = squared (factorsOf p) (read readings);
+  denominator = denominatorOf p;
+  squares = squaresOf readings;
 }
 
 -- ---- the runs
@@ -217,7 +217,7 @@ abbrev nine : List ℕ
 nine = 9 ∷ 6 ∷ 18 ∷ 6 ∷ 4 ∷ 12 ∷ 18 ∷ 12 ∷ 36 ∷ []
 
 abbrev divisorsIn : Plan → Divisors
-divisorsIn p = record { by-digits = tab (runsOf p) (divisor* (factorsOf p)); divided-by = take (runsOf p) (effectDivisors p) }
+divisorsIn p = record { by-digits = tab (runsOf p) (divisorOf p); divided-by = take (runsOf p) (effectDivisors p) }
 
 abbrev nineDivisors : StarredRun
 nineDivisors = record {

@@ -4,6 +4,7 @@
 --   AllReadings p readings           readings of all runs, r of each, within the limit
 --   squareOver p totals e            the square of the total of effect e, over its divisor: a fraction
 --   aboutMean p readings i           the square of the reading at place i about the mean of its run: a fraction
+--   numeratorIn p totals e           the numerator of effect e, by its total
 --   numeratorsIn p totals            the numerators of a column of totals, added up
 --   squaresWithin p readings         the numerator of the squares about the run's mean, over the table's denominator
 --   ExactSquares p readings totals   what is claimed of the totals of readings
@@ -39,9 +40,12 @@ aboutMean p readings i =
     let d = deviation (p .repeats) (read readings) (i / p .repeats) (i % p .repeats) in
     (natAbs d * natAbs d) over (p .repeats * p .repeats)
 
--- T19, T30: "A numerator is a total squared times (denominator over divisor)."
+-- T19, T30: "A numerator is a total squared times (denominator over divisor).", both of them times r
+abbrev pub numeratorIn : Plan → List ℤ → ℕ → ℕ
+numeratorIn p totals e = natAbs (read totals e) * natAbs (read totals e) * (denominatorOf p / divisorOf p e)
+
 abbrev pub numeratorsIn : Plan → List ℤ → ℕ
-numeratorsIn p totals = Σℕ (runsOf p) (λ e. natAbs (read totals e) * natAbs (read totals e) * (denominatorOf p / divisorOf p e))
+numeratorsIn p totals = Σℕ (runsOf p) (numeratorIn p totals)
 
 abbrev pub squaresWithin : Plan → List ℤ → ℕ
 squaresWithin p readings = withinRuns (factorsOf p) (p .repeats) (read readings)

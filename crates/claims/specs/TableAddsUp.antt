@@ -19,14 +19,14 @@ use lib.ListN.{getD}
 use Rattle.algebra.specs.Naturals.{Σℕ}
 use Rattle.contrasts.specs.Columns.{read, totalsOf, squaresOf}
 use Rattle.contrasts.specs.Rows.{rowOf, degreesOf}
-use Rattle.contrasts.specs.Totals.{numerator, numeratorOf}
+use Rattle.contrasts.specs.Totals.{numerator}
 use Rattle.plan.specs.declared.types.Plan.{Plan}
 use Rattle.plan.specs.Plan.{factorsOf, runsOf, allReadings, runSumsOf, denominatorOf}
 use Rattle.plan.specs.Limits.{numeratorLimit}
 use Rattle.rows.specs.Kinds.{rowsIn, Kind, meanRow, blocksRow, errorRow, keptRow, kindOf, same}
 use Rattle.anova.specs.declared.types.Figures.{Figures}
 use Rattle.anova.specs.Table.{tableRefused, tableFigures, tableTotals, tableRows, rowsOf, SourceWithin}
-use Rattle.claims.specs.SumOfSquares.{squaresWithin}
+use Rattle.claims.specs.SumOfSquares.{numeratorIn, squaresWithin}
 
 -- V6 to V10: "Row 0 is the mean. Confounded rows are blocks. Rows with mark 1 are error; mark 0 keeps any other row. Each of these four adds up the
 -- degrees and numerators of its rows."
@@ -40,7 +40,7 @@ degreesOfKind p marks c = Σℕ (rowsIn p) (λ w. cond (same (kindOf p marks w) 
 pub record Formed (p : Plan) (readings : List ℤ) (marks : List ℕ) (totals : List ℤ) (rows : List ℕ) (f : Figures) : Type 0 where
   -- V2: "A three-level row adds the numerators of every effect using exactly its letters.": of the totals that the call writes
   pub each-row : (w : ℕ) → w < rowsIn p
-      → getD rows w 0 ≡ Σℕ (runsOf p) (λ e. cond (eqb (rowOf (factorsOf p) e) w) (numeratorOf (factorsOf p) e (read totals e)) 0)
+      → getD rows w 0 ≡ Σℕ (runsOf p) (λ e. cond (eqb (rowOf (factorsOf p) e) w) (numeratorIn p totals e) 0)
   pub degrees : (f .mean .degrees ≡ degreesOfKind p marks meanRow)
       × (f .kept .degrees ≡ degreesOfKind p marks keptRow)
       × (f .blocks .degrees ≡ degreesOfKind p marks blocksRow)

@@ -26,7 +26,7 @@
 use mathlib.Core.Path.{_≡_}
 use mathlib.Core.Bool.{cond}
 use mathlib.Core.List.{List, [], _∷_, _++_}
-use Prim.Native.Nat.{ℕ, zero, suc, _<_}
+use Prim.Native.Nat.{ℕ, zero, suc, _+_, _-_, _*_, _<_}
 use lib.Dec.{eqb}
 use lib.IntN.{ℤ, pos}
 use lib.ListN.{length, drop, replicate}
@@ -38,7 +38,7 @@ use Rattle.plan.specs.declared.types.Plan.{Plan}
 use Rattle.plan.specs.Check.{planRefused}
 use Rattle.plan.specs.Examples.{plan}
 use Rattle.plan.specs.Outcome.{Outcome, given, refused, outcome, written}
-use Rattle.plan.specs.Plan.{factorsOf, runsOf}
+use Rattle.plan.specs.Plan.{factorsOf, runsOf, allReadings}
 use Rattle.yates.specs.Calls.{passRefused, totalsRefused}
 use Rattle.estimates.specs.Estimate.{Value, lost, estimateRefused}
 use Rattle.anova.specs.declared.types.Figures.{Figures}
@@ -167,7 +167,7 @@ inventedDegrees m k b e = figuresBy (λ p readings marks. withDegrees m k b e (t
 
 -- degrees that add up to the total's: the mean has them all
 abbrev pub allToMean : TableCall
-allToMean = figuresBy (λ p readings marks. withDegrees (runsOf p) 0 0 0 (tableFigures p readings marks))
+allToMean = figuresBy (λ p readings marks. withDegrees (allReadings p) 0 0 0 (tableFigures p readings marks))
 
 -- M3: 1 degree for each row, as at two levels: "Giving a main effect 1 degree at three levels."
 abbrev pub rowsOfKind : Plan → List ℕ → Kind → ℕ
@@ -175,7 +175,8 @@ rowsOfKind p marks c = Σℕ (rowsIn p) (λ w. cond (same (kindOf p marks w) c) 
 
 abbrev pub oneDegreeEach : TableCall
 oneDegreeEach = figuresBy (λ p readings marks.
-    withDegrees (rowsOfKind p marks meanRow) (rowsOfKind p marks keptRow) (rowsOfKind p marks blocksRow) (rowsOfKind p marks errorRow)
+    withDegrees (rowsOfKind p marks meanRow) (rowsOfKind p marks keptRow) (rowsOfKind p marks blocksRow)
+    (rowsOfKind p marks errorRow + runsOf p * (p .repeats - 1))
     (tableFigures p readings marks))
 
 -- figures with other check numbers

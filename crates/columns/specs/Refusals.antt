@@ -25,7 +25,7 @@ use Rattle.plan.specs.Plan.{runsOf, allReadings}
 use Rattle.columns.specs.declared.types.Answer.{Answer}
 use Rattle.columns.specs.declared.types.Answer.the-variants.{Done, Refused}
 
--- N11: "readings, totals [..] not N [..] long; pass or step column not N"
+-- N11: "[..] totals [..] not N [..] long; pass or step column not N"
 unfoldable pub wrongLength : Plan → ℕ → Bool
 wrongLength p n = not (eqb n (runsOf p))
 

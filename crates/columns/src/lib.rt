@@ -3,7 +3,7 @@
 //
 //   any_value_beyond(column)                 a pass or a step refuses a value of it
 //   any_reading_beyond(p, readings)          the totals and the table refuse a reading
-//   values_refused(p, from, to)              the lowest number of a call that reads a column of values and writes another
+//   values_refused(p, from, to)              the first number of a call that reads a column of values and writes another
 //   readings_refused(p, readings, totals)    and of one that reads readings
 //   copy(readings, column)                   readings as the values of a column
 //   Answer                                   done, or the number of the refusal

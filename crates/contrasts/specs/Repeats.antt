@@ -18,6 +18,7 @@ runSums r x i = Σ r (λ j. x (i * r + j))
 abbrev pub deviation : ℕ → Column → ℕ → ℕ → ℤ
 deviation r x i j = pos r *ℤ x (i * r + j) -ℤ runSums r x i
 
--- V16: the sum of squares of r deviations is r r times the squares about the mean, and the new denominator is r times the old
+-- V16: "The squares of readings about their run's mean, over the new denominator": the squares of deviations are r r times those, and the new
+-- denominator is r times the old; no remainder is left (`deviations-are`)
 unfoldable pub withinRuns : List Factor → ℕ → Column → ℕ
 withinRuns Fs r x = denominator Fs * (Σℕ (size Fs) (λ i. Σℕ r (λ j. natAbs (deviation r x i j) * natAbs (deviation r x i j))) / r)

@@ -12,7 +12,7 @@
 --   estimateValue p e t     the outcome of an effect of a plan
 --   totalLimit p            the largest size of a total that is admitted
 --   estimateRefusals p e t  the refusals of the call besides those of the plan
---   estimateRefused p e t   the lowest number that applies, 0 where an estimate is given
+--   estimateRefused p e t   the first number that applies, 0 where an estimate is given
 --   estimateOutcome         the cases of the call's answer
 --   ExactlyGiven p e t o    a mean or a difference that is given is exactly its quotient
 use mathlib.Core.Bool.{Bool, cond}

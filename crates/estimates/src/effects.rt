@@ -1,4 +1,4 @@
-// The estimate call: the lowest number that applies, and else the mean, a difference, or lost to blocks.
+// The estimate call: the first number that applies, and else the mean, a difference, or lost to blocks.
 ghost use mathlib.Core.Path.{_≡_};
 ghost use Prim.Native.Nat.{_^_, _<_, _≤_};
 ghost use lib.IntN.{natAbs};
@@ -26,7 +26,7 @@ fn total_limit(p: Plan) -> u32
     run_limit << (p.k as u32)
 }
 
-// The lowest number that applies, and 0 where none does.
+// The first number that applies, and 0 where none does.
 fn estimate_refused(p: Plan, effect: u16, total: i64) -> u8
     ensures { λ r. ⌜ r ≡ estimateRefused p effect total ⌝ }
 {

@@ -3,7 +3,7 @@
 --   figureNumbers, checkNumbers   the figures as 11 numbers, and the checks as 2, in the order of the slices
 --   wrongRoom m n                 the slices for figures and checks are not 11 and 2 long
 --   roomRefused p                 the number of a call that has no such room
---   callRefused                   the lowest number that applies, 0 where the table is made
+--   callRefused                   the first number that applies, 0 where the table is made
 --   callTotals, callRows, callFigures, callChecks    the lent slices at exit
 --   Handed .. n ts rs fs cs       the call answers the number n and leaves these slices
 use mathlib.Core.Path.{_≡_}

@@ -68,7 +68,7 @@ fn put_figures(f: Figures, figures: &mut [u64])
     put_unsigned(&numbers, figures);
 }
 
-// The sum of the totals, then what it must be by the readings.
+// The sum of the totals, then what it must be by the run sums.
 fn put_checks(f: Figures, checks: &mut [i64])
     requires { ⌜ length (now checks) ≡ 2 ⌝ }
     ensures { λ _. ⌜ now (checks .exit) ≡ checkNumbers f ⌝ }

@@ -1,4 +1,5 @@
-// The calls for programs in C, for a whole plan: no added factors, no block words.
+// The calls for programs in C, for a whole plan: no added factors, no block words. Totals and table take how often its runs are made; the pass
+// works on a column with a place for each run, and is that of the plan whose runs are made once.
 //
 //   yates_pass(levels, k, factor, column)                the pass of one factor, in place
 //   yates_totals(levels, k, repeats, readings, totals)   the totals of all effects
@@ -43,7 +44,7 @@ fn whole(levels: u8, k: u8, repeats: u8) -> Plan
     }
 }
 
-// The pass of one factor over a column, in place. The column has a place for each run, however often the runs are made.
+// The pass of one factor over a column, in place.
 #[no_mangle]
 pub extern "C" fn yates_pass(levels: u8, k: u8, factor: usize, column: &mut [i64]) -> u8
     ensures { λ r. ⌜ r ≡ passRefused (wholePlan levels k 1) factor (now (column .entry)) ⌝ }

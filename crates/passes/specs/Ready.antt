@@ -1,7 +1,7 @@
 -- What the passes ask of the columns that they are lent. What they leave is `passOver` and `totalsOf` of `contrasts`.
 --
 --   Stretches levels h xs           a column of one or more stretches of a factor whose values lie h apart
---   PassReadings levels k xs        readings of a plan of k factors, within a limit that leaves room for all passes
+--   PassReadings levels k xs        readings or run sums of a plan of k factors, within a limit that leaves room for all passes
 --   RunReadings levels k r xs ys    readings of a plan of k factors whose runs are made r times, and a column with a place for each run
 use mathlib.Core.Path.{_≡_}
 use mathlib.Core.List.{List}

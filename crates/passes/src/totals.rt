@@ -1,4 +1,5 @@
-// The passes of all factors, from the readings to the totals of all effects: two factors in one go, where there are two.
+// The passes of all factors, from the readings to the totals of all effects. Of runs that are made once two factors are worked in one go, where
+// there are two; of others the run sums are formed first, and worked one factor after the other.
 ghost use mathlib.Core.Path.{_≡_};
 ghost use lib.ListN.{length, replicate};
 use super::stretches::pass_over;

@@ -7,7 +7,7 @@
 --   badRepeats                                 refusal 16
 --   wordRefusals, twoToEight, planRefusals     these refusals
 --   planRefused                                the first number that applies to a plan, 0 where it is accepted
---   withPlan p refusals                        the lowest number of a call that takes a plan and has further refusals of its own
+--   withPlan p refusals                        the first number of a call that takes a plan and has further refusals of its own
 --   runCount p, readingCount p                 the number of runs, and that of readings, for any plan
 --   spacingAt p f                              the spacing of the factor at position f, for any plan
 --   confoundedAccepted p w                     whether the effect of w is confounded, for any plan
@@ -96,7 +96,7 @@ planRefusals p = twoToEight p ++ (refusal 16 (badRepeats (runsOf p) (p .repeats)
 unfoldable pub planRefused : Plan → ℕ
 planRefused p = lowest (planRefusals p)
 
--- L4: "every call that takes a plan or a sheet gives these too": the plan's own number, or where that is 0 the lowest of further refusals
+-- L4: "every call that takes a plan or a sheet gives these too": the plan's own number, or where that is 0 the first of further refusals
 unfoldable pub withPlan : Plan → List Refusal → ℕ
 withPlan p further = cond (eqb (planRefused p) 0) (lowest further) (planRefused p)
 

@@ -1,4 +1,4 @@
--- The small inputs of the table of refusals, 2 to 8, and the starred run on block words AD and ABC, computed over the definitions.
+-- The small inputs of the table of refusals, 2 to 8 and 16, and the starred run on block words AD and ABC, computed over the definitions.
 --
 --   A, AB, C, BC, ABC, AD, CD, BCD      words by their letters
 --   plan levels k words signs blocks    a plan with these words, whose other places hold 0 (`filled`), and whose runs are made once
@@ -8,7 +8,7 @@
 --   all-accepted, BCD-lost              plans that are accepted, and the confounded effects of one
 --   by-choice                           what the choices of some words combine to
 --   of-any-plan                         how many runs there are, and how far apart a factor's values lie, for any plan
---   lower-first                         of the numbers 1 to 13 the lower comes first in the order of checks
+--   lower-first, sixteen-between        of the numbers 1 to 13 the lower comes first in the order of checks; 16 comes between 8 and 9
 use mathlib.Core.Path.{_≡_, refl}
 use mathlib.Core.Bool.{true, _||_}
 use mathlib.Core.List.{List, [], _∷_, _++_, map}
@@ -196,3 +196,8 @@ of-any-plan = refl
 lower-first : every 13 (λ i. every i (λ j. ltb (rank (suc j)) (rank (suc i)))) ≡ true
 unfolding every rank
 lower-first = refl
+
+-- L12: 16 comes after 8 and before 9
+sixteen-between : (ltb (rank 8) (rank 16) ≡ true) × (ltb (rank 16) (rank 9) ≡ true)
+unfolding rank
+sixteen-between = (refl, refl)

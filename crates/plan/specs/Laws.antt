@@ -4,7 +4,7 @@
 --   Accepted       what is known of a plan that is accepted
 --   Accepts        that this is all that acceptance asks
 --   Answers        the answers of calls that take a plan
---   Lowest         the number of a call is the lowest that applies
+--   Lowest         the number of a call is the first that applies
 --   Confounded     the confounded effects of an accepted plan
 --   Sizes          the factors and the runs of an accepted plan
 --   Limits         the plan's limits, and that readings within theirs leave none

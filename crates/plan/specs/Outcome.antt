@@ -60,7 +60,7 @@ pub record Lowest (n : ℕ) (refusals : List Refusal) : Type 0 where
 
 -- ---- the answer
 
--- D1.6: "it refuses faulty input with one of thirteen numbers"
+-- D1.6: "it refuses faulty input with one of thirteen numbers", which "new numbers join"
 pub data Outcome (A : Type 0) : Type 0 where
   given : A → Outcome A
   refused : ℕ → Outcome A

@@ -5,7 +5,7 @@
 --   tableText p marks f rows      the text of a table with the figures f and the row numerators `rows`
 --   printed n t                   the text t where the number n is 0, and else the line of the refusal
 --   sheetTable sheet              the text of a sheet's table
---   longestSheet, printRefused    the lowest number that applies to a sheet
+--   longestSheet, printRefused    the first number that applies to a sheet
 --   textOf sheet                  the text of a sheet
 use mathlib.Core.Bool.{cond}
 use mathlib.Core.List.{List, [], _++_}

@@ -6,7 +6,7 @@
 --   blockNumber words r            the run's block
 --   runValues p r                  both, of a plan
 --   runRefusals p r                the refusals of the call besides those of the plan
---   runRefused p r                 the lowest number that applies, 0 where the run is given
+--   runRefused p r                 the first number that applies, 0 where the run is given
 --   runOutcome                     the cases of the call's answer
 use mathlib.Core.Bool.{Bool, not, cond}
 use mathlib.Core.List.{List, [], _∷_}

@@ -1,7 +1,7 @@
 -- The step call: its number, and the column that it leaves.
 --
 --   stepRefusals p from to    the refusals of the call besides those of the plan
---   stepRefused p from to     the lowest number that applies, 0 where the step is done
+--   stepRefused p from to     the first number that applies, 0 where the step is done
 --   stepColumn p from to      the written column at exit
 use mathlib.Core.List.{List}
 use Prim.Native.Nat.{ℕ}

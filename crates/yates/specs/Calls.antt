@@ -1,7 +1,7 @@
 -- The pass and the totals call: their numbers, and the columns that they leave.
 --
 --   passRefusals p f xs            the refusals of the pass call besides those of the plan
---   passRefused, passColumn        the pass call: the lowest number that applies, 0 where it is done, and the column at exit
+--   passRefused, passColumn        the pass call: the first number that applies, 0 where it is done, and the column at exit
 --   totalsRefusals                 those of the totals call
 --   totalsRefused, totalsColumn    the totals call: the same
 use mathlib.Core.List.{List, [], _∷_}

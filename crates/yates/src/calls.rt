@@ -13,7 +13,7 @@ ghost use Rattle.plan.specs.Outcome.{outcome};
 ghost use Rattle.columns.specs.Refusals.{answerOutcome};
 ghost use Rattle.yates.specs.Calls.{passRefused, passColumn, totalsRefused, totalsColumn};
 
-// The lowest number that applies to a pass, and 0 where none does.
+// The first number that applies to a pass, and 0 where none does.
 fn pass_refused(p: Plan, factor: usize, column: &[i64]) -> u8
     ensures { λ r. ⌜ r ≡ passRefused p factor (now (column .entry)) ⌝ }
 {

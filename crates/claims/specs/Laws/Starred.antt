@@ -12,7 +12,7 @@ use Rattle.contrasts.specs.Columns.{totalsOf, runSumsIn, squaresOf}
 use Rattle.contrasts.specs.Limits.{twoReadingLimit, threeReadingLimit, mostTwo, mostThree, isRepeats, mostReadings}
 use Rattle.contrasts.specs.Rows.{rowOf, degreesOf}
 use Rattle.contrasts.specs.Factors.{two, three}
-use Rattle.contrasts.specs.Totals.{size, coef*, total, divisor*, denominator, weight*, numeratorOf, squared}
+use Rattle.contrasts.specs.Totals.{size, coef*, total, divisor*, denominator, weight*, numeratorOf}
 use Rattle.contrasts.specs.Checks.{checkWeight, round, rounds}
 use Rattle.words.specs.Words.{letters, beyond, times, combined, any, among, repeated}
 use Rattle.plan.specs.Plan.{factorsOf, someCombination, combinesTo}
@@ -29,5 +29,5 @@ use Rattle.contrasts.specs.Repeats.{runSums, withinRuns}
 use Rattle.claims.specs.Starred.{Starred}
 
 pub starred : Starred
-unfolding tableRefused tableTotals tableRows tableFigures sourceOf totalSource checksOf rowsOf wrongLengths wrongRows wrongLength anyBeyond isBeyond badMarks badMark kindOf kindByMark withPlan planRefused badLevels badFactors mostTwo mostThree badCounts badWords badWord badSign repeated dependent losesFactor factorWord any among beyond letters combined times someCombination combinesTo some bits Σℕ Σ readingLimit twoReadingLimit threeReadingLimit factorsOf size two three total coef* totalsOf tabFrom divisor* denominator weight* numeratorOf squared checkWeight round rounds rowOf degreesOf sumAt baseWord signOnes oddSigns turned aliasRefused estimateRefused valueBy meanOf differenceOf printedTotal quotient runCount effectDivisors confoundedAccepted badRepeats isRepeats mostReadings withinSource joined withinRuns runSums runSumsIn squaresOf wrongReadings exponentOf
+unfolding tableRefused tableTotals tableRows tableFigures sourceOf totalSource checksOf rowsOf wrongLengths wrongRows wrongLength anyBeyond isBeyond badMarks badMark kindOf kindByMark withPlan planRefused badLevels badFactors mostTwo mostThree badCounts badWords badWord badSign repeated dependent losesFactor factorWord any among beyond letters combined times someCombination combinesTo some bits Σℕ Σ readingLimit twoReadingLimit threeReadingLimit factorsOf size two three total coef* totalsOf tabFrom divisor* denominator weight* numeratorOf checkWeight round rounds rowOf degreesOf sumAt baseWord signOnes oddSigns turned aliasRefused estimateRefused valueBy meanOf differenceOf printedTotal quotient runCount effectDivisors confoundedAccepted badRepeats isRepeats mostReadings withinSource joined withinRuns runSums runSumsIn squaresOf wrongReadings exponentOf
 starred = refl

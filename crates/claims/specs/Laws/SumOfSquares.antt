@@ -7,8 +7,7 @@ use Prim.Native.Nat.{ℕ, _+_, _*_, _/_, _<_}
 use native.Mathlib.Nat.{mul-pos, mul-add, mul-comm, mul-assoc, mul-left-comm, eq-of-mul-eq-mul-left}
 use native.Mathlib.Omega.{arith}
 use lib.IntN.{ℤ, pos, natAbs}
-use lib.ListN.{length}
-use Rattle.algebra.specs.Fractions.{plus, sumOf, Is}
+use Rattle.algebra.specs.Fractions.{sumOf}
 use Rattle.algebra.specs.Naturals.{Σℕ}
 use Rattle.algebra.specs.Laws.Fractions.{shared-sum, shared-two}
 use Rattle.algebra.specs.Laws.Naturals.{Σℕ-cong, Σℕ-mul, Σℕ-split}

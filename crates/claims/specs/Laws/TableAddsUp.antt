@@ -16,14 +16,16 @@ use Rattle.contrasts.specs.Columns.{read, totalsOf}
 use Rattle.contrasts.specs.Rows.{rowOf, rowNumerator}
 use Rattle.contrasts.specs.Totals.{total, numeratorOf}
 use Rattle.contrasts.specs.Laws.CheckSum.{check-rounds}
+use Rattle.contrasts.specs.Laws.Repeats.{same-weight}
 use Rattle.plan.specs.declared.types.Plan.{Plan}
 use Rattle.plan.specs.Plan.{factorsOf, runsOf, runSumsOf}
 use Rattle.plan.specs.Laws.Answers.{written-new}
+use Rattle.plan.specs.Laws.Sizes.{some-repeat}
 use Rattle.rows.specs.Kinds.{rowsIn, Kind, meanRow, blocksRow, errorRow, keptRow, kindOf, same}
 use Rattle.anova.specs.Laws.Admitted.{TableReady, table-admitted, sums-ready}
 use Rattle.anova.specs.Table.{tableRefused, sourceOf, withinSource, joined, totalSource, checksOf, tableFigures, tableTotals, tableRows, rowsOf}
 use Rattle.anova.specs.Laws.Within.{numerators-add-up, degrees-add-up, fit, some-within, row-within, kind-within, error-within, total-source-within, within-source-within, total-within-limit, checks-within}
-use Rattle.claims.specs.SumOfSquares.{squaresWithin}
+use Rattle.claims.specs.SumOfSquares.{numeratorIn, squaresWithin}
 use Rattle.claims.specs.TableAddsUp.{ofKind, Formed, AddsUp, NoneBeyond, TableAddsUp}
 
 -- what is written, and what is summed, of run sums
@@ -32,15 +34,13 @@ unfolding sourceOf rowsOf
 by-rows p sums marks c =
     Σℕ-cong (rowsIn p) (λ w h. ap (λ (n : ℕ). cond (same (kindOf p marks w) c) n 0) (sym (getD-tab 0 (rowsIn p) (rowNumerator (factorsOf p) (read sums)) w h)))
 
-row-formed : (p : Plan) (sums : List ℤ) (w : ℕ) → w < rowsIn p
-    → getD (rowsOf p sums) w 0
-    ≡ Σℕ (runsOf p) (λ e. cond (eqb (rowOf (factorsOf p) e) w) (numeratorOf (factorsOf p) e (read (totalsOf (factorsOf p) sums) e)) 0)
-unfolding rowsOf sumAt totalsOf
-row-formed p sums w h =
+row-formed : (p : Plan) → 0 < p .repeats → (sums : List ℤ) (w : ℕ) → w < rowsIn p
+    → getD (rowsOf p sums) w 0 ≡ Σℕ (runsOf p) (λ e. cond (eqb (rowOf (factorsOf p) e) w) (numeratorIn p (totalsOf (factorsOf p) sums) e) 0)
+unfolding rowsOf sumAt totalsOf numeratorOf
+row-formed p some sums w h =
     getD-tab 0 (rowsIn p) (rowNumerator (factorsOf p) (read sums)) w h
     ∙ Σℕ-cong (runsOf p) (λ e l.
-    ap (λ (z : ℤ). cond (eqb (rowOf (factorsOf p) e) w) (numeratorOf (factorsOf p) e z) 0)
-    (sym (getD-tab (pos 0) (runsOf p) (total (factorsOf p) (read sums)) e l)))
+    rw (getD-tab (pos 0) (runsOf p) (total (factorsOf p) (read sums)) e l, same-weight (factorsOf p) (p .repeats) e some) refl)
 
 formed : (p : Plan) (readings : List ℤ) (marks : List ℕ) (totals : List ℤ) (rows : List ℕ) → tableRefused p readings marks totals rows ≡ 0
     → Formed p readings marks (tableTotals p readings marks totals rows) (tableRows p readings marks totals rows) (tableFigures p readings marks)
@@ -51,7 +51,7 @@ formed p readings marks totals rows e =
     let newTotals = written-new (tableRefused p readings marks totals rows) (totalsOf (factorsOf p) sums) totals e in
     rw (← new, ← newTotals)
     (record {
-      each-row = row-formed p sums;
+      each-row = row-formed p (some-repeat p (table-admitted p readings marks totals rows e .plan) .0) sums;
       degrees = (refl, refl, refl, refl);
       mean = by-rows p sums marks meanRow;
       kept = by-rows p sums marks keptRow;

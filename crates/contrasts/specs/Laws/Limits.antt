@@ -1,10 +1,10 @@
--- From readings within a limit no plan leaves the others, whatever its factors.
+-- From readings or run sums within a limit no plan leaves the others, whatever its factors.
 --
 --   Passable Fs L   readings within L keep the values of passes and steps of the factors Fs within their limit
 --   Roomy Fs L M    and their numerators within M
 --   roomy           the test of both
 --   repeats-few     a run is made at least once, and at most eight times
---   often-at        of a test that is computed for all numbers of times that a run may be made, one of them
+--   often, often-at    of a test that is computed for all numbers of times that a run may be made, one of them
 --   two-roomy       up to ten two-level factors have that room for run sums, whatever number of times their runs are made
 --   three-roomy     up to six three-level factors have it
 --   three-rounds    and room for the rounds of the check
@@ -13,14 +13,13 @@
 --   values-fit      no value exceeds its limit after each of any calls that repeat no factor
 --   totals-fit      nor does a total
 --   steps-fit       nor a value after each of k steps of factors that are alike
---   sizes-fit       the denominator and the number of runs do not exceed the limit of numerators
 --   total-fits      nor does the denominator times the sum of squared readings
 --   numerators-fit  "No numerator, and no sum of them in one table, exceeds" it
 use mathlib.Core.Path.{_≡_, refl, sym}
 use mathlib.Core.Bool.{Bool, true, false, cond, not, _&&_, _||_, true≢false}
 use mathlib.Core.List.{List}
 use Prim.Native.Nat.{ℕ, suc, _-_, _*_, _^_, _<_, _≤_, max}
-use native.Mathlib.Nat.{mul-one, mul-pos, mul-left-comm, le-trans, mul-le-mul, mul-le-mul-left, mul-le-mul-right, pow-le-pow-left, pow-le-pow-right}
+use native.Mathlib.Nat.{le-trans, mul-le-mul, mul-le-mul-left, mul-le-mul-right, pow-le-pow-left, pow-le-pow-right}
 use native.Mathlib.Omega.{arith}
 use borrow.Author.Tests.{eqb-true, le-leb}
 use lib.Dec.{T, eqb, leb, leb→le}
@@ -39,7 +38,6 @@ use Rattle.contrasts.specs.Steps.{steps}
 use Rattle.contrasts.specs.Laws.Replicated.{growth-alike}
 use Rattle.contrasts.specs.Laws.Bounds.{Within, reach, growth, bound-each, bound-total, bound-steps}
 use Rattle.contrasts.specs.Laws.Digits.{size-pos}
-use Rattle.contrasts.specs.Laws.Divisors.{denominator-pos}
 use Rattle.contrasts.specs.Laws.Squares.{within}
 
 pub record Passable (Fs : List Factor) (L : ℕ) : Type 0 where
@@ -160,18 +158,7 @@ steps-fit F k {L} room x h t le i p =
 
 -- ---- numerators
 
--- a product of three numbers that are not 0
-factor-le : (a b c m : ℕ) → 0 < b → 0 < c → a * (b * c) ≤ m → a ≤ m
-factor-le a b c m p q h = le-trans (rw (mul-one a) at (mul-le-mul-left a (mul-pos p q))) h
-
 module _ {Fs : List Factor} {L M : ℕ} (room : Roomy Fs L M) where
-  pub sizes-fit : 0 < L → (denominator Fs ≤ M) × (size Fs ≤ M)
-  sizes-fit some = (
-    factor-le (denominator Fs) (size Fs) (L * L) M (size-pos Fs) (mul-pos some some) (room .numerators),
-    factor-le (size Fs) (denominator Fs) (L * L) M (denominator-pos Fs) (mul-pos some some)
-        (rw (mul-left-comm (denominator Fs) (size Fs) (L * L)) at (room .numerators)),
-  )
-
   module _ (x : Column) (h : Within (size Fs) L x) where
     squared-bound : squared Fs x ≤ size Fs * (L * L)
     unfolding squared

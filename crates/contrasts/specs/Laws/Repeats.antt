@@ -7,20 +7,18 @@
 --   sums-least               the squares of the run sums are at most r times those of the readings: those about the means are never negative
 --   deviations-are           all deviations squared, of the runs of a plan
 --   within-is                the squares about the means as code forms them
---   once-none                of runs made once there are none
 --   all-squares              "the numerators of all N effects and the numerator of these squares over the new denominator add up"
 --   squares-fit              the sum that they add up to is within the limit of numerators
 --   same-weight              "The denominator, all divisors [..] are multiplied by r": no weight changes
 use mathlib.Core.Path.{_≡_, refl, sym, _∙_, ap, ap₂}
 use mathlib.Core.List.{List, [], _∷_}
 use Prim.Native.Nat.{ℕ, _+_, _*_, _-_, _/_, _<_, _≤_}
-use native.Mathlib.Nat.{le-trans, add-zero, mul-one, one-mul, mul-pos, mul-comm, mul-assoc, mul-add, mul-sub, mul-le-mul, mul-le-mul-left, div-eq-of-eq-mul-right, le-of-mul-le-mul-left, mul-zero, sub-self}
+use native.Mathlib.Nat.{le-trans, add-zero, mul-one, mul-pos, mul-comm, mul-assoc, mul-add, mul-sub, mul-le-mul, mul-le-mul-left, div-eq-of-eq-mul-right, le-of-mul-le-mul-left}
 use native.Mathlib.Omega.{arith}
 use lib.IntN.{ℤ, pos, natAbs, _+ℤ_, _*ℤ_, _-ℤ_}
 use lib.ListN.{length}
 use Rattle.algebra.specs.Sum.{Σ}
 use Rattle.algebra.specs.Naturals.{Σℕ}
-use Rattle.algebra.specs.Tab.{tab}
 use Rattle.algebra.specs.Laws.Size.{square, natAbs-Σ}
 use Rattle.algebra.specs.Laws.Solve.{solve, var, lit, _⊕_, _⊖_, _⊗_}
 use Rattle.algebra.specs.Laws.Sum.{Σ-ext, Σ-unit, Σ-const, Σ-add, Σ-mul, Σ-digits}
@@ -155,12 +153,6 @@ module _ (Fs : List Factor) (r : ℕ) (some : 0 < r) (xs : List ℤ) (whole : le
     where
       grouped : (r d n l : ℕ) → r * d * (n * r * (l * l)) ≡ d * (n * (r * l * (r * l)))
       grouped r d n l = omega arith
-
--- of runs made once
-pub once-none : (Fs : List Factor) (xs : List ℤ) → length xs ≡ size Fs → withinRuns Fs 1 (read xs) ≡ 0
-once-none Fs xs e =
-    within-is Fs 1 (omega arith) xs (e ∙ sym (mul-one (size Fs)))
-    ∙ rw (sums-once e, one-mul (squaresOf xs), sub-self (squaresOf xs)) (mul-zero (denominator Fs))
 
 pub same-weight : (Fs : List Factor) (r e : ℕ) → 0 < r → r * denominator Fs / (r * divisor* Fs e) ≡ weight* Fs e
 same-weight Fs r e some =

@@ -15,7 +15,7 @@
 --   run-count, reading-count                what `runs` and `reading_count` give of an accepted plan
 --   spacing-is, confounded-is               and `spacing` and `confounded`
 --   power-room, power-more                  the loop that multiplies
-use mathlib.Core.Path.{_≡_, refl, sym, ap, _∙_}
+use mathlib.Core.Path.{_≡_, refl, ap, _∙_}
 use mathlib.Core.Logic.{_⊎_, inl, inr}
 use mathlib.Core.Bool.{Bool, true, false}
 use Prim.Native.Nat.{ℕ, _+_, _*_, _^_, _<_, _≤_}

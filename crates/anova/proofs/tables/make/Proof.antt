@@ -16,7 +16,7 @@ make-spec =
     spread-ready pre (c .before .sum-of-squares .ensures))
     (λ c κs.
     let pre = c .before .before .before .before .before .before .before .before .pre in
-    check-ready (on-used pre (c .before .before .within-runs .ensures .1)))
+    check-ready (on-used pre (c .before .before .about-means .ensures .1)))
     (λ c κs.
     let pre = c .before .before .before .before .before .before .before .before .before .before .pre in
     lengths-few pre)
@@ -25,7 +25,7 @@ make-spec =
     let checked = c .before .before .before .before in
     let spread = checked .before .before .before in
     let pre = spread .before .before .before .before .before .before .pre in
-    on-used pre (checked .check-number .ensures .1 ∙ spread .within-runs .ensures .1))
+    on-used pre (checked .check-number .ensures .1 ∙ spread .about-means .ensures .1))
     (λ c κs.
     let formed = c .before .before .before in
     let over = formed .before .before .before in
@@ -33,7 +33,7 @@ make-spec =
     let squared = spread .before .before in
     let pre = squared .before .before .before .before .pre in
     let once-is = denominator-is pre (over .denominator .ensures) in
-    figures-ready pre once-is (squared .sum-of-squares .ensures) (spread .within-runs .ensures .0) (formed .form .ensures .0))
+    figures-ready pre once-is (squared .sum-of-squares .ensures) (spread .about-means .ensures .0) (formed .form .ensures .0))
     (λ c.
     let formed = c .before .before .before .before in
     let spread = formed .before .before .before .before .before .before .before .before in
@@ -49,7 +49,7 @@ make-spec =
     let pre = squared .before .before .before .before .pre in
     let once-is = denominator-is pre (over .denominator .ensures) in
     let squares-is = squared .sum-of-squares .ensures in
-    let within-is = spread .within-runs .ensures in
+    let within-is = spread .about-means .ensures in
     let form-is = formed .form .ensures in
     let check-is = kept _ (checked .check-number .ok) ∙ checked .check-number .ensures .0 ∙ rw (within-is .1) refl in
     let figures-are = figures-made pre once-is squares-is (within-is .0) (form-is .0) check-is (c .figures .ensures) in

@@ -1,6 +1,5 @@
 use mathlib.Core.Path.{refl}
 use borrow.Author.Needs.{needs}
-use borrow.Author.Tests.{lt-ltb, le-ltb}
 use Rattle.contrasts.specs.Limits.{mostReadings}
 use Rattle.algebra.specs.Laws.Tests.{is}
 use Rattle.plan.specs.Check.{badRepeats}

@@ -1,11 +1,11 @@
 use mathlib.Core.Path.{refl}
 use native.Mathlib.Omega.{arith}
 use Rattle.anova.proofs.Spread.{none-about, runs-ready, sums-fit, sums-below, about-is, column-kept}
-use Rattle.anova.proofs.squares.within_runs.Statement.{statement}
-use Rattle.anova.proofs.squares.within_runs.Tie as tie
+use Rattle.anova.proofs.squares.about_means.Statement.{statement}
+use Rattle.anova.proofs.squares.about_means.Tie as tie
 
-pub within-runs-spec : {M : Type 1} → statement M
-within-runs-spec =
+pub about-means-spec : {M : Type 1} → statement M
+about-means-spec =
     tie.close
     (tie.spec
     (λ c. (none-about (c .before .pre) (c .if1 .taken), refl))
