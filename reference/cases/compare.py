@@ -8,9 +8,10 @@
 # not say how the program exits, so that is not compared; but a program that is ended by a signal or by the time limit
 # differs.
 #
-# Two thirds of the sheets are made by text_cases.py, half of them of plans of any size and the others of small ones: a
-# third of each lawful, spoiled and damaged, and a third with repeats where the plan may have them. A sixth are bytes that
-# are no sheet or hardly one. A sixth are about 5,187 bytes long or longer, up to 200,000, or the longest with repeats.
+# Four fifths of the sheets are made by text_cases.py, half of them of plans of any size and the others of small ones: a
+# third of each lawful, spoiled and damaged, and a third with repeats where the plan may have them. A tenth are bytes that
+# are no sheet or hardly one. A tenth are about 5,187 bytes long or longer, up to 200,000, or the longest with repeats. In
+# all about a third have a field 6.
 #
 # Defined here:
 #   made_bytes, made_long    bytes that are hardly a sheet, and long ones
@@ -124,12 +125,12 @@ def made_long(numbers):
 
 def made(numbers):
     """A sheet of any kind."""
-    way = numbers.below(6)
+    way = numbers.below(10)
     if way == 0:
         return made_bytes(numbers)
     if way == 1:
         return made_long(numbers)
-    return text_cases.made(numbers, text_cases.FEW_RUNS if way < 4 else text_cases.SIZES)
+    return text_cases.made(numbers, text_cases.FEW_RUNS if way < 6 else text_cases.SIZES)
 
 
 # ---- comparison ----
