@@ -3,6 +3,11 @@
 --   wrongLengths               refusal 11, of all four slices
 --   tableRefusals              the refusals of the call besides those of the plan
 --   tableRefused               the first number that applies, 0 where the table is made
+--   blockDegrees p             the degrees of the block amount of a three-level plan, and 0 without a block word
+--   blockAmount p sums         its numerator, from the run sums
+--   blockSource p sums         both
+--   rowDegrees p w             the degrees of row w, less these where it is the row of the letters used
+--   rowLeft p sums w           its numerator, less the amount
 --   sourceOf p sums marks c    degrees and numerator of the rows of the kind c, from the run sums
 --   withinSource p xs          those of the squares of readings about their run's mean
 --   joined s t                 two sources in one line
@@ -16,11 +21,13 @@
 use mathlib.Core.Bool.{Bool, cond, _||_}
 use mathlib.Core.List.{List, [], _∷_}
 use Prim.Native.Nat.{ℕ, _+_, _-_, _*_, _≤_}
+use lib.Dec.{eqb}
 use lib.IntN.{ℤ}
 use lib.ListN.{length}
 use Rattle.algebra.specs.Naturals.{Σℕ}
 use Rattle.algebra.specs.Sum.{Σ}
 use Rattle.algebra.specs.Tab.{tab}
+use Rattle.contrasts.specs.Blocks.{blockNumerator}
 use Rattle.contrasts.specs.Columns.{read, totalsOf, squaresOf}
 use Rattle.contrasts.specs.Repeats.{withinRuns}
 use Rattle.contrasts.specs.Rows.{degreesOf, rowNumerator}
@@ -30,7 +37,7 @@ use Rattle.plan.specs.declared.types.Plan.{Plan}
 use Rattle.plan.specs.Check.{withPlan}
 use Rattle.plan.specs.Limits.{readingLimit}
 use Rattle.plan.specs.Outcome.{Refusal, refusal, Outcome, given, refused, written}
-use Rattle.plan.specs.Plan.{factorsOf, runsOf, allReadings, runSumsOf, denominatorOf}
+use Rattle.plan.specs.Plan.{factorsOf, runsOf, allReadings, runSumsOf, denominatorOf, threeWord, wordRow}
 use Rattle.columns.specs.Refusals.{wrongLength, wrongReadings, anyBeyond}
 use Rattle.rows.specs.Kinds.{rowsIn, wrongRows, Kind, meanRow, blocksRow, errorRow, keptRow, kindOf, same, badMarks}
 use Rattle.anova.specs.declared.types.Source.{Source}
@@ -58,11 +65,30 @@ tableRefused p readings marks totals rows = withPlan p (tableRefusals p readings
 
 -- ---- the figures
 
+-- V18: the block amount goes "with 2 degrees"; there is none without a block word of three levels
+unfoldable pub blockDegrees : Plan → ℕ
+blockDegrees p = cond (eqb (threeWord p) 0) 0 2
+
+-- V17
+unfoldable pub blockAmount : Plan → List ℤ → ℕ
+blockAmount p sums = cond (eqb (threeWord p) 0) 0 (blockNumerator (factorsOf p) (p .repeats) (threeWord p) (read sums))
+
+unfoldable pub blockSource : Plan → List ℤ → Source
+blockSource p sums = record { degrees = blockDegrees p; numerator = blockAmount p sums }
+
+-- V18: "It leaves the row of the letters used, with 2 degrees"
+unfoldable pub rowDegrees : Plan → ℕ → ℕ
+rowDegrees p w = degreesOf (factorsOf p) w - cond (eqb w (wordRow p)) (blockDegrees p) 0
+
+-- V18, V19: that row "holds the remainder", which is "never negative" (`never-below`)
+unfoldable pub rowLeft : Plan → List ℤ → ℕ → ℕ
+rowLeft p sums w = rowNumerator (factorsOf p) (read sums) w - cond (eqb w (wordRow p)) (blockAmount p sums) 0
+
 -- V10: "Each of these four adds up the degrees and numerators of its rows."; T29: "passes work on the run sums"
 unfoldable pub sourceOf : Plan → List ℤ → List ℕ → Kind → Source
 sourceOf p sums marks c = record {
-  degrees = Σℕ (rowsIn p) (λ w. cond (same (kindOf p marks w) c) (degreesOf (factorsOf p) w) 0);
-  numerator = Σℕ (rowsIn p) (λ w. cond (same (kindOf p marks w) c) (rowNumerator (factorsOf p) (read sums) w) 0);
+  degrees = Σℕ (rowsIn p) (λ w. cond (same (kindOf p marks w) c) (rowDegrees p w) 0);
+  numerator = Σℕ (rowsIn p) (λ w. cond (same (kindOf p marks w) c) (rowLeft p sums w) 0);
 }
 
 -- V16: "The squares of readings about their run's mean, over the new denominator, [..] with N times (r - 1) degrees"
@@ -72,7 +98,7 @@ withinSource p readings = record {
   numerator = withinRuns (factorsOf p) (p .repeats) (read readings);
 }
 
--- V16: they "join the error line"
+-- V16: they "join the error line"; V18: the block amount "goes to the blocks line"
 unfoldable pub joined : Source → Source → Source
 joined s t = record { degrees = s .degrees + t .degrees; numerator = s .numerator + t .numerator }
 
@@ -98,7 +124,7 @@ tableFigures p readings marks = record {
   denominator = denominatorOf p;
   mean = sourceOf p (runSumsOf p readings) marks meanRow;
   kept = sourceOf p (runSumsOf p readings) marks keptRow;
-  blocks = sourceOf p (runSumsOf p readings) marks blocksRow;
+  blocks = joined (sourceOf p (runSumsOf p readings) marks blocksRow) (blockSource p (runSumsOf p readings));
   error = joined (sourceOf p (runSumsOf p readings) marks errorRow) (withinSource p readings);
   total = totalSource p readings;
   checks = checksOf p (runSumsOf p readings);
@@ -108,7 +134,7 @@ tableFigures p readings marks = record {
 
 -- V12: "R row numerators"
 unfoldable pub rowsOf : Plan → List ℤ → List ℕ
-rowsOf p sums = tab (rowsIn p) (rowNumerator (factorsOf p) (read sums))
+rowsOf p sums = tab (rowsIn p) (rowLeft p sums)
 
 -- V12: "writes N totals"
 unfoldable pub tableTotals : Plan → List ℤ → List ℕ → List ℤ → List ℕ → List ℤ

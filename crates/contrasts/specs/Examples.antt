@@ -1,26 +1,30 @@
--- The runs of section 11 of the rules that concern totals and divisors, computed over the definitions.
+-- The runs of section 11 of the rules that concern totals and divisors, and a plan in three blocks, computed over the definitions.
 --
 --   four-*       readings 3, 5, 4, 8
 --   three-*      three levels, 2, 5, 3
 --   eight-*      readings 1 to 8
 --   one-factor-* k = 1, -100,000 and 100,000
 --   nine-*       two three-level factors
+--   block-*      two three-level factors in three blocks
 --   places       a place by its digits, and with another digit
 use mathlib.Core.Path.{_≡_, refl}
 use mathlib.Core.List.{List, [], _∷_}
 use Prim.Native.Nat.{ℕ, suc, _*_}
 use lib.IntN.{ℤ, pos}
 use Rattle.algebra.specs.Naturals.{Σℕ}
+use Rattle.algebra.specs.Sorted.{sumAt}
 use Rattle.algebra.specs.Sum.{Σ}
 use Rattle.algebra.specs.Tab.{tab, tabFrom}
-use Rattle.contrasts.specs.Columns.{read, totalsOf, passOf, passesOf, stepOf, stepsOf}
+use Rattle.contrasts.specs.Columns.{read, runSumsIn, totalsOf, passOf, passesOf, stepOf, stepsOf}
 use Rattle.contrasts.specs.Factor.{Factor}
-use Rattle.contrasts.specs.Rows.{rowOf, degreesOf}
+use Rattle.contrasts.specs.Rows.{rowOf, degreesOf, rowNumerator}
 use Rattle.contrasts.specs.Factors.{two, three}
 use Rattle.contrasts.specs.Codings.{neg}
 use Rattle.contrasts.specs.Totals.{size, coef*, total, divisor*, denominator, weight*, numeratorOf, numerator, squared}
 use Rattle.contrasts.specs.Passes.{digitAt, withDigit, passFrom, passAt}
 use Rattle.contrasts.specs.Steps.{step}
+use Rattle.contrasts.specs.Blocks.{digitSum, blockOf, blockRuns, blockSum, blockNumerator}
+use Rattle.contrasts.specs.Repeats.{runSums}
 use Rattle.contrasts.specs.Checks.{checkWeight, round, rounds}
 
 -- ---- X1: "Readings 3, 5, 4, 8: totals 20, -6, -4, 2; numerators 400, 36, 16, 4; sum 456, which is 4 times 114; check 12."
@@ -131,9 +135,60 @@ one-factor-totals = refl
 
 -- ---- X6: "Two three-level factors: divisors 9, 6, 18, 6, 4, 12, 18, 12, 36."
 
-nine-divisors : tab 9 (divisor* (three ∷ three ∷ [])) ≡ 9 ∷ 6 ∷ 18 ∷ 6 ∷ 4 ∷ 12 ∷ 18 ∷ 12 ∷ 36 ∷ []
+abbrev AB3 : List Factor
+AB3 = three ∷ three ∷ []
+
+nine-divisors : tab 9 (divisor* AB3) ≡ 9 ∷ 6 ∷ 18 ∷ 6 ∷ 4 ∷ 12 ∷ 18 ∷ 12 ∷ 36 ∷ []
 unfolding divisor* tabFrom three
 nine-divisors = refl
+
+-- ---- R11, V17 to V20: two three-level factors in blocks by word 4, digits 1 and 1, and by word 7, digits 1 and 2 from A on; readings 2, 5, 3,
+-- 1, 4, 6, 7, 8, 9
+
+abbrev nine : List ℤ
+nine = pos 2 ∷ pos 5 ∷ pos 3 ∷ pos 1 ∷ pos 4 ∷ pos 6 ∷ pos 7 ∷ pos 8 ∷ pos 9 ∷ []
+
+block-of-four : tab (size AB3) (blockOf AB3 4) ≡ 0 ∷ 1 ∷ 2 ∷ 1 ∷ 2 ∷ 0 ∷ 2 ∷ 0 ∷ 1 ∷ []
+unfolding digitSum size tabFrom three
+block-of-four = refl
+
+block-of-seven : tab (size AB3) (blockOf AB3 7) ≡ 0 ∷ 1 ∷ 2 ∷ 2 ∷ 0 ∷ 1 ∷ 1 ∷ 2 ∷ 0 ∷ []
+unfolding digitSum size tabFrom three
+block-of-seven = refl
+
+-- three runs a block
+block-counts : tab 3 (blockRuns AB3 4) ≡ 3 ∷ 3 ∷ 3 ∷ []
+unfolding digitSum size Σℕ tabFrom three
+block-counts = refl
+
+block-sums : tab 3 (blockSum AB3 4 (read nine)) ≡ pos 16 ∷ pos 15 ∷ pos 14 ∷ []
+unfolding digitSum size Σ tabFrom three
+block-sums = refl
+
+-- over 36: 36 times (256 + 225 + 196) over 3 is 8124, less the mean's 8100
+block-amount : blockNumerator AB3 1 4 (read nine) ≡ 24
+unfolding blockNumerator digitSum numeratorOf total coef* weight* denominator divisor* size Σ Σℕ three
+block-amount = refl
+
+-- the word's letters are A and B, and the amount leaves 216 of their row's 240
+block-row : (rowOf AB3 4 ≡ 3) × (rowNumerator AB3 (read nine) 3 ≡ 240)
+unfolding rowOf sumAt numeratorOf total coef* weight* denominator divisor* size Σ Σℕ three
+block-row = (refl, refl)
+
+-- runs made twice, whose sums are those readings: over 72, and the amount is the same
+abbrev twice : List ℤ
+twice =
+    pos 1 ∷ pos 1 ∷ pos 2 ∷ pos 3 ∷ pos 1 ∷ pos 2
+    ∷ pos 0 ∷ pos 1 ∷ pos 2 ∷ pos 2 ∷ pos 3 ∷ pos 3
+    ∷ pos 3 ∷ pos 4 ∷ pos 4 ∷ pos 4 ∷ pos 4 ∷ pos 5 ∷ []
+
+block-run-sums : runSumsIn 9 2 twice ≡ nine
+unfolding runSumsIn runSums Σ tabFrom
+block-run-sums = refl
+
+block-amount-twice : blockNumerator AB3 2 4 (read (runSumsIn 9 2 twice)) ≡ 24
+unfolding runSumsIn runSums tabFrom blockNumerator digitSum numeratorOf total coef* weight* denominator divisor* size Σ Σℕ three
+block-amount-twice = refl
 
 -- ---- place 14, which is 112 to the base 3, and with the digit 2 where 3 stands
 

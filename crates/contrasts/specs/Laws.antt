@@ -18,6 +18,7 @@
 --   Replicated     plans of k factors that are alike
 --   TwoLevels      two levels, in the words of the rules
 --   ThreeLevels    three levels, in the words of the rules
+--   Blocks         three blocks: the block amount is part of a row
 --   Limits         what readings within their limit come to
 --   Levels         the number of levels, and the factor of so many
 --   Signed         readings times signs, and contrasts whose signs turn
@@ -43,6 +44,7 @@ pub mod Within
 pub mod Replicated
 pub mod TwoLevels
 pub mod ThreeLevels
+pub mod Blocks
 pub mod Limits
 pub mod Levels
 pub mod Signed

@@ -9,6 +9,7 @@
 --   Steps       the report's own step
 --   Checks      the rounds of the check
 --   Rows        the rows of the table and their degrees
+--   Blocks      three blocks of runs, and their amount
 --   Limits      the limits of readings, values and numerators
 --   Repeats     runs that are made more than once: run sums, and squares within runs
 --   Columns     the definitions over columns that are lists
@@ -23,6 +24,7 @@ pub mod Passes
 pub mod Steps
 pub mod Checks
 pub mod Rows
+pub mod Blocks
 pub mod Limits
 pub mod Repeats
 pub mod Columns

@@ -5,12 +5,14 @@
 --   made r p                            the plan p with its runs made r times
 --   small-inputs, other-refused         the numbers of plans that are refused
 --   repeats-refused                     plans that are refused for their repeats, or for more
+--   three-refused, three-accepted       three-level plans with block words
+--   digits-of-words                     the digit rule, of all numbers that have at most three digits
 --   all-accepted, BCD-lost              plans that are accepted, and the confounded effects of one
 --   by-choice                           what the choices of some words combine to
 --   of-any-plan                         how many runs there are, and how far apart a factor's values lie, for any plan
 --   lower-first, sixteen-between        of the numbers 1 to 13 the lower comes first in the order of checks; 16 comes between 8 and 9
 use mathlib.Core.Path.{_≡_, refl}
-use mathlib.Core.Bool.{true, _||_}
+use mathlib.Core.Bool.{true, not, _||_}
 use mathlib.Core.List.{List, [], _∷_, _++_, map}
 use Prim.Native.Nat.{ℕ, suc, _-_}
 use lib.Dec.{eqb, ltb}
@@ -27,7 +29,7 @@ use Rattle.words.specs.Words.{letters, beyond, times, combined, any, among, rep
 use Rattle.plan.specs.declared.types.Plan.{Plan}
 use Rattle.plan.specs.Plan.{factorsOf, someCombination, combinesTo, confoundedIn}
 use Rattle.plan.specs.Outcome.{rank}
-use Rattle.plan.specs.Check.{badLevels, badFactors, badCounts, badWord, badSign, badWords, dependent, factorWord, losesFactor, badRepeats, planRefused, runCount, readingCount, spacingAt}
+use Rattle.plan.specs.Check.{badLevels, badFactors, badCounts, badWord, badSign, badDigits, usedDigits, lowestDigit, badWords, dependent, factorWord, losesFactor, badRepeats, planRefused, runCount, readingCount, spacingAt}
 
 -- ---- words by their letters
 
@@ -89,7 +91,7 @@ abbrev smallInputs : List Plan
 smallInputs =
     plan 4 1 [] [] []
     ∷ plan 3 7 [] [] []
-    ∷ plan 3 2 [] [] (AB ∷ [])
+    ∷ plan 3 2 [] [] (4 ∷ 7 ∷ [])
     ∷ plan 2 2 [] [] (C ∷ [])
     ∷ plan 2 3 (AB ∷ AB ∷ []) (0 ∷ 0 ∷ []) []
     ∷ plan 2 3 [] [] (AB ∷ AB ∷ [])
@@ -97,7 +99,7 @@ smallInputs =
     ∷ []
 
 small-inputs : map planRefused smallInputs ≡ 2 ∷ 3 ∷ 4 ∷ 5 ∷ 6 ∷ 7 ∷ 8 ∷ []
-unfolding planRefused badLevels badFactors mostTwo mostThree badCounts badWords badWord badSign repeated dependent losesFactor factorWord any among beyond letters combined times someCombination combinesTo some bits Σℕ
+unfolding planRefused badLevels badFactors mostTwo mostThree badCounts badWords badWord badSign badDigits usedDigits lowestDigit repeated dependent losesFactor factorWord any among beyond letters combined times someCombination combinesTo some bits Σℕ
 small-inputs = refl
 
 -- N3 to N8, L1: other ways into a refusal, and plans to which two refusals apply, of which the lower counts
@@ -116,14 +118,14 @@ others =
     ∷ plan 2 3 [] [] (0 ∷ [])
     -- N8: a confounded effect is an added factor's word
     ∷ plan 2 3 (BC ∷ []) (0 ∷ []) (BC ∷ [])
-    -- L1: 4 and 5, 5 and 7, 6 and 8
-    ∷ plan 3 2 [] [] (C ∷ [])
+    -- L1: 4 and 5 at three levels, 5 and 7, 6 and 8
+    ∷ plan 3 2 [] [] (0 ∷ 0 ∷ [])
     ∷ plan 2 2 [] [] (C ∷ C ∷ [])
     ∷ plan 2 3 (AB ∷ AB ∷ []) (0 ∷ 0 ∷ []) (A ∷ [])
     ∷ []
 
 other-refused : map planRefused others ≡ 3 ∷ 3 ∷ 4 ∷ 4 ∷ 5 ∷ 5 ∷ 5 ∷ 5 ∷ 8 ∷ 4 ∷ 5 ∷ 6 ∷ []
-unfolding planRefused badLevels badFactors mostTwo mostThree badCounts badWords badWord badSign repeated dependent losesFactor factorWord any among beyond letters combined times someCombination combinesTo some bits Σℕ
+unfolding planRefused badLevels badFactors mostTwo mostThree badCounts badWords badWord badSign badDigits usedDigits lowestDigit repeated dependent losesFactor factorWord any among beyond letters combined times someCombination combinesTo some bits Σℕ
 other-refused = refl
 
 -- N16, L12: runs made 0, 3, 16 and 255 times; too many readings, at two levels and at three; and plans to which 2, 3 and 8 apply too, which
@@ -142,8 +144,32 @@ badlyRepeated =
     ∷ []
 
 repeats-refused : map planRefused badlyRepeated ≡ 16 ∷ 16 ∷ 16 ∷ 16 ∷ 16 ∷ 16 ∷ 2 ∷ 3 ∷ 8 ∷ []
-unfolding planRefused badLevels badFactors mostTwo mostThree badCounts badWords badWord badSign repeated dependent losesFactor factorWord any among beyond letters combined times someCombination combinesTo some bits Σℕ badRepeats isRepeats mostReadings factorsOf size two three
+unfolding planRefused badLevels badFactors mostTwo mostThree badCounts badWords badWord badSign badDigits usedDigits lowestDigit repeated dependent losesFactor factorWord any among beyond letters combined times someCombination combinesTo some bits Σℕ badRepeats isRepeats mostReadings factorsOf size two three
 repeats-refused = refl
+
+-- P14, P15, N4, N5: at three levels an added factor and a second block word, both of which get 4; words that break the digit rule, of k = 2:
+-- 0, 1, 2, 3 and 6 use fewer than two letters, 5 and 8 have 2 for their lowest digit, 9 has three digits; AB with k = 1. 16 comes after 5.
+abbrev threeLevels : List Plan
+threeLevels =
+    plan 3 3 (AB ∷ []) (0 ∷ []) []
+    ∷ plan 3 3 [] [] (13 ∷ 22 ∷ [])
+    ∷ made 3 (plan 3 1 [] [] (4 ∷ []))
+    ∷ map (λ w. plan 3 2 [] [] (w ∷ [])) (0 ∷ 1 ∷ 2 ∷ 3 ∷ 5 ∷ 6 ∷ 8 ∷ 9 ∷ [])
+
+three-refused : map planRefused threeLevels ≡ 4 ∷ 4 ∷ 5 ∷ replicate 8 5
+unfolding planRefused badLevels badFactors mostTwo mostThree badCounts badWords badWord badSign badDigits usedDigits lowestDigit repeated dependent losesFactor factorWord any among beyond letters combined times someCombination combinesTo some bits Σℕ
+three-refused = refl
+
+-- P15: of k = 2 the words AB and AB2, of k = 3 these and eight more; none is refused for what it would be as a set of letters: 4 is C, a letter by
+-- itself, and 13 is ACD, which has a letter beyond k = 3
+three-accepted : map planRefused (map (λ w. plan 3 3 [] [] (w ∷ [])) (4 ∷ 7 ∷ 10 ∷ 12 ∷ 13 ∷ 16 ∷ 19 ∷ 21 ∷ 22 ∷ 25 ∷ [])) ≡ replicate 10 0
+unfolding planRefused badLevels badFactors mostTwo mostThree badCounts badWords badWord badSign badDigits usedDigits lowestDigit repeated dependent losesFactor factorWord any among beyond letters combined times someCombination combinesTo some bits Σℕ badRepeats isRepeats mostReadings factorsOf size two three
+three-accepted = refl
+
+-- P15: of the numbers below 40 just these words are of three digits and keep the rule
+digits-of-words : tab 40 (badDigits 3) ≡ tab 40 (λ w. not (among w (4 ∷ 7 ∷ 10 ∷ 12 ∷ 13 ∷ 16 ∷ 19 ∷ 21 ∷ 22 ∷ 25 ∷ [])))
+unfolding badDigits usedDigits lowestDigit among any some tabFrom
+digits-of-words = refl
 
 -- ---- accepted plans
 
@@ -161,7 +187,7 @@ acceptedPlans =
     ∷ []
 
 all-accepted : map planRefused acceptedPlans ≡ 0 ∷ 0 ∷ 0 ∷ 0 ∷ 0 ∷ 0 ∷ 0 ∷ []
-unfolding planRefused badLevels badFactors mostTwo mostThree badCounts badWords badWord badSign repeated dependent losesFactor factorWord any among beyond letters combined times someCombination combinesTo some bits Σℕ badRepeats isRepeats mostReadings factorsOf size two three
+unfolding planRefused badLevels badFactors mostTwo mostThree badCounts badWords badWord badSign badDigits usedDigits lowestDigit repeated dependent losesFactor factorWord any among beyond letters combined times someCombination combinesTo some bits Σℕ badRepeats isRepeats mostReadings factorsOf size two three
 all-accepted = refl
 
 -- X7: of the sixteen effects of that plan just AD, ABC and BCD are confounded

@@ -10,6 +10,8 @@
 --   Limits         the plan's limits, and that readings within theirs leave none
 --   Beyond         a number beside a limit
 --   Coefficients   the coefficients and totals of two levels, by letters
+--   Digits         the digits of a three-level block word
+--   Words          the block words of a plan, by its levels
 --   Alike          places beyond the counts are ignored
 pub mod Combinations
 pub mod Accepted
@@ -21,4 +23,6 @@ pub mod Sizes
 pub mod Limits
 pub mod Beyond
 pub mod Coefficients
+pub mod Digits
+pub mod Words
 pub mod Alike

@@ -1,6 +1,9 @@
 -- What a plan says: its factors, its words and its runs; which effects are confounded.
 --
---   addedWords p, addedSigns p, blockWords p    the words and signs that the plan's counts admit
+--   addedWords p, addedSigns p                  the words and signs that the plan's counts admit
+--   wordCount p, blockWords p                   its block words that are sets of letters: those of two levels
+--   numberCount p, threeWords p                 its block words that are numbers to the base 3: those of three levels
+--   threeWord p                                 the block word of a three-level plan, 0 where there is none
 --   factorsOf p                                 its base factors, A first
 --   runsOf p                                    how many runs it has
 --   allReadings p                               how many readings, with every run made as often as the plan says
@@ -10,15 +13,17 @@
 --   someCombination ws f                        f holds of a combination of one or more of the words
 --   combinesTo w ws                             one of those combinations is w
 --   confoundedIn p w                            the effect of the word w is confounded
-use mathlib.Core.Bool.{Bool, _&&_}
+--   wordRow p                                   the row of the letters that the block word of a three-level plan uses
+use mathlib.Core.Bool.{Bool, cond, _&&_}
 use mathlib.Core.List.{List}
 use Prim.Native.Nat.{ℕ, _+_, _*_, _^_}
 use lib.Dec.{eqb, ltb}
 use lib.IntN.{ℤ}
-use lib.ListN.{length, take, replicate}
+use lib.ListN.{length, take, getD, replicate}
 use Rattle.algebra.specs.Search.{some}
 use Rattle.contrasts.specs.Factor.{Factor}
 use Rattle.contrasts.specs.Factors.{ofLevels}
+use Rattle.contrasts.specs.Rows.{rowOf}
 use Rattle.contrasts.specs.Totals.{size, divisor*, denominator}
 use Rattle.contrasts.specs.Columns.{runSumsIn}
 use Rattle.plan.specs.declared.types.Plan.{Plan}
@@ -32,9 +37,25 @@ addedWords p = take (p .added) (p .words)
 abbrev pub addedSigns : Plan → List ℕ
 addedSigns p = take (p .added) (p .signs)
 
+-- P6, P14: a word is a set of base letters, but for the block word of a three-level plan, which "is a number in base 3"
+abbrev pub wordCount : Plan → ℕ
+wordCount p = cond (eqb (p .levels) 3) 0 (p .blocks)
+
 -- P10
 abbrev pub blockWords : Plan → List ℕ
-blockWords p = take (p .blocks) (p .blockwords)
+blockWords p = take (wordCount p) (p .blockwords)
+
+-- P14: "a three-level plan may now have one block word"
+abbrev pub numberCount : Plan → ℕ
+numberCount p = cond (eqb (p .levels) 3) (p .blocks) 0
+
+-- P10
+abbrev pub threeWords : Plan → List ℕ
+threeWords p = take (numberCount p) (p .blockwords)
+
+-- P14, P15: 0 breaks the digit rule, so it is no word of an accepted plan
+abbrev pub threeWord : Plan → ℕ
+threeWord p = getD (threeWords p) 0 0
 
 -- P2: "k base factors", each of two levels, or each of three
 unfoldable pub factorsOf : Plan → List Factor
@@ -76,3 +97,7 @@ combinesTo w ws = someCombination ws (λ v. eqb v w)
 -- R6: "The confounded effects are all combinations of one or more block words."
 abbrev pub confoundedIn : Plan → ℕ → Bool
 confoundedIn p w = combinesTo w (blockWords p)
+
+-- V18: "the row of the letters used": those whose digit in the word is not 0, as for the digits of an effect
+abbrev pub wordRow : Plan → ℕ
+wordRow p = rowOf (factorsOf p) (threeWord p)

@@ -2,6 +2,8 @@
 ghost use mathlib.Core.Path.{_≡_};
 ghost use Prim.Native.Nat.{_≤_};
 ghost use lib.ListN.{length, take};
+use super::blocks::number_count;
+use super::blocks::word_count;
 use super::conditions::any_bad_sign;
 use super::conditions::any_bad_word;
 use super::conditions::bad_counts;
@@ -11,15 +13,17 @@ use super::conditions::bad_repeats;
 use super::conditions::combines_to;
 use super::conditions::loses_factor;
 use super::counts::runs;
+use super::digits::any_bad_digits;
 use super::types::Check;
 use super::types::Plan;
 use words::is_repeated;
 ghost use Rattle.plan.specs.Outcome.{outcome, lowest};
 ghost use Rattle.plan.specs.Check.{badWords, wordRefusals, twoToEight, planRefused, checkOutcome};
 
-// Refusal 5, of the added words, the signs and the block words.
-fn bad_words(k: usize, words: &[u16], signs: &[u8], blocks: &[u16]) -> bool
-    ensures { λ r. ⌜ r ≡ badWords k (now (words .entry)) (now (signs .entry)) (now (blocks .entry)) ⌝ }
+// Refusal 5, of the added words, the signs and the block words: sets of letters at two levels, numbers at three.
+fn bad_words(k: usize, words: &[u16], signs: &[u8], blocks: &[u16], numbers: &[u16]) -> bool
+    requires { ⌜ k ≤ 10 ⌝ }
+    ensures { λ r. ⌜ r ≡ badWords k (now (words .entry)) (now (signs .entry)) (now (blocks .entry)) (now (numbers .entry)) ⌝ }
 {
     if any_bad_word(words, k, 2) {
         return true;
@@ -27,15 +31,18 @@ fn bad_words(k: usize, words: &[u16], signs: &[u8], blocks: &[u16]) -> bool
     if any_bad_sign(signs) {
         return true;
     }
-    any_bad_word(blocks, k, 1)
+    if any_bad_word(blocks, k, 1) {
+        return true;
+    }
+    any_bad_digits(numbers, k)
 }
 
 // The lowest of the numbers 5 to 8 that applies, and 0 where none does.
-fn lowest_of_words(k: usize, words: &[u16], signs: &[u8], blocks: &[u16]) -> u8
-    requires { ⌜ length (now blocks) ≤ 4 ⌝ }
-    ensures { λ r. ⌜ r ≡ lowest (wordRefusals k (now (words .entry)) (now (signs .entry)) (now (blocks .entry))) ⌝ }
+fn lowest_of_words(k: usize, words: &[u16], signs: &[u8], blocks: &[u16], numbers: &[u16]) -> u8
+    requires { ⌜ (k ≤ 10) × (length (now blocks) ≤ 4) ⌝ }
+    ensures { λ r. ⌜ r ≡ lowest (wordRefusals k (now (words .entry)) (now (signs .entry)) (now (blocks .entry)) (now (numbers .entry))) ⌝ }
 {
-    if bad_words(k, words, signs, blocks) {
+    if bad_words(k, words, signs, blocks, numbers) {
         return 5;
     }
     if is_repeated(words) {
@@ -50,7 +57,7 @@ fn lowest_of_words(k: usize, words: &[u16], signs: &[u8], blocks: &[u16]) -> u8
     0
 }
 
-// The same of a plan's own arrays, as far as its counts reach.
+// The same of a plan's own arrays, as far as its counts reach; the array of block words comes twice, for two parts of it are lent.
 fn lowest_of_arrays(
     k: usize,
     added: usize,
@@ -58,11 +65,19 @@ fn lowest_of_arrays(
     signs: [u8; 6],
     blocks: usize,
     blockwords: [u16; 4],
+    numbers: usize,
+    numberwords: [u16; 4],
 ) -> u8
-    requires { ⌜ (added ≤ 6) × (blocks ≤ 4) ⌝ }
-    ensures { λ r. ⌜ r ≡ lowest (wordRefusals k (take added words) (take added signs) (take blocks blockwords)) ⌝ }
+    requires { ⌜ (k ≤ 10) × (added ≤ 6) × (blocks ≤ 4) × (numbers ≤ 4) ⌝ }
+    ensures { λ r. ⌜ r ≡ lowest (wordRefusals k (take added words) (take added signs) (take blocks blockwords) (take numbers numberwords)) ⌝ }
 {
-    lowest_of_words(k, &words[..added], &signs[..added], &blockwords[..blocks])
+    lowest_of_words(
+        k,
+        &words[..added],
+        &signs[..added],
+        &blockwords[..blocks],
+        &numberwords[..numbers],
+    )
 }
 
 // The lowest of the numbers 2 to 8 that applies, and 0 where none does.
@@ -81,13 +96,16 @@ fn two_to_eight(p: Plan) -> u8
     let words = p.words;
     let signs = p.signs;
     let blockwords = p.blockwords;
+    let numberwords = p.blockwords;
     lowest_of_arrays(
         p.k as usize,
         p.added as usize,
         words,
         signs,
-        p.blocks as usize,
+        word_count(p),
         blockwords,
+        number_count(p),
+        numberwords,
     )
 }
 

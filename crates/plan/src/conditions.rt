@@ -45,7 +45,7 @@ pub fn bad_counts(levels: u8, added: u8, blocks: u8) -> bool
         if 0 < added {
             return true;
         }
-        return 0 < blocks;
+        return 1 < blocks;
     }
     false
 }

@@ -8,7 +8,7 @@ use super::types::Plan;
 ghost use Rattle.plan.specs.Check.{runCount, readingCount, spacingAt};
 
 // The base multiplied k times.
-fn to_the_power(base: usize, k: usize) -> usize
+pub fn to_the_power(base: usize, k: usize) -> usize
     requires { ⌜ (base ≤ 3) × (k ≤ 10) ⌝ }
     ensures { λ r. ⌜ r ≡ base ^ k ⌝ }
 {

@@ -4,6 +4,7 @@ ghost use Prim.Native.Nat.{_≤_, min};
 ghost use lib.ListN.{length, set, take};
 use super::choices::choices;
 use plan::Plan;
+use plan::word_count;
 use words::combine;
 ghost use Rattle.rows.specs.Kinds.{kindByMark, codeOf, kindsOf};
 ghost use Rattle.rows.specs.Inner.Written.{withMarks, withBlocks};
@@ -81,7 +82,7 @@ pub fn kinds(p: Plan, marks: &[u8]) -> [u8; 1024]
     let mut kinds = [KEPT; 1024];
     put_marks(marks, &mut kinds);
     let blockwords = p.blockwords;
-    put_blocks(p.blocks as usize, blockwords, &mut kinds);
+    put_blocks(word_count(p), blockwords, &mut kinds);
     kinds[0] = MEAN;
     kinds
 }

@@ -4,6 +4,7 @@ ghost use Prim.Native.Nat.{_≤_};
 ghost use lib.ListN.{length, take};
 use super::choices::choices;
 use plan::Plan;
+use plan::word_count;
 use words::combine;
 ghost use Rattle.plan.specs.Plan.{someCombination};
 ghost use Rattle.rows.specs.Kinds.{badMarks};
@@ -69,5 +70,5 @@ pub fn bad_marks(p: Plan, marks: &[u8]) -> bool
         return true;
     }
     let blockwords = p.blockwords;
-    any_block_marked(p.blocks as usize, blockwords, marks)
+    any_block_marked(word_count(p), blockwords, marks)
 }

@@ -1,6 +1,6 @@
-// Runs of two-level plans.
+// Runs of plans.
 //
-//   run(p, number)   the letters that are high in a run, added factors included, and its block
+//   run(p, number)   the letters that are high in a run, added factors included, and its block; at three levels no letters, and the block
 //   Run              its answer
 mod powers;
 mod treatments;

@@ -3,13 +3,19 @@ ghost use mathlib.Core.Path.{_≡_};
 ghost use mathlib.Core.Bool.{cond};
 ghost use Prim.Native.Nat.{_+_, _^_, _≤_, _<_};
 ghost use lib.Dec.{leb};
-ghost use lib.ListN.{length, take};
+ghost use lib.ListN.{length, replicate, take};
 use super::powers::power;
 use super::powers::put_if;
 use super::types::Run;
 use plan::Plan;
 use plan::lowest;
+use plan::runs;
+use plan::three_block;
+use plan::three_word;
+use plan::word_count;
 use words::is_odd;
+ghost use Rattle.contrasts.specs.Blocks.{blockOf};
+ghost use Rattle.contrasts.specs.Factors.{three};
 ghost use Rattle.plan.specs.Outcome.{outcome};
 ghost use Rattle.runs.specs.Run.{highBy, highLetters, blockNumber, runRefused, runValues, runOutcome};
 
@@ -72,6 +78,19 @@ fn treatment(
     Run::Treatment { high, block }
 }
 
+// The answer about a run of a plan of three levels, of so many runs: no letters, and the block by the plan's word, which is 0 without one.
+fn three_treatment(number: usize, runs: usize, k: u8, word: u16) -> Run
+    ensures { λ r. ⌜ runOutcome r ≡ outcome (cond (leb runs number) 10 0) (0, blockOf (replicate k three) word number) ⌝ }
+{
+    if runs <= number {
+        return Run::Refused(10);
+    }
+    Run::Treatment {
+        high: 0,
+        block: three_block(k, word, number),
+    }
+}
+
 // The letters that are high in the run of this number, and its block.
 pub fn run(p: Plan, number: usize) -> Run
     ensures { λ r. ⌜ runOutcome r ≡ outcome (runRefused p number) (runValues p number) ⌝ }
@@ -81,7 +100,7 @@ pub fn run(p: Plan, number: usize) -> Run
         return Run::Refused(n);
     }
     if p.levels == 3 {
-        return Run::Refused(9);
+        return three_treatment(number, runs(p), p.k, three_word(p));
     }
     let words = p.words;
     let signs = p.signs;
@@ -92,7 +111,7 @@ pub fn run(p: Plan, number: usize) -> Run
         p.added as usize,
         words,
         signs,
-        p.blocks as usize,
+        word_count(p),
         blockwords,
     )
 }

@@ -3,9 +3,10 @@
 --   natAbs-neg, natAbs-*ℤ    the size of - a, and of a b
 --   natAbs-+ℤ, natAbs-sub    the size of a + b, and of a - b, is at most the sum of the sizes
 --   natAbs-Σ                 and so for a finite sum
---   square                   a a is the square of the size
+--   sq a, square             the square of the size, which is a a
+--   squares-of               so for a sum of squares
 --   size-below               a size is at most its square
-use mathlib.Core.Path.{_≡_, refl}
+use mathlib.Core.Path.{_≡_, refl, sym, _∙_}
 use mathlib.Core.Bool.{Bool, true, false, cond}
 use Prim.Native.Nat.{ℕ, zero, suc, _+_, _*_, _-_, _≤_}
 use native.Mathlib.Nat.{le-refl, suc-mul}
@@ -14,6 +15,8 @@ use lib.Dec.{ltb}
 use lib.IntN.{ℤ, pos, negsuc, negℤ, _+ℤ_, _-ℤ_, _*ℤ_, natAbs}
 use Rattle.algebra.specs.Sum.{Σ}
 use Rattle.algebra.specs.Naturals.{Σℕ}
+use Rattle.algebra.specs.Laws.Sum.{Σ-ext}
+use Rattle.algebra.specs.Laws.Naturals.{Σℕ-pos}
 
 pub natAbs-neg : (a : ℤ) → natAbs (negℤ a) ≡ natAbs a
 natAbs-neg (pos zero) = refl
@@ -45,11 +48,17 @@ unfolding Σ Σℕ
 natAbs-Σ zero f = omega arith
 natAbs-Σ (suc n) f = omega (arith, natAbs-+ℤ (Σ n f) (f n), natAbs-Σ n f)
 
-pub square : (a : ℤ) → a *ℤ a ≡ pos (natAbs a * natAbs a)
+-- ---- the square
+
+abbrev pub sq : ℤ → ℕ
+sq a = natAbs a * natAbs a
+
+pub square : (a : ℤ) → a *ℤ a ≡ pos (sq a)
 square (pos n) = refl
 square (negsuc n) = refl
 
--- ---- the square
+pub squares-of : (n : ℕ) (f : ℕ → ℤ) → pos (Σℕ n (λ i. sq (f i))) ≡ Σ n (λ i. f i *ℤ f i)
+squares-of n f = Σℕ-pos n (λ i. sq (f i)) ∙ Σ-ext n (λ i. sym (square (f i)))
 
 pub size-below : (n : ℕ) → n ≤ n * n
 size-below zero = omega arith

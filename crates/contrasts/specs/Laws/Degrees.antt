@@ -1,21 +1,23 @@
 -- Rows and degrees: a row's degrees are the number of its effects, and all rows' degrees add up to the number of runs.
 --
+--   used d           0 for the digit 0, and 1 for the others
 --   degrees-power    of factors that are alike: one less than the levels for each letter, multiplied
+--   letter-degrees   so a row that has a letter has no fewer than that
 --   row-lt           an effect's row is one of the 2 ^ k rows
 --   degrees-count    the effects of a row are as many as its degrees
 --   degrees-sum      "The degrees of mean, kept effects, blocks and error add up to the total's": those of all rows add up to N
 use mathlib.Core.Path.{_≡_, refl, sym, _∙_, ap}
 use mathlib.Core.Bool.{Bool, true, false, cond}
 use mathlib.Core.List.{List, [], _∷_}
-use Prim.Native.Nat.{ℕ, zero, suc, _+_, _*_, _-_, _/_, _%_, _^_, _<_}
-use native.Mathlib.Nat.{mod-lt, mul-comm, pow-zero, pow-suc, one-mul, div-lt-iff-lt-mul}
+use Prim.Native.Nat.{ℕ, zero, suc, _+_, _*_, _-_, _/_, _%_, _^_, _<_, _≤_}
+use native.Mathlib.Nat.{le-trans, le-of-eq, mod-lt, mul-comm, pow-zero, pow-suc, pow-le-pow-right, one-mul, div-lt-iff-lt-mul}
 use native.Mathlib.Numerals.{add-one}
 use native.Mathlib.Decide.{ℕ-discrete}
 use native.Mathlib.Omega.{arith}
 use lib.Arith.{digits-div, digits-mod, digits-lt, lt-one}
 use lib.Count.{ones, ones-step, ones-le}
 use lib.Dec.{eqb, eqb·suc-zero, lit<}
-use lib.ListN.{length, replicate}
+use lib.ListN.{length, replicate, length-replicate}
 use lib.Pow.{pow-add}
 use Rattle.algebra.specs.Naturals.{Σℕ}
 use Rattle.algebra.specs.Laws.Naturals.{Σℕ-cong, Σℕ-mul, Σℕ-split, Σℕ-by, Σℕ-ones}
@@ -28,8 +30,7 @@ use Rattle.contrasts.specs.Rows.{rowOf, degreesOf}
 abbrev same : ℕ → ℕ → ℕ
 same a b = cond (eqb a b) 1 0
 
--- 0 for the digit 0, and 1 for the others
-abbrev used : ℕ → ℕ
+abbrev pub used : ℕ → ℕ
 used d = cond (eqb d 0) 0 1
 
 used-lt : (d : ℕ) → used d < 2
@@ -118,3 +119,27 @@ degrees-power F (suc k) w h =
     last : Dec (w % 2 ≡ 0) → cond (eqb (w % 2) 0) 1 b ≡ b ^ (w % 2)
     last (yes e) = rw e (sym (pow-zero b))
     last (no e) = let o : w % 2 ≡ 1 = omega arith in rw (o, pow-suc b 0, pow-zero b) (sym (one-mul b))
+
+-- a number that is not 0 has a digit that is not 0
+some-digit : (k w : ℕ) → w < 2 ^ k → (w ≡ 0 → ⊥) → 1 ≤ ones w
+some-digit zero w h n = absurd (n (lt-one h))
+some-digit (suc k) w h n = by (ℕ-discrete (w % 2) 0) (some-digit k (w / 2) (div-lt-iff-lt-mul (lit< tt) .1 (rw (pow-suc 2 k) at h)))
+  where
+    by : Dec (w % 2 ≡ 0) → ((w / 2 ≡ 0 → ⊥) → 1 ≤ ones (w / 2)) → 1 ≤ ones w
+    by (yes e) r = omega (arith, r (λ z. n (omega arith)), ones-step w)
+    by (no e) r = omega (arith, ones-step w)
+
+pub letter-degrees : (F : Factor) → 2 ≤ F .levels → (k e : ℕ) → (rowOf (replicate k F) e ≡ 0 → ⊥)
+    → F .levels - 1 ≤ degreesOf (replicate k F) (rowOf (replicate k F) e)
+letter-degrees F l k e n =
+    let h : w < 2 ^ k = rw (length-replicate k F) at (row-lt (replicate k F) e) in
+    rw (degrees-power F k w h) (le-trans (le-of-eq once) (pow-le-pow-right {n = b} (omega arith) {i = 1} {j = ones w} (some-digit k w h n)))
+  where
+    w : ℕ
+    w = rowOf (replicate k F) e
+
+    b : ℕ
+    b = F .levels - 1
+
+    once : b ≡ b ^ 1
+    once = sym (rw (pow-suc b 0, pow-zero b) (one-mul b))

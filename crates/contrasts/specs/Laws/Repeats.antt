@@ -19,7 +19,7 @@ use lib.IntN.{ℤ, pos, natAbs, _+ℤ_, _*ℤ_, _-ℤ_}
 use lib.ListN.{length}
 use Rattle.algebra.specs.Sum.{Σ}
 use Rattle.algebra.specs.Naturals.{Σℕ}
-use Rattle.algebra.specs.Laws.Size.{square, natAbs-Σ}
+use Rattle.algebra.specs.Laws.Size.{sq, squares-of, natAbs-Σ}
 use Rattle.algebra.specs.Laws.Solve.{solve, var, lit, _⊕_, _⊖_, _⊗_}
 use Rattle.algebra.specs.Laws.Sum.{Σ-ext, Σ-unit, Σ-const, Σ-add, Σ-mul, Σ-digits}
 use Rattle.algebra.specs.Laws.Naturals.{Σℕ-pos, Σℕ-cong, Σℕ-each}
@@ -33,10 +33,6 @@ use Rattle.contrasts.specs.Laws.Divisors.{divisor*-pos, shares}
 use Rattle.contrasts.specs.Laws.Limits.{Roomy}
 use Rattle.contrasts.specs.Laws.Squares.{numerators}
 use Rattle.contrasts.specs.Laws.Within.{within-tab}
-
--- a square, as a natural number
-abbrev sq : ℤ → ℕ
-sq z = natAbs z * natAbs z
 
 -- ---- run sums
 
@@ -88,9 +84,6 @@ one-run r u =
         solve (m ∷ u ∷ s ∷ [])
         ((var 0 ⊗ var 1 ⊖ var 2) ⊗ (var 0 ⊗ var 1 ⊖ var 2))
         ((var 0 ⊗ var 0) ⊗ (var 1 ⊗ var 1) ⊕ ((lit (neg 2) ⊗ (var 0 ⊗ var 2)) ⊗ var 1 ⊕ var 2 ⊗ var 2)) refl
-
-squares-of : (m : ℕ) (f : ℕ → ℤ) → pos (Σℕ m (λ i. sq (f i))) ≡ Σ m (λ i. f i *ℤ f i)
-squares-of m f = Σℕ-pos m (λ i. sq (f i)) ∙ Σ-ext m (λ i. sym (square (f i)))
 
 pub about-means : (n r : ℕ) (x : Column)
     → Σℕ n (λ i. Σℕ r (λ j. sq (deviation r x i j))) + r * Σℕ n (λ i. sq (runSums r x i)) ≡ r * (r * Σℕ (r * n) (λ i. sq (x i)))

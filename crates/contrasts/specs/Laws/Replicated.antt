@@ -6,18 +6,24 @@
 --   denominator-alike   the denominator is the factor's to the power k
 --   by-first            a product by digit, at effect 0: the number for digit 0 to the power k
 --   by-fewer            j factors fewer: the product lacks that number j times
+--   total-first, divisor-first
+--                       where the factor's first row is all 1: the total of effect 0 is the sum, and its divisor is N
 --   growth-alike        the growth of passes, by the reach of one
 use mathlib.Core.Path.{_≡_, refl, sym, _∙_, ap}
 use mathlib.Core.List.{List}
-use Prim.Native.Nat.{ℕ, zero, suc, _+_, _*_, _^_, _<_, _≤_, max}
-use native.Mathlib.Nat.{pow-zero, pow-succ', zero-mod, zero-div}
+use Prim.Native.Nat.{ℕ, zero, suc, _+_, _*_, _/_, _%_, _^_, _<_, _≤_, max}
+use native.Mathlib.Nat.{pow-zero, pow-succ', zero-mod, zero-div, mod-lt}
 use native.Mathlib.Omega.{arith}
+use lib.IntN.{pos, natAbs}
 use lib.ListN.{take, replicate, length-replicate, getD-replicate, replicate-append-replicate}
+use Rattle.algebra.specs.Sum.{Σ}
+use Rattle.algebra.specs.Laws.Ring.{ℤ-*one}
+use Rattle.algebra.specs.Laws.Sum.{Σ-cong, Σ-ext, Σ-const}
 use Rattle.contrasts.specs.Factor.{Factor}
-use Rattle.contrasts.specs.Totals.{Column, size, denominator}
+use Rattle.contrasts.specs.Totals.{Column, size, coef*, total, divisor*, denominator}
 use Rattle.contrasts.specs.Passes.{passAt, pass, spacing}
 use Rattle.contrasts.specs.Laws.Bounds.{reach, growth}
-use Rattle.contrasts.specs.Laws.Divisors.{ByDigit, by-more}
+use Rattle.contrasts.specs.Laws.Divisors.{ByDigit, by-more, divisor-by}
 use Rattle.contrasts.specs.Laws.Stretches.{pass-is}
 
 pub size-alike : (k : ℕ) (F : Factor) → size (replicate k F) ≡ F .levels ^ k
@@ -55,6 +61,30 @@ module _ {one : Factor → ℕ → ℕ} {all : List Factor → ℕ → ℕ} (by 
       ap (λ Fs. all Fs e) (sym (replicate-append-replicate k j F))
       ∙ by-more by (replicate k F) (replicate j F) e h
       ∙ rw (by-first j F)
+
+-- ---- effect 0
+
+module _ (F : Factor) (ones : (j : ℕ) → j < F .levels → F .coef 0 j ≡ pos 1) where
+  coef-first : (k r : ℕ) → coef* (replicate k F) 0 r ≡ pos 1
+  unfolding coef*
+  coef-first zero r = refl
+  coef-first (suc k) r =
+      rw (zero-mod (F .levels), zero-div (F .levels), ones (r % F .levels) (mod-lt r (F .some-level)), coef-first k (r / F .levels)) refl
+
+  pub total-first : (k : ℕ) (x : Column) → total (replicate k F) x 0 ≡ Σ (size (replicate k F)) x
+  unfolding total
+  total-first k x = Σ-ext (size (replicate k F)) (λ r. rw (coef-first k r) (ℤ-*one (x r)))
+
+  -- the sum of the row's squares
+  first-divisor : F .divisor 0 ≡ F .levels
+  first-divisor =
+      ap natAbs (sym (F .rows 0 0 (F .some-level) (F .some-level))
+      ∙ Σ-cong (F .levels) (λ j h. rw (ones j h) refl) ∙ Σ-const (F .levels) (pos 1) ∙ ℤ-*one (pos (F .levels)))
+
+  pub divisor-first : (k : ℕ) → divisor* (replicate k F) 0 ≡ size (replicate k F)
+  divisor-first k = by-first divisor-by k F ∙ ap (λ d. d ^ k) first-divisor ∙ sym (size-alike k F)
+
+-- ---- growth
 
 pub growth-alike : (k : ℕ) (F : Factor) → growth (replicate k F) ≡ max 1 (reach F) ^ k
 unfolding growth

@@ -3,15 +3,17 @@
 --   row-none               the row of effect 0
 --   row-more, row-fewer    factors added behind do not change the row of an effect that does not use them
 --   row-again              the row of an effect from that of the effect without its lowest digit, where factors are alike
+--   row-turn               a loop that collects an effect's row from its lowest digit on: its next turn, where factors are alike
 --   row-two                at two levels an effect's row is its own number
 --   numerators-of-kind     the numerators of the rows of one kind are those of their effects
 --   degrees-of-kind        and their degrees the number of these effects
 use mathlib.Core.Path.{_≡_, refl, sym, _∙_, ap}
-use mathlib.Core.Bool.{cond}
+use mathlib.Core.Bool.{Bool, true, false, cond}
 use mathlib.Core.List.{List, [], _∷_, _++_}
-use Prim.Native.Nat.{ℕ, zero, suc, _+_, _*_, _/_, _%_, _^_, _<_}
+use Prim.Native.Nat.{ℕ, zero, suc, _+_, _*_, _-_, _/_, _%_, _^_, _<_}
 use native.Mathlib.Nat.{zero-mod, zero-div, mod-lt, div-add-mod', div-lt-iff-lt-mul, pow-suc}
 use native.Mathlib.Numerals.{add-one}
+use native.Mathlib.Omega.{arith}
 use lib.Arith.{lt-one, digits-div, digits-mod}
 use lib.Dec.{eqb, eqb→eq, lit<}
 use lib.ListN.{length, replicate, replicate-append-replicate}
@@ -54,6 +56,17 @@ module _ (F : Factor) where
       row-first F (replicate k F) (q * F .levels + d)
       ∙ rw (digits-mod q l, digits-div q l)
       (ap (λ w. w * 2 + cond (eqb d 0) 0 1) (sym (row-fewer k 1 q h) ∙ ap (λ n. rowOf (replicate n F) q) (add-one k)))
+
+  -- i of k digits are done, e holds the rest of them, and the next letter is at `bit` in the row
+  pub row-turn : (k i row bit e : ℕ) {R : ℕ} → i < k → row + bit * rowOf (replicate (k - i) F) e ≡ R
+      → row + cond (eqb (e % F .levels) 0) 0 bit + 2 * bit * rowOf (replicate (k - (i + 1)) F) (e / F .levels) ≡ R
+  row-turn k i row bit e {R} h so =
+      let n : k - i ≡ suc (k - (i + 1)) = omega arith in
+      by (eqb (e % F .levels) 0) (rowOf (replicate (k - (i + 1)) F) (e / F .levels)) (rw (n, row-first F (replicate (k - (i + 1)) F) e) at so)
+    where
+      by : (none : Bool) (q : ℕ) → row + bit * (q * 2 + cond none 0 1) ≡ R → row + cond none 0 bit + 2 * bit * q ≡ R
+      by true q e = omega (arith, e)
+      by false q e = omega (arith, e)
 
 -- a digit of two levels is 0 or 1, as the letter is in the row
 digit-two : (d : ℕ) → d < 2 → cond (eqb d 0) 0 1 ≡ d

@@ -5,6 +5,7 @@
 --   contrast-turned    a contrast whose signs are turned in every run, or in none
 --   contrast-all       where every run counts plus it is the sum of all readings
 --   count-all          the runs in which a test holds and the others are all
+--   count-sum          so many is the sum of readings that are all 1
 --   count-half         where the contrast of readings that are all 1 is 0, each of the two is half of them
 use mathlib.Core.Path.{_≡_, refl, sym, ap, ap₂, _∙_}
 use mathlib.Core.Bool.{Bool, true, false, cond, not, Bool·not-not}
@@ -71,8 +72,7 @@ count-all n f =
     either true = refl
     either false = refl
 
--- the sum of readings that are all 1
-count-sum : (n : ℕ) (f : ℕ → Bool) → sumWhere n f (λ r. pos 1) ≡ pos (countWhere n f)
+pub count-sum : (n : ℕ) (f : ℕ → Bool) → sumWhere n f (λ r. pos 1) ≡ pos (countWhere n f)
 count-sum n f = Σ-ext n (λ r. one (f r)) ∙ sym (Σℕ-pos n (λ r. cond (f r) 1 0))
   where
     one : (b : Bool) → cond b (pos 1) (pos 0) ≡ pos (cond b 1 0)

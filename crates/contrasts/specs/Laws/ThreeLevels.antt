@@ -6,34 +6,41 @@
 --   size-three                the number of runs
 --   divisor-three             the divisors of fewer factors
 --   denominator-three         the common denominator
---   weight-first              the weight of effect 0
+--   total-three               the total of effect 0
+--   weight-first, weight-all  the weight of effect 0, and N times it
 --   weight-fits               a weight of six factors or fewer is small
+--   row-turn-three            a turn of a loop that collects an effect's row
+--   used-degrees              the degrees of a row that has a letter
 --   row-three, weight-three   the rows and the weights of three effects that differ in the lowest digit alone
 --   round-three               a round of the check
 --   round-bound               the growth of values in it
 use mathlib.Core.Path.{_≡_, refl, sym, _∙_, ap}
+use mathlib.Core.Bool.{cond}
 use mathlib.Core.List.{[], _∷_}
-use Prim.Native.Nat.{ℕ, suc, _+_, _*_, _^_, _/_, _<_, _≤_}
+use Prim.Native.Nat.{ℕ, suc, _+_, _*_, _-_, _^_, _/_, _%_, _<_, _≤_}
 use native.Mathlib.Nat.{mul-div-left, one-le-pow, pow-le-pow-right, le-trans, add-zero}
 use native.Mathlib.Numerals.{add-one}
 use native.Mathlib.Omega.{arith}
-use lib.Dec.{lit<}
+use lib.Dec.{eqb, lit<}
 use lib.IntN.{ℤ, pos, natAbs, _+ℤ_, _*ℤ_, _-ℤ_}
 use lib.ListN.{replicate}
+use Rattle.algebra.specs.Tests.{every, eqZ}
+use Rattle.algebra.specs.Laws.Tests.{every-at, eqZ→eq}
 use Rattle.algebra.specs.Laws.Solve.{solve, var, lit, _⊕_, _⊖_, _⊗_}
 use Rattle.algebra.specs.Laws.Size.{natAbs-+ℤ, natAbs-sub, natAbs-*ℤ}
 use Rattle.algebra.specs.Sum.{Σ}
 use Rattle.contrasts.specs.Factor.{weight}
 use Rattle.contrasts.specs.Factors.{three}
 use Rattle.contrasts.specs.Codings.{neg}
-use Rattle.contrasts.specs.Totals.{Column, size, divisor*, denominator, weight*}
+use Rattle.contrasts.specs.Totals.{Column, size, total, divisor*, denominator, weight*}
 use Rattle.contrasts.specs.Passes.{passAt}
 use Rattle.contrasts.specs.Steps.{step}
 use Rattle.contrasts.specs.Checks.{checkWeight, round}
-use Rattle.contrasts.specs.Rows.{rowOf}
-use Rattle.contrasts.specs.Laws.Divisors.{divisor-by, weight-by, weight-le, by-digit}
-use Rattle.contrasts.specs.Laws.Rows.{row-again}
-use Rattle.contrasts.specs.Laws.Replicated.{size-alike, denominator-alike, by-first, by-fewer}
+use Rattle.contrasts.specs.Rows.{rowOf, degreesOf}
+use Rattle.contrasts.specs.Laws.Divisors.{shares, divisor-by, weight-by, weight-le, by-digit}
+use Rattle.contrasts.specs.Laws.Rows.{row-again, row-turn}
+use Rattle.contrasts.specs.Laws.Degrees.{letter-degrees}
+use Rattle.contrasts.specs.Laws.Replicated.{size-alike, denominator-alike, by-first, by-fewer, total-first, divisor-first}
 use Rattle.contrasts.specs.Laws.Steps.{step-value}
 use Rattle.contrasts.specs.Laws.Stretches.{pass-value}
 
@@ -122,7 +129,32 @@ pub denominator-three : (k : ℕ) → denominator (replicate k three) ≡ 6 ^ k
 unfolding three
 denominator-three k = denominator-alike k three
 
+-- ---- effect 0
+
+first-row : (j : ℕ) → j < 3 → three .coef 0 j ≡ pos 1
+unfolding three every
+first-row j h = eqZ→eq (three .coef 0 j) (pos 1) (every-at 3 (λ j. eqZ (three .coef 0 j) (pos 1)) tt j h)
+
+pub total-three : (k : ℕ) (x : Column) → total (replicate k three) x 0 ≡ Σ (size (replicate k three)) x
+unfolding three
+total-three k x = total-first three first-row k x
+
+-- N times the weight of effect 0 is the denominator
+pub weight-all : (k : ℕ) → size (replicate k three) * weight* (replicate k three) 0 ≡ denominator (replicate k three)
+unfolding three
+weight-all k = rw (← (divisor-first three first-row k)) (shares (replicate k three) 0)
+
 -- ---- rows and weights
+
+pub row-turn-three : (k i row bit e : ℕ) {R : ℕ} → i < k → row + bit * rowOf (replicate (k - i) three) e ≡ R
+    → row + cond (eqb (e % 3) 0) 0 bit + 2 * bit * rowOf (replicate (k - (i + 1)) three) (e / 3) ≡ R
+unfolding three
+row-turn-three k i row bit e h so = row-turn three k i row bit e h so
+
+-- "Its degrees are 2 for each letter multiplied"
+pub used-degrees : (k e : ℕ) → (rowOf (replicate k three) e ≡ 0 → ⊥) → 2 ≤ degreesOf (replicate k three) (rowOf (replicate k three) e)
+unfolding three
+used-degrees k e n = letter-degrees three (omega arith) k e n
 
 -- A weight is the product of 2, 3 or 1 by digit: 6 over 3, over 2 and over 6. So effect 0 has a 2 for each factor.
 pub weight-first : (k : ℕ) → weight* (replicate k three) 0 ≡ 2 ^ k

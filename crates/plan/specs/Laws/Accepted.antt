@@ -25,11 +25,11 @@ use Rattle.algebra.specs.Laws.Tab.{getD-past}
 use Rattle.contrasts.specs.Limits.{mostTwo, mostThree, isRepeats, mostReadings}
 use Rattle.plan.specs.declared.types.Plan.{Plan}
 use Rattle.words.specs.Words.{letters, beyond, any, among, repeated, combined}
-use Rattle.plan.specs.Plan.{addedWords, addedSigns, blockWords, combinesTo, confoundedIn, runsOf, allReadings}
+use Rattle.plan.specs.Plan.{addedWords, addedSigns, blockWords, threeWords, combinesTo, confoundedIn, runsOf, allReadings}
 use Rattle.plan.specs.Outcome.{Refusal, refusal, lowest}
 use Rattle.plan.specs.Laws.Answers.{passed}
 use Rattle.plan.specs.Laws.Combinations.{the-combination, each-fails}
-use Rattle.plan.specs.Check.{badLevels, badFactors, badCounts, badWord, badSign, badWords, dependent, factorWord, losesFactor, badRepeats, twoToEight, planRefused}
+use Rattle.plan.specs.Check.{badLevels, badFactors, badCounts, badWord, badSign, badDigits, badWords, dependent, factorWord, losesFactor, badRepeats, twoToEight, planRefused}
 
 -- ---- what each condition says where it does not hold
 
@@ -70,17 +70,17 @@ pub at-most-ten : (k : ℕ) → k ≤ mostTwo → k ≤ 10
 unfolding mostTwo
 at-most-ten k h = h
 
-pub counts-known : (n a b : ℕ) → badCounts n a b ≡ false → (a ≤ 6) × (b ≤ 4) × (n ≡ 3 → (a ≡ 0) × (b ≡ 0))
+pub counts-known : (n a b : ℕ) → badCounts n a b ≡ false → (a ≤ 6) × (b ≤ 4) × (n ≡ 3 → (a ≡ 0) × (b ≤ 1))
 unfolding badCounts
 counts-known n a b e =
-    let six = neither (ltb 6 a) (ltb 4 b || cond (eqb n 3) (ltb 0 a || ltb 0 b) false) e in
-    let four = neither (ltb 4 b) (cond (eqb n 3) (ltb 0 a || ltb 0 b) false) (six .1) in
-    (ltb-false 6 a (six .0), ltb-false 4 b (four .0), λ t. nothing (rw t at (four .1)))
+    let six = neither (ltb 6 a) (ltb 4 b || cond (eqb n 3) (ltb 0 a || ltb 1 b) false) e in
+    let four = neither (ltb 4 b) (cond (eqb n 3) (ltb 0 a || ltb 1 b) false) (six .1) in
+    (ltb-false 6 a (six .0), ltb-false 4 b (four .0), λ t. one-word (rw t at (four .1)))
   where
-    nothing : (ltb 0 a || ltb 0 b) ≡ false → (a ≡ 0) × (b ≡ 0)
-    nothing d =
-        let z = neither (ltb 0 a) (ltb 0 b) d in
-        (omega (arith, ltb-false 0 a (z .0)), omega (arith, ltb-false 0 b (z .1)))
+    one-word : (ltb 0 a || ltb 1 b) ≡ false → (a ≡ 0) × (b ≤ 1)
+    one-word d =
+        let z = neither (ltb 0 a) (ltb 1 b) d in
+        (omega (arith, ltb-false 0 a (z .0)), ltb-false 1 b (z .1))
 
 pub repeats-known : (n r : ℕ) → badRepeats n r ≡ false → (isRepeats r ≡ true) × (n * r ≤ mostReadings)
 unfolding badRepeats
@@ -93,12 +93,14 @@ repeats-known n r e =
 pub record Accepted (p : Plan) : Type 0 where
   pub levels : (p .levels ≡ 2) ⊎ (p .levels ≡ 3)
   pub factors : (0 < p .k) × (p .k ≤ mostTwo) × (p .levels ≡ 3 → p .k ≤ mostThree)
-  pub counts : (p .added ≤ 6) × (p .blocks ≤ 4) × (p .levels ≡ 3 → (p .added ≡ 0) × (p .blocks ≡ 0))
+  pub counts : (p .added ≤ 6) × (p .blocks ≤ 4) × (p .levels ≡ 3 → (p .added ≡ 0) × (p .blocks ≤ 1))
   pub words : (j : ℕ) → j < length (addedWords p)
       → (beyond (p .k) (getD (addedWords p) j 0) ≡ false) × (2 ≤ letters (getD (addedWords p) j 0))
   pub signs : (j : ℕ) → j < length (addedSigns p) → getD (addedSigns p) j 0 ≤ 1
   pub blocks : (j : ℕ) → j < length (blockWords p)
       → (beyond (p .k) (getD (blockWords p) j 0) ≡ false) × (1 ≤ letters (getD (blockWords p) j 0))
+  -- the block words of three levels keep the digit rule
+  pub digits : (j : ℕ) → j < length (threeWords p) → badDigits (p .k) (getD (threeWords p) j 0) ≡ false
   pub apart : (i j : ℕ) → i < j → j < length (addedWords p) → getD (addedWords p) i 0 ≡ getD (addedWords p) j 0 → ⊥
   -- a confounded effect is neither empty nor one letter nor an added factor's word
   pub lost : (w : ℕ) → confoundedIn p w ≡ true → (w ≡ 0 → ⊥) × (letters w ≡ 1 → ⊥) × (among w (addedWords p) ≡ false)
@@ -118,13 +120,18 @@ signs-of : (ss : List ℕ) → any badSign ss ≡ false → (j : ℕ) → j < le
 unfolding any badSign
 signs-of ss e j h = ltb-false 1 (getD ss j 0) (none-at (length ss) (λ i. badSign (getD ss i 0)) e j h)
 
-parts : (k : ℕ) (words signs blocks : List ℕ) → badWords k words signs blocks ≡ false
-    → (any (badWord k 2) words ≡ false) × (any badSign signs ≡ false) × (any (badWord k 1) blocks ≡ false)
+digits-of : (k : ℕ) (ws : List ℕ) → any (badDigits k) ws ≡ false → (j : ℕ) → j < length ws → badDigits k (getD ws j 0) ≡ false
+unfolding any
+digits-of k ws e = none-at (length ws) (λ i. badDigits k (getD ws i 0)) e
+
+parts : (k : ℕ) (words signs blocks numbers : List ℕ) → badWords k words signs blocks numbers ≡ false
+    → (any (badWord k 2) words ≡ false) × (any badSign signs ≡ false) × (any (badWord k 1) blocks ≡ false) × (any (badDigits k) numbers ≡ false)
 unfolding badWords
-parts k words signs blocks e =
-    let a = neither (any (badWord k 2) words) (any badSign signs || any (badWord k 1) blocks) e in
-    let b = neither (any badSign signs) (any (badWord k 1) blocks) (a .1) in
-    (a .0, b .0, b .1)
+parts k words signs blocks numbers e =
+    let a = neither (any (badWord k 2) words) (any badSign signs || (any (badWord k 1) blocks || any (badDigits k) numbers)) e in
+    let b = neither (any badSign signs) (any (badWord k 1) blocks || any (badDigits k) numbers) (a .1) in
+    let c = neither (any (badWord k 1) blocks) (any (badDigits k) numbers) (b .1) in
+    (a .0, b .0, c .0, c .1)
 
 apart-of : (ws : List ℕ) → repeated ws ≡ false → (i j : ℕ) → i < j → j < length ws → getD ws i 0 ≡ getD ws j 0 → ⊥
 unfolding repeated among any
@@ -153,12 +160,12 @@ accepted p e =
     let l2 = passed (badLevels (p .levels)) 2 _ (omega arith) e in
     let l3 = passed (badFactors (p .levels) (p .k)) 3 _ (omega arith) (l2 .1) in
     let l4 = passed (badCounts (p .levels) (p .added) (p .blocks)) 4 _ (omega arith) (l3 .1) in
-    let l5 = passed (badWords (p .k) (addedWords p) (addedSigns p) (blockWords p)) 5 _ (omega arith) (l4 .1) in
+    let l5 = passed (badWords (p .k) (addedWords p) (addedSigns p) (blockWords p) (threeWords p)) 5 _ (omega arith) (l4 .1) in
     let l6 = passed (repeated (addedWords p)) 6 _ (omega arith) (l5 .1) in
     let l7 = passed (dependent (blockWords p)) 7 _ (omega arith) (l6 .1) in
     let l8 = passed (losesFactor (addedWords p) (blockWords p)) 8 _ (omega arith) (l7 .1) in
     let l16 = passed (badRepeats (runsOf p) (p .repeats)) 16 _ (omega arith) (l8 .1) in
-    let w = parts (p .k) (addedWords p) (addedSigns p) (blockWords p) (l5 .0) in
+    let w = parts (p .k) (addedWords p) (addedSigns p) (blockWords p) (threeWords p) (l5 .0) in
     record {
       levels = levels-known (p .levels) (l2 .0);
       factors = factors-known (p .levels) (p .k) (l3 .0);
@@ -166,6 +173,7 @@ accepted p e =
       words = words-of (p .k) 2 (addedWords p) (w .0);
       signs = signs-of (addedSigns p) (w .1);
       blocks = words-of (p .k) 1 (blockWords p) (w .2);
+      digits = digits-of (p .k) (threeWords p) (w .3);
       apart = apart-of (addedWords p) (l6 .0);
       lost = lost-of (addedWords p) (blockWords p) (l7 .0) (l8 .0);
       repeats = repeats-known (runsOf p) (p .repeats) (l16 .0);
@@ -194,7 +202,7 @@ after-words p e =
     let l2 = passed (badLevels (p .levels)) 2 _ (omega arith) e in
     let l3 = passed (badFactors (p .levels) (p .k)) 3 _ (omega arith) (l2 .1) in
     let l4 = passed (badCounts (p .levels) (p .added) (p .blocks)) 4 _ (omega arith) (l3 .1) in
-    let l5 = passed (badWords (p .k) (addedWords p) (addedSigns p) (blockWords p)) 5 _ (omega arith) (l4 .1) in
+    let l5 = passed (badWords (p .k) (addedWords p) (addedSigns p) (blockWords p) (threeWords p)) 5 _ (omega arith) (l4 .1) in
     let l6 = passed (repeated (addedWords p)) 6 _ (omega arith) (l5 .1) in
     let l7 = passed (dependent (blockWords p)) 7 _ (omega arith) (l6 .1) in
     let l8 = passed (losesFactor (addedWords p) (blockWords p)) 8 _ (omega arith) (l7 .1) in

@@ -16,7 +16,7 @@ use Rattle.algebra.specs.Laws.Search.{some-false}
 use Rattle.contrasts.specs.Limits.{mostTwo, mostThree, mostReadings}
 use Rattle.words.specs.Words.{letters, any, among, repeated, combined}
 use Rattle.plan.specs.declared.types.Plan.{Plan}
-use Rattle.plan.specs.Plan.{addedWords, addedSigns, blockWords, combinesTo, confoundedIn, runsOf, allReadings}
+use Rattle.plan.specs.Plan.{addedWords, addedSigns, blockWords, threeWords, combinesTo, confoundedIn, runsOf, allReadings}
 use Rattle.plan.specs.Check.{badLevels, badFactors, badCounts, badWord, badSign, badWords, dependent, factorWord, losesFactor, badRepeats, planRefused}
 use Rattle.plan.specs.Laws.Combinations.{combination, no-combination}
 use Rattle.plan.specs.Laws.Accepted.{Accepted}
@@ -42,16 +42,17 @@ module _ {p : Plan} (a : Accepted p) where
   unfolding badCounts
   counts-right = none (le-ltb 6 (p .added) (a .counts .0)) (none (le-ltb 4 (p .blocks) (a .counts .1)) (by (a .levels)))
     where
-      by : (p .levels ≡ 2) ⊎ (p .levels ≡ 3) → cond (eqb (p .levels) 3) (ltb 0 (p .added) || ltb 0 (p .blocks)) false ≡ false
+      by : (p .levels ≡ 2) ⊎ (p .levels ≡ 3) → cond (eqb (p .levels) 3) (ltb 0 (p .added) || ltb 1 (p .blocks)) false ≡ false
       by (inl e) = rw e refl
-      by (inr e) = let z = a .counts .2 e in rw (e, z .0, z .1) refl
+      by (inr e) = let z = a .counts .2 e in rw (e, z .0, le-ltb 1 (p .blocks) (z .1)) refl
 
-  words-right : badWords (p .k) (addedWords p) (addedSigns p) (blockWords p) ≡ false
+  words-right : badWords (p .k) (addedWords p) (addedSigns p) (blockWords p) (threeWords p) ≡ false
   unfolding badWords any badWord badSign
   words-right =
       none (some-false (length (addedWords p)) _ (λ j h. none (a .words j h .0) (le-ltb (letters (getD (addedWords p) j 0)) 2 (a .words j h .1))))
       (none (some-false (length (addedSigns p)) _ (λ j h. le-ltb 1 (getD (addedSigns p) j 0) (a .signs j h)))
-      (some-false (length (blockWords p)) _ (λ j h. none (a .blocks j h .0) (le-ltb (letters (getD (blockWords p) j 0)) 1 (a .blocks j h .1)))))
+      (none (some-false (length (blockWords p)) _ (λ j h. none (a .blocks j h .0) (le-ltb (letters (getD (blockWords p) j 0)) 1 (a .blocks j h .1))))
+      (some-false (length (threeWords p)) _ (λ j h. a .digits j h))))
 
   apart-right : repeated (addedWords p) ≡ false
   unfolding repeated among any

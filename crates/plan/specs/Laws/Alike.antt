@@ -8,7 +8,7 @@
 use mathlib.Core.Path.{_≡_, refl}
 use Prim.Native.Nat.{ℕ}
 use Rattle.plan.specs.declared.types.Plan.{Plan}
-use Rattle.plan.specs.Plan.{addedWords, addedSigns, blockWords, factorsOf, confoundedIn}
+use Rattle.plan.specs.Plan.{addedWords, addedSigns, blockWords, threeWords, factorsOf, confoundedIn}
 use Rattle.plan.specs.Check.{planRefused}
 use Rattle.plan.specs.Limits.{readingLimit}
 
@@ -20,12 +20,13 @@ pub record Alike (p q : Plan) : Type 0 where
   pub signs : addedSigns p ≡ addedSigns q
   pub blocks : p .blocks ≡ q .blocks
   pub blockwords : blockWords p ≡ blockWords q
+  pub numbers : threeWords p ≡ threeWords q
   pub repeats : p .repeats ≡ q .repeats
 
 module _ {p q : Plan} (a : Alike p q) where
   pub same-refused : planRefused p ≡ planRefused q
   unfolding planRefused factorsOf
-  same-refused = rw (a .words, a .signs, a .blockwords, a .levels, a .k, a .added, a .blocks, a .repeats) refl
+  same-refused = rw (a .words, a .signs, a .blockwords, a .numbers, a .levels, a .k, a .added, a .blocks, a .repeats) refl
 
   pub same-factors : factorsOf p ≡ factorsOf q
   unfolding factorsOf

@@ -15,7 +15,9 @@ lowest-of-arrays-spec =
     (λ c. sym (length-take-le _ _ (omega arith)))
     (λ c. search needs)
     (λ c. sym (length-take-le _ _ (omega arith)))
+    (λ c. search needs)
+    (λ c. sym (length-take-le _ _ (omega arith)))
     (λ c κs.
-    let args = c .before .before .before .args in
-    omega (arith, length-take-le (args .blocks) (args .t6) (omega arith)))
+    let start = c .before .before .before .before in
+    (start .pre .0, omega (arith, length-take-le (start .args .blocks) (start .args .t6) (omega arith))))
     (λ c. search needs))

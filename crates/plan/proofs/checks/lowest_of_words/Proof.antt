@@ -10,14 +10,14 @@ use Rattle.plan.proofs.checks.lowest_of_words.Tie as tie
 
 -- what is known beyond each test
 words-fine : (c : tie.Else1)
-    → let args = c .before .before .before .before .before .args in
-    badWords (args .k) (args .words .now) (args .signs .now) (args .blocks .now) ≡ false
+    → let args = c .before .before .before .before .before .before .args in
+    badWords (args .k) (args .words .now) (args .signs .now) (args .blocks .now) (args .numbers .now) ≡ false
 words-fine c = is (c .before .bad-words .ensures) (c .if1 .left)
 
-none-repeated : (c : tie.Else2) → repeated (c .before .before .before .before .before .before .before .args .words .now) ≡ false
+none-repeated : (c : tie.Else2) → repeated (c .before .before .before .before .before .before .before .before .args .words .now) ≡ false
 none-repeated c = is (c .before .is-repeated .ensures) (c .if2 .left)
 
-none-combines : (c : tie.Else3) → combinesTo 0 (c .before .before .before .before .before .before .before .before .before .args .blocks .now) ≡ false
+none-combines : (c : tie.Else3) → combinesTo 0 (c .before .before .before .before .before .before .before .before .before .before .args .blocks .now) ≡ false
 none-combines c = is (c .before .combines-to .ensures) (c .if3 .left)
 
 pub lowest-of-words-spec : {M : Type 1} → statement M
@@ -25,7 +25,7 @@ unfolding dependent
 lowest-of-words-spec =
     tie.close
     (tie.spec
-    (λ c κs. search needs)
+    (λ c κs. c .before .before .before .before .pre .0)
     (λ c. rw (is (c .before .bad-words .ensures) (c .if1 .taken)) refl)
     (λ c κs. search needs)
     (λ c. rw (words-fine (c .before .before), is (c .before .is-repeated .ensures) (c .if2 .taken)) refl)

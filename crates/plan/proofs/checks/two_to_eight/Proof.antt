@@ -3,7 +3,8 @@ use mathlib.Core.Bool.{false}
 use native.Mathlib.Omega.{arith}
 use borrow.Author.Needs.{needs}
 use Rattle.plan.specs.Check.{badLevels, badFactors, badCounts}
-use Rattle.plan.specs.Laws.Accepted.{counts-known}
+use Rattle.plan.specs.Laws.Accepted.{factors-known, counts-known, at-most-ten}
+use Rattle.plan.specs.Laws.Words.{counts-few}
 use Rattle.algebra.specs.Laws.Tests.{is}
 use Rattle.plan.proofs.checks.two_to_eight.Statement.{statement}
 use Rattle.plan.proofs.checks.two_to_eight.Tie as tie
@@ -30,10 +31,18 @@ two-to-eight-spec =
     (λ c. rw (levels-fine (c .before .before .before .before), factors-fine (c .before .before), is (c .before .bad-counts .ensures) (c .if3 .taken)) refl)
     (λ c. search needs)
     (λ c. search needs)
-    (λ c. search needs)
+    (λ c κs. tt)
+    (λ c κs. tt)
     (λ c κs.
-    let few = counts-known _ _ _ (counts-fine (c .before .before .before .before .before .before)) in
-    omega (arith, few .0, few .1))
+    let past = c .before .before .before .before .before .before .before .before in
+    let start = past .before .before .before .before .before .before in
+    let few = counts-known _ _ _ (counts-fine past) in
+    let words-few = counts-few (start .args .p) 4 (few .1) in
+    let words-are = c .before .word-count .ensures in
+    let numbers-are = c .number-count .ensures in
+    (at-most-ten _ (factors-known _ _ (factors-fine (past .before .before)) .1), few .0, rw words-are (words-few .0), rw numbers-are (words-few .1)))
     (λ c.
-    let past = c .before .before .before .before .before .before .before in
-    rw (levels-fine (past .before .before .before .before), factors-fine (past .before .before), counts-fine past) (c .lowest-of-arrays .ensures)))
+    let past = c .before .before .before .before .before .before .before .before .before in
+    let words-are = c .before .before .word-count .ensures in
+    let numbers-are = c .before .number-count .ensures in
+    rw (levels-fine (past .before .before .before .before), factors-fine (past .before .before), counts-fine past, ← words-are, ← numbers-are) (c .lowest-of-arrays .ensures)))

@@ -1,3 +1,4 @@
+use mathlib.Core.Path.{refl, _∙_}
 use borrow.Author.Needs.{needs}
 use Rattle.rows.proofs.Putting.{all-kinds}
 use Rattle.rows.proofs.kinds_of_rows.kinds.Statement.{statement}
@@ -9,8 +10,12 @@ kinds-spec =
     (tie.spec
     (λ c. search needs)
     (λ c κs. tt)
-    (λ c. search needs)
+    (λ c κs. tt)
     (λ c. search needs)
     (λ c κs. tt)
     (λ c. search needs)
-    (λ c. all-kinds _ _ (c .before .before .before .before .before .before .put-marks .ensures) (c .before .put-blocks .ensures)))
+    (λ c.
+    let counted = c .before .before .before in
+    let start = counted .before .before .before .before .before .before in
+    let blocks-are = c .before .put-blocks .ensures ∙ rw (counted .word-count .ensures) refl in
+    all-kinds (start .args .p) _ (counted .before .before .before .put-marks .ensures) blocks-are))

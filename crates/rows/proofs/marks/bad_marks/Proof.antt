@@ -13,10 +13,11 @@ bad-marks-spec =
     (λ c. over-bad _ _ (is (c .before .any-over .ensures) (c .if1 .taken)))
     (λ c κs. tt)
     (λ c. mean-bad _ _ (is (c .before .is-marked .ensures) (c .if2 .taken)))
-    (λ c. search needs)
+    (λ c κs. tt)
     (λ c κs. tt)
     (λ c.
-    let mean = c .before .before .before in
+    let counted = c .before in
+    let mean = counted .before .before in
     let codes = mean .before .before in
     let none-over = is (codes .before .any-over .ensures) (codes .if1 .left) in
-    c .any-block-marked .ensures ∙ blocks-or-none _ _ none-over (is (mean .before .is-marked .ensures) (mean .if2 .left))))
+    c .any-block-marked .ensures ∙ rw (counted .word-count .ensures) (blocks-or-none _ _ none-over (is (mean .before .is-marked .ensures) (mean .if2 .left)))))

@@ -2,8 +2,8 @@ use mathlib.Core.Path.{sym}
 use native.Mathlib.Omega.{arith}
 use lib.Seq.{length-take-le}
 use borrow.Author.Needs.{needs}
-use Rattle.plan.proofs.blocks.combines_in.Statement.{statement}
-use Rattle.plan.proofs.blocks.combines_in.Tie as tie
+use Rattle.plan.proofs.confounding.combines_in.Statement.{statement}
+use Rattle.plan.proofs.confounding.combines_in.Tie as tie
 
 pub combines-in-spec : {M : Type 1} → statement M
 combines-in-spec =
