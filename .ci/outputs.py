@@ -1,10 +1,11 @@
 # A stage of the gate: compares the stored inputs and outputs of the programs with what the files of reference/ make now,
 # and published figures with what the reference program makes of the readings. Exits with 1 at a difference.
 #
-#   crates/worked_plans/stdout    the plans of AMCP 706-112, Tables 12-3 and 12-4: published/amcp.py
+#   crates/worked_plans/stdout    the plans of AMCP 706-112, Tables 12-3 and 12-4, and those of Yates's Table 43:
+#                                 published/amcp.py, published/yates.py
 #   crates/worked_totals/stdout   steps, totals and passes of the published examples, at the limits and with repeats:
 #                                 published/examples.py
-#   crates/worked_answers/stdout  refused and accepted tables, estimates, aliases and effects: cases/answers.py
+#   crates/worked_answers/stdout  refused and accepted tables, estimates, aliases, effects and runs: cases/answers.py
 #   crates/worked_answers/stdin   the records of these, which that program reads
 #   crates/worked_sheets/stdout   answers of the two calls that take a sheet: cases/sheet_cases.py
 #   crates/worked_sheets/stdin    the sheets, which that program reads
@@ -28,15 +29,15 @@ ROOT = Path(__file__).resolve().parent.parent
 sys.path.insert(0, str(ROOT))
 
 from reference.cases import answers, csv_cases, sheet_cases, text_cases
-from reference.published import amcp, analyses, daniel, examples
+from reference.published import amcp, analyses, daniel, examples, yates
 
-# Each program with the reference file that makes what it must write.
+# Each program with the reference files that make what it must write, one after the other.
 PROGRAMS = [
-    ("worked_plans", amcp),
-    ("worked_totals", examples),
-    ("worked_answers", answers),
-    ("worked_sheets", sheet_cases),
-    ("worked_texts", text_cases),
+    ("worked_plans", [amcp, yates]),
+    ("worked_totals", [examples]),
+    ("worked_answers", [answers]),
+    ("worked_sheets", [sheet_cases]),
+    ("worked_texts", [text_cases]),
 ]
 
 # Each program that reads an input with what makes it.
@@ -60,12 +61,12 @@ def complaints_of(module):
     return ["%s: %s" % (path_of(module), complaint) for complaint in module.check()]
 
 
-def differs(crate, name, module, meant):
-    """The complaint that what is stored beside a program's sources under a name is not what a reference file makes."""
+def differs(crate, name, modules, meant):
+    """The complaint that what is stored beside a program's sources under a name is not what reference files make."""
     stored = ROOT / "crates" / crate / name
     if stored.exists() and stored.read_bytes() == meant:
         return []
-    return ["crates/%s/%s differs from what %s makes" % (crate, name, path_of(module))]
+    return ["crates/%s/%s differs: made by %s" % (crate, name, ", ".join(path_of(module) for module in modules))]
 
 
 def bytes_of(text):
@@ -78,13 +79,14 @@ def complaints():
     found = []
     for module in OTHERS:
         found += complaints_of(module)
-    for crate, module in PROGRAMS:
-        found += complaints_of(module)
-        found += differs(crate, "stdout", module, bytes_of(module.expected_text()))
+    for crate, modules in PROGRAMS:
+        for module in modules:
+            found += complaints_of(module)
+        found += differs(crate, "stdout", modules, b"".join(bytes_of(module.expected_text()) for module in modules))
     for crate, module, inputs in INPUTS:
-        found += differs(crate, "stdin", module, inputs())
-    found += differs("factab", "stdout", text_cases, text_cases.RULES_TEXT)
-    found += differs("factab", "stdin", text_cases, text_cases.RULES_SHEET)
+        found += differs(crate, "stdin", [module], inputs())
+    found += differs("factab", "stdout", [text_cases], text_cases.RULES_TEXT)
+    found += differs("factab", "stdin", [text_cases], text_cases.RULES_SHEET)
     return found
 
 

@@ -8,8 +8,8 @@
 # signal. Every difference is printed; the last line says how many there are, and the exit is 1 if there is one.
 #
 # The runs: sheets of no byte to a megabyte, most of about 5,187; the sheets of examples/; sheets with readings at the
-# limits and beyond them; inputs that come in parts or late; inputs and outputs that are closed or fail; and 500 sheets of
-# cases/compare.py from a seed that is always the same.
+# limits and beyond them, of two and of three levels, with repeats and in three blocks too; inputs that come in parts or
+# late; inputs and outputs that are closed or fail; and 500 sheets of cases/compare.py from a seed that is always the same.
 #
 # Defined here:
 #   Run                              a run: its name, what the program is given, and what must be seen
@@ -38,7 +38,7 @@ from reference.cases.compare import difference
 from reference.cases.csv_cases import EXAMPLES, FOLDER
 from reference.cases.sheet_cases import Numbers
 from reference.cases.text_cases import RULES_SHEET, RULES_TEXT
-from reference.published.analyses import MOST_REPEATED
+from reference.published.analyses import MOST_REPEATED, THREE_BLOCKED
 from reference.rules import sheet_bytes
 from reference.rules import text as text_rules
 from reference.rules.table import row_count
@@ -112,7 +112,8 @@ def limited(plan):
     columns = [("all readings %d" % (sign * top), [sign * top] * count) for _, sign in SIDES]
     for size in [limit + more for limit in MOST_READING.values() for more in (0, 1)]:
         columns += [("%s %d" % (name, sum(readings)), readings) for name, _, readings in about_limit([0] * count, size)]
-    return [of_sheet("%s, k = %d, %s" % (named(plan), plan.k, name),
+    blocks = ", block words %s" % list(plan.blocks) if plan.blocks else ""
+    return [of_sheet("%s, k = %d%s, %s" % (named(plan), plan.k, blocks, name),
                      sheet_bytes.write(plan, readings, [0] * row_count(plan.k))) for name, readings in columns]
 
 
@@ -238,7 +239,7 @@ def all_runs(program):
     if text_rules.answer(longest) or len(longest) != MOST:
         sys.exit("the longest sheet is not lawful or not of %d bytes" % MOST)
     plans = [Plan(levels, k) for levels, most in MOST_FACTORS.items() for k in (1, most)]
-    plans += [plan for most in MOST_REPEATED.values() for plan in most]
+    plans += [plan for most in MOST_REPEATED.values() for plan in most] + THREE_BLOCKED
     about_limits = [run for plan in plans for run in limited(plan)]
     for run in sized(contents) + stored() + about_limits + parted(numbers, longest) + failing():
         yield run.name, complaints_of(program, run)

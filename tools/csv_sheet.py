@@ -9,13 +9,16 @@
 #   factors,3           k, the number of base factors, once
 #   added,ABC,0         an added factor: its word, and its sign, 0 or 1
 #   block,AC            a block word
+#   block,ABC2          the same at three levels, once or not at all: a letter alone has the digit 1, one with a 2 after it
+#                       the digit 2; two letters or more, and no 2 after the first of them in the alphabet
 #   repeats,2           how often each run is made, 1, 2, 4 or 8, once or not at all; 1 where there is no such line
 #   run,0,1,0,17        a run: the levels of A, B, C and so on, 0 for low, and the reading; each run once, in any order
 #   run,0,1,0,17,19     the same with as many readings as repeats
 #   error,AB            a row that is pooled as error
 #
-# Added factors and block words stand in the sheet in the order of their lines. A cell that begins with # and all after
-# it in the line is passed over, and so are blank lines and blank cells at the end of a line. Cells may be in quotes.
+# Added factors and block words stand in the sheet in the order of their lines; the letters of a word may stand in any. A
+# cell that begins with # and all after it in the line is passed over, and so are blank lines and blank cells at the end of
+# a line. Cells may be in quotes.
 #
 # Lines that make no sheet are not understood: nothing is written then but a message that names the line. Of lines that
 # make a sheet which the rules refuse the sheet is written, and a message says what factab will answer. Of a sheet that
@@ -57,6 +60,7 @@ CELLS = {"levels": 2, "factors": 2, "added": 3, "block": 2, "repeats": 2, "run":
 LETTERS = "ABCDEFGHIJKLMNOP"
 MOST_BYTE = 255
 MOST_BODY = 65_535
+MOST_WORD = 65_535
 MOST_PLACES = 8
 
 
@@ -123,6 +127,18 @@ def word(line, cell):
     if not cell or any(letter not in LETTERS for letter in cell) or len(set(cell)) < len(cell):
         stop(line, "'%s' is not made of different letters from A to P" % cell)
     return table_rules.row_number(cell)
+
+
+def three_word(line, cell):
+    """The block word of a cell at three levels, a number: a letter's digit is 1, or 2 where a 2 follows it."""
+    found = re.findall("([A-P])(2?)", cell)
+    letters = [letter for letter, _ in found]
+    if not cell or "".join(letter + two for letter, two in found) != cell or len(set(letters)) < len(letters):
+        stop(line, "'%s' is not made of different letters from A to P, each alone or with a 2 after it" % cell)
+    number = sum((2 if two else 1) * 3 ** LETTERS.index(letter) for letter, two in found)
+    if number > MOST_WORD:
+        stop(line, "no sheet holds the word '%s' at 3 levels" % cell)
+    return number
 
 
 # ---- the sheet of lines ----
@@ -196,18 +212,19 @@ def make(text):
     levels, k = size_of(lines)
     added = tuple((word(line, line.cells[1]), whole(line, line.cells[2], 0, MOST_BYTE))
                   for line in of_kind(lines, "added"))
-    blocks = tuple(word(line, line.cells[1]) for line in of_kind(lines, "block"))
+    block_word = three_word if levels == 3 else word
+    blocks = tuple(block_word(line, line.cells[1]) for line in of_kind(lines, "block"))
     plan = Plan(levels, k, added, blocks, repeats_of(lines, levels, k))
     return sheet_bytes.write(plan, readings_of(lines, plan), marks_of(lines, k))
 
 
 # ---- why a sheet is refused ----
 
-# By number. docs/USING.md has the limits of 12 and 16 too.
+# By number; those of three levels, where they are others, below. docs/USING.md has the limits of 12 and 16 too.
 CAUSES = {
     2: "levels other than 2 or 3",
     3: "k out of range, which is 1 to 10 at two levels and 1 to 6 at three",
-    4: "over 6 added factors, over 4 block words, or either at three levels",
+    4: "over 6 added factors, or over 4 block words",
     5: "a letter beyond k, an added word under two letters, a sign over 1, or an empty block word",
     6: "two added factors with one word",
     7: "some one or more block words combine to the empty word",
@@ -216,6 +233,10 @@ CAUSES = {
     11: "readings or marks not as many as there are runs, times repeats, or rows",
     12: "a reading beyond {:,} either way at two levels, or beyond {:,} at three".format(MOST_READING[2], MOST_READING[3]),
     13: "a mark over 1, or mark 1 on the mean or a blocks row",
+}
+CAUSES_OF_THREE = {
+    4: "at three levels an added factor, or a second block word",
+    5: "at three levels a block word with a letter beyond k, under two letters, or a 2 after the first of them in the alphabet",
 }
 
 
@@ -271,9 +292,10 @@ def causes(own_sheet):
     refused = text_rules.answer(own_sheet)
     if refused in (totals_rules.DONE, 1):
         return field_causes(own_sheet)
-    named = refused in (16, 11, 12, 13)
-    found = places(refused, sheet_bytes.contents_of(sheet_bytes.fields_of(own_sheet))) if named else []
-    return [CAUSES[refused]] + found[:MOST_PLACES] + ["and others"] * (len(found) > MOST_PLACES)
+    contents = sheet_bytes.contents_of(sheet_bytes.fields_of(own_sheet))
+    found = places(refused, contents) if refused in (16, 11, 12, 13) else []
+    cause = CAUSES_OF_THREE.get(refused, CAUSES[refused]) if contents.plan.levels == 3 else CAUSES[refused]
+    return [cause] + found[:MOST_PLACES] + ["and others"] * (len(found) > MOST_PLACES)
 
 
 # ---- the lines of a sheet ----
@@ -290,17 +312,26 @@ def word_text(own_word):
     return row_label(own_word) if own_word else "(empty)"
 
 
-def high_letters(plan, run):
-    """The letters that are high in a run of a two-level plan, added factors included."""
-    return run | sum((totals_rules.letter_count(run & own_word) + sign) % 2 << plan.k + place
-                     for place, (own_word, sign) in enumerate(plan.added))
+def block_text(levels, own_word):
+    """The letters of a block word, at three levels with a 2 after those whose digit is 2, letters beyond k too."""
+    if levels != 3 or not own_word:
+        return word_text(own_word)
+    digits = totals_rules.digits(3, len(LETTERS), own_word)
+    return "".join(letter + "2" * (digit == 2) for letter, digit in zip(LETTERS, digits) if digit)
 
 
 def treatment(plan, run):
-    """The name of a run of a two-level plan, which is the letters that are high, and its block if there are blocks."""
-    high = high_letters(plan, run)
-    name = row_label(high).lower() if high else "(1)"
-    return name + (" in block %d" % totals_rules.block_of(plan, run) if plan.blocks else "")
+    """The name of a run of a two-level plan, which is the letters that are high; and the run's block, if there are blocks."""
+    high, block = totals_rules.treatment(plan, run)
+    name = [] if plan.levels == 3 else [row_label(high).lower() if high else "(1)"]
+    return " in ".join(name + (["block %d" % block] if plan.blocks else []))
+
+
+def lost_rows(plan):
+    """What is lost to blocks, in words: rows, or at three levels two degrees of a row."""
+    if plan.levels == 3:
+        return ["2 degrees of", row_label(table_rules.word_row(plan))]
+    return [row_label(row) for row in sorted(totals_rules.confounded(plan))]
 
 
 def added_line(plan, place):
@@ -315,25 +346,24 @@ def accepted_lines(plan, readings, marks):
     runs = totals_rules.runs_of(plan.repeats, readings)
     lines = ["# %d runs, %d rows" % (len(runs), len(marks)), "levels,%d" % plan.levels, "factors,%d" % plan.k]
     lines += [added_line(plan, place) for place in range(len(plan.added))]
-    lines += ["block," + row_label(own_word) for own_word in plan.blocks]
-    if plan.blocks:
-        lines += passed_over("lost to blocks", [row_label(row) for row in sorted(totals_rules.confounded(plan.blocks))])
+    lines += ["block," + block_text(plan.levels, own_word) for own_word in plan.blocks]
+    lines += passed_over("lost to blocks", lost_rows(plan)) if plan.blocks else []
     lines += ["repeats,%d" % plan.repeats] if plan.repeats > 1 else []
     lines += passed_over("after run the levels of these, then the " + count_text(plan.repeats, "reading"), LETTERS[:plan.k])
     for run, own in enumerate(runs):
-        names = ["# " + treatment(plan, run)] if plan.levels == 2 else []
+        names = ["# " + treatment(plan, run)] if treatment(plan, run) else []
         lines.append(",".join(map(str, ["run", *totals_rules.digits(plan.levels, plan.k, run), *own, *names])))
     return lines + ["error," + row_label(row) for row, mark in enumerate(marks) if mark]
 
 
-def field_lines(tag, body):
+def field_lines(levels, tag, body):
     """A field of a sheet that is refused, as lines that are passed over: what it holds, or its bytes."""
     if tag == PLAN and len(body) == BODY_LENGTHS[PLAN]:
         return passed_over("levels and factors", body)
     if tag == ADDED and len(body) == BODY_LENGTHS[ADDED]:
         return passed_over("added factor, word and sign", [word_text(sheet_bytes.number_of(body[:2])), body[2]])
     if tag == BLOCK and len(body) == BODY_LENGTHS[BLOCK]:
-        return passed_over("block word", [word_text(sheet_bytes.number_of(body))])
+        return passed_over("block word", [block_text(levels, sheet_bytes.number_of(body))])
     if tag == REPEATS and len(body) == BODY_LENGTHS[REPEATS]:
         return passed_over("repeats", body)
     if tag == READINGS and len(body) % READING_LENGTH == 0:
@@ -347,8 +377,9 @@ def field_lines(tag, body):
 def refused_lines(refused, own_sheet):
     """The lines of a sheet that is refused: number and causes, and what can be read."""
     fields, rest = whole_fields(own_sheet)
+    levels = next((body[0] for tag, body in fields if tag == PLAN and body), None)
     lines = ["# refused %d: %s" % (refused, "; ".join(causes(own_sheet)))]
-    lines += [line for tag, body in fields for line in field_lines(tag, body)]
+    lines += [line for tag, body in fields for line in field_lines(levels, tag, body)]
     return lines + (passed_over("%d bytes of a field that is cut short" % len(rest), rest) if rest else [])
 
 

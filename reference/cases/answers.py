@@ -1,18 +1,19 @@
-# Inputs of the table call that are refused, or accepted with readings about the limits; and inputs of the estimate and of
-# the alias call with their outcomes. Each is listed with the answer that the rules give; check() compares it with what
-# rules/table.py and rules/totals.py answer. Plans whose effects are tried, by what the same files say of rows, divisors and
-# weights. And the input and the expected text of the program worked_answers, which tries them all.
+# Inputs of the table call that are refused, or accepted with readings about the limits or in three blocks; and inputs of the
+# estimate, of the alias and of the run call with their outcomes. Each is listed with the answer that the rules give; check()
+# compares it with what rules/table.py and rules/totals.py answer. Plans whose effects are tried, by what the same files say
+# of rows, divisors and weights. And the input and the expected text of the program worked_answers, which tries them all.
 #
-# The program reads records, one for each table, refused or accepted, then one for each estimate, for each alias, and for
-# each plan whose effects are tried: length, a byte, and so many bytes. These are a sheet, which has readings and marks for
-# a table alone, and a field 9: the call, a byte, 1 for the table, 2 for the estimate, 3 for the alias, 4 for the effects,
-# and what else the call takes. For a table it is how many totals and rows are lent, a byte each; for an estimate the
-# effect, two bytes, and its total, eight bytes in two's complement; for an alias the effect, two bytes; all big-endian; for
-# effects nothing.
+# The program reads records, one for each table, refused or accepted, then one for each estimate, for each alias, for each
+# plan whose effects are tried, and for each run: length, a byte, and so many bytes. These are a sheet, which has readings
+# and marks for a table alone, and a field 9: the call, a byte, 1 for the table, 2 for the estimate, 3 for the alias, 4 for
+# the effects, 5 for the run, and what else the call takes. For a table it is how many totals and rows are lent, a byte
+# each; for an estimate the effect, two bytes, and its total, eight bytes in two's complement; for an alias the effect, two
+# bytes; for a run its number, two bytes; all big-endian; for effects nothing.
 #
 # The program writes a line for each record. Of a table it is `refused` with the number, or `made`; then `unchanged` where
 # all totals and rows hold what they held before the call, else `changed`. Of an estimate it is the outcome, a double as the
 # number that its 64 bits are. Of an alias it is `reduced` with the base word as a number, then `turned` or `unturned`; or
+# `refused` with the number. Of a run it is `high` with the set of letters as a number, then `block` with its number; or
 # `refused` with the number. Of effects it is `effects` with how many there are, and more lines follow, each with three
 # numbers, row, divisor and weight: one line for each effect, in order, and one for the first place after them, if there is
 # such a place. A plan that is refused with 2 or 3 has no effects.
@@ -29,6 +30,7 @@
 #   ESTIMATES        inputs of the estimate call: a plan, an effect and a total
 #   ALIASES          inputs of the alias call: a plan and an effect of all factors
 #   EFFECTS          plans whose effects are tried
+#   RUNS             inputs of the run call: a plan and a run number
 #   check            list of complaints, empty if all is well
 #   expected_text    the expected text
 #   inputs           the input of the program (answers.py inputs)
@@ -58,14 +60,17 @@ Estimate = namedtuple("Estimate", "plan effect total outcome")
 # outcome: "reduced", the letters of the base word and "turned" or "unturned", or "refused" and the number.
 Alias = namedtuple("Alias", "plan effect outcome")
 
+# outcome: "high", the letters, "block" and its number, or "refused" and the number.
+Run = namedtuple("Run", "plan number outcome")
+
 # What is tried of an effect of a plan.
 Effect = namedtuple("Effect", "row divisor weight")
 
 # The most readings, and the most totals and rows, that the program can lend; the tag of the field that names the call, and
 # the calls.
-MOST_READINGS_LENT, MOST_LENT = 32, 8
+MOST_READINGS_LENT, MOST_LENT = 32, 9
 REST = 9
-TABLE, ESTIMATE, ALIAS, EFFECT = 1, 2, 3, 4
+TABLE, ESTIMATE, ALIAS, EFFECT, RUN = 1, 2, 3, 4, 5
 
 # The limit of a reading, by levels.
 TOP = totals_rules.MOST_READING
@@ -73,15 +78,17 @@ TOP = totals_rules.MOST_READING
 
 # ---- inputs of the table call ----
 
-FOUR, EIGHT = [3, 5, 4, 8], [1, 2, 3, 4, 5, 6, 7, 8]
+FOUR, EIGHT, NINE = [3, 5, 4, 8], [1, 2, 3, 4, 5, 6, 7, 8], [2, 5, 3, 1, 4, 6, 7, 8, 9]
 AB, AC, BC, ABC = (row_number(label) for label in "AB AC BC ABC".split())
 
 
 def usual_runs(plan):
-    """A reading for each run: 1 to 8 for three factors, 2, 5, 3 for one at three levels, 3, 5 for one at two, else 3, 5, 4,
-    8."""
+    """A reading for each run: 1 to 8 for three factors, 2, 5, 3 for one at three levels, nine for two, 3, 5 for one at two
+    levels, else 3, 5, 4, 8."""
     if plan.k == 1:
         return [2, 5, 3] if plan.levels == 3 else FOUR[:2]
+    if plan[:2] == (3, 2):
+        return NINE
     return EIGHT if plan.k == 3 else FOUR
 
 
@@ -96,7 +103,7 @@ def attempt(number, why, plan, readings=None, marks=None, totals_length=None, ro
     """An input of the table call that is refused with a number, or accepted where that is 0. What is not said: usual
     readings; marks 0; totals as many as their runs, rows as many as marks."""
     runs = len(usual_runs(plan))
-    rows = 2 if runs == 3 else runs
+    rows = {3: 2, 9: 4}.get(runs, runs)
     return TableInput(number, why, plan, usual_readings(plan) if readings is None else readings,
                       [0] * rows if marks is None else marks,
                       runs if totals_length is None else totals_length, rows if rows_length is None else rows_length)
@@ -141,6 +148,9 @@ TWO_2, TWO_8, ONE_4, ONE_OF_THREE_2, ONE_OF_THREE_8 = (
 BLOCKED_2 = BLOCKED._replace(repeats=2)
 REPEATED = [TWO_2, TWO_8, ONE_4, ONE_OF_THREE_2, ONE_OF_THREE_8]
 
+# Three levels in three blocks, and the marks of the word's row.
+NINE_4, NINE_7, NINE_4_TWICE, LAST = Plan(3, 2, (), (4,)), Plan(3, 2, (), (7,)), Plan(3, 2, (), (4,), 2), [0, 0, 0, 1]
+
 # The first has the small input of 12.
 BEYOND_LIMITS = (tables_about_limit(12, "one beyond the %s", ONE_OF_THREE, TOP[3] + 1)
                  + tables_about_limit(12, "one beyond the %s", TWO, TOP[2] + 1)
@@ -155,7 +165,14 @@ ACCEPTED = (tables_about_limit(DONE, "at the %s", ONE_OF_THREE, TOP[3])
             + tables_about_limit(DONE, "at the %s", ONE_OF_THREE_2, TOP[3])
             + tables_about_limit(DONE, "at the %s", TWO_2, TOP[2])
             + [own for plan in REPEATED for own in tables_at_limit(plan)]
-            + [attempt(DONE, "%s, k = %d" % (named(plan), plan.k), plan) for plan in REPEATED + [BLOCKED_2]])
+            + [attempt(DONE, "%s, k = %d" % (named(plan), plan.k), plan) for plan in REPEATED + [BLOCKED_2]]
+            + tables_at_limit(NINE_4) + [
+                attempt(DONE, "three levels, block word 4", NINE_4),
+                attempt(DONE, "three levels, block word 4, its row marked", NINE_4, marks=LAST),
+                attempt(DONE, "three levels, block word 7, all rows marked", NINE_7, marks=[0, 1, 1, 1]),
+                attempt(DONE, "three levels, block word 4, 2 repeats, its row marked", NINE_4_TWICE, marks=LAST),
+                attempt(DONE, "three levels, block word 7, one block at the limit",
+                        NINE_7, [TOP[3], 0, 0, 0, TOP[3], 0, 0, 0, TOP[3]])])
 
 
 # ---- refusals of the table call ----
@@ -168,8 +185,10 @@ REFUSALS = [
     attempt(3, "two levels, k = 11", Plan(2, 11)),
     attempt(3, "two levels, k = 0", Plan(2, 0)),
     attempt(3, "three levels, k = 0", Plan(3, 0)),
-    attempt(4, "three levels, one block word", Plan(3, 1, (), (1,))),
+    attempt(4, "three levels, two block words", Plan(3, 2, (), (4, 7))),
+    attempt(4, "three levels, k = 1, two block words", Plan(3, 1, (), (1, 1))),
     attempt(4, "three levels, one added factor", Plan(3, 1, ((1, 0),), ())),
+    attempt(4, "three levels, one added factor and a block word", Plan(3, 2, ((AB, 0),), (4,))),
     attempt(4, "seven added factors", Plan(2, 2, ((AB, 0),) * 7, ())),
     attempt(4, "five block words", Plan(2, 2, (), (AB,) * 5)),
     attempt(5, "k = 2, block word C", Plan(2, 2, (), (row_number("C"),))),
@@ -178,6 +197,11 @@ REFUSALS = [
     attempt(5, "added word empty", Plan(2, 2, ((0, 0),), ())),
     attempt(5, "sign 2", Plan(2, 2, ((AB, 2),), ())),
     attempt(5, "block word empty", Plan(2, 2, (), (0,))),
+    attempt(5, "three levels, k = 1, one block word", Plan(3, 1, (), (1,))),
+    attempt(5, "three levels, one factor, block word 4", Plan(3, 1, (), (4,))),
+] + [
+    attempt(5, "three levels, block word %d" % word, Plan(3, 2, (), (word,))) for word in (0, 1, 2, 3, 5, 6, 8, 9, 13, 65535)
+] + [
     attempt(6, "added AB and AB", Plan(2, 2, ((AB, 0), (AB, 1)), ())),
     attempt(7, "block words AB, AB", Plan(2, 3, (), (AB, AB))),
     attempt(7, "block words AB, BC, AC", Plan(2, 3, (), (AB, BC, AC))),
@@ -206,10 +230,17 @@ REFUSALS = [
     attempt(13, "mark 1 on the combination of block words", BLOCKED, marks=[0, 0, 0, 0, 0, 1, 0, 0]),
     attempt(13, "mark 2 on a blocks row", BLOCKED, marks=[0, 0, 0, 0, 0, 0, 2, 0]),
     attempt(13, "three levels, mark 1 on row 0", ONE_OF_THREE, marks=[1, 0]),
+    attempt(13, "three levels, block word 4, mark 1 on row 0", NINE_4, marks=[1, 0, 0, 0]),
+    attempt(13, "three levels, block word 4, mark 2 on its row", NINE_4, marks=[0, 0, 0, 2]),
+    attempt(11, "three levels, block word 4, 9 rows", NINE_4, rows_length=9),
+    attempt(11, "three levels, block word 4, 8 totals", NINE_4, totals_length=8),
+    attempt(12, "three levels, block word 7, the last reading beyond the limit", NINE_7, NINE[:8] + [-TOP[3] - 1]),
     attempt(2, "2 and 3: levels 4, k = 11", Plan(4, 11)),
     attempt(2, "2, 11, 12 and 13", Plan(4, 2), readings=[TOP[2] + 1], marks=[1, 2], totals_length=1, rows_length=1),
     attempt(3, "3 and 4: three levels, k = 7, one block word", Plan(3, 7, (), (AB,))),
-    attempt(4, "4 and 5: three levels, an empty block word", Plan(3, 1, (), (0,))),
+    attempt(4, "4 and 5: three levels, two empty block words", Plan(3, 1, (), (0, 0))),
+    attempt(4, "4 and 5: three levels, an added factor, block word 5", Plan(3, 2, ((AB, 0),), (5,))),
+    attempt(5, "5 and 13: three levels, block word 5, mark 2", Plan(3, 2, (), (5,)), marks=[0, 0, 0, 2]),
     attempt(5, "5 and 6: k = 2, added AC and AC", Plan(2, 2, ((AC, 0), (AC, 0)), ())),
     attempt(5, "5 and 8: k = 2, block words A, C", Plan(2, 2, (), (1, row_number("C")))),
     attempt(6, "6 and 7: added AB, AB, block words ABC, ABC", Plan(2, 3, ((AB, 0), (AB, 0)), (ABC, ABC))),
@@ -256,7 +287,9 @@ REFUSALS = [
     attempt(13, "three levels, 8 repeats, mark 2", ONE_OF_THREE_8, marks=[0, 2]),
     attempt(2, "2 and 16: levels 4, 3 repeats", Plan(4, 2, repeats=3)),
     attempt(3, "3 and 16: k = 11, 2 repeats", Plan(2, 11, repeats=2)),
-    attempt(4, "4 and 16: three levels, one block word, 3 repeats", Plan(3, 1, (), (1,), 3)),
+    attempt(4, "4 and 16: three levels, two block words, 3 repeats", Plan(3, 2, (), (4, 7), 3)),
+    attempt(5, "5 and 16: three levels, block word 6, 3 repeats", Plan(3, 2, (), (6,), 3)),
+    attempt(16, "three levels, block word 4, 3 repeats", Plan(3, 2, (), (4,), 3)),
     attempt(5, "5 and 16: block word C, 0 repeats", Plan(2, 2, (), (row_number("C"),), 0)),
     attempt(6, "6 and 16: added AB, AB, 255 repeats", Plan(2, 2, ((AB, 0), (AB, 1)), (), 255)),
     attempt(7, "7 and 16: block words AB, AB, 3 repeats", Plan(2, 3, (), (AB, AB), 3)),
@@ -317,8 +350,10 @@ def printed_estimates(example):
 REFUSED_PLANS = [
     (2, Plan(4, 2)),
     (3, Plan(2, 11)),
-    (4, Plan(3, 1, (), (1,))),
+    (4, Plan(3, 2, (), (4, 7))),
+    (4, Plan(3, 2, ((AB, 0),))),
     (5, Plan(2, 2, (), (row_number("C"),))),
+    (5, Plan(3, 2, (), (5,))),
     (6, Plan(2, 2, ((AB, 0), (AB, 0)), ())),
     (7, Plan(2, 3, (), (AB, AB))),
     (8, Plan(2, 3, (), (AB, ABC))),
@@ -402,6 +437,8 @@ ESTIMATES = report_estimates() + printed_estimates(examples.AMCP_WHOLE) + printe
     Estimate(Plan(2, 3, (), (AB, ABC)), 8, EIGHT_TOP + 1, "refused 8"),
     Estimate(Plan(3, 1), 0, 10, "refused 9"),
     Estimate(Plan(3, 1), 2, 10 ** 9, "refused 9"),
+    Estimate(Plan(3, 2, (), (4,)), 0, 10, "refused 9"),
+    Estimate(Plan(3, 3, (), (13,)), 9, 10 ** 9, "refused 9"),
     Estimate(TWO, 4, 0, "refused 10"),
     Estimate(TWO, 32768, 0, "refused 10"),
     Estimate(TWO, 5, 4 * TOP[2] + 1, "refused 10"),
@@ -517,6 +554,8 @@ ALIASES = published_aliases() + [
     alias(Plan(3, 1), "mean", "refused 9"),
     alias(Plan(3, 1), "A", "refused 9"),
     alias(Plan(3, 1), "B", "refused 9"),
+    alias(Plan(3, 2, (), (4,)), "mean", "refused 9"),
+    alias(Plan(3, 3, (), (13,)), "D", "refused 9"),
     alias(TWO, "C", "refused 10"),
     alias(TWO, "P", "refused 10"),
     alias(D_IS_ABC, "E", "refused 10"),
@@ -546,7 +585,74 @@ def effects_of(plan):
                    totals_rules.weight(levels, k, effect)) for effect in range(totals_rules.run_count(levels, k))]
 
 
+# ---- runs ----
+
+def runs_of(plan, outcomes):
+    """Inputs of the run call for all runs of a plan, in order: letters and block of each."""
+    return [Run(plan, number, "high %s, block %s" % tuple(outcome.split()))
+            for number, outcome in enumerate(outcomes.split(", "))]
+
+
+# Rules, X3, X5 and X7: the runs of D = ABC, with sign 0 and sign 1, in the two blocks of ABC, and in the four of AD and ABC;
+# (1) stands for no letter. Then three levels: no letters, and the block of the word, or 0.
+THREE_RUNS = [(1, (), "0, 0, 0"), (2, (), "0, 0, 0, 0, 0, 0, 0, 0, 0"), (2, (4,), "0, 1, 2, 1, 2, 0, 2, 0, 1"),
+              (2, (7,), "0, 1, 2, 2, 0, 1, 1, 2, 0")]
+RUNS = runs_of(Plan(2, 3, ((ABC, 0),)), "(1) 0, AD 0, BD 0, AB 0, CD 0, AC 0, BC 0, ABCD 0") + [
+    Run(Plan(2, 3, ((ABC, 1),)), number, "high %s, block 0" % letters)
+    for number, letters in enumerate("D A B ABD C ACD BCD ABC".split())
+] + runs_of(IN_TWO_BLOCKS, "(1) 0, A 1, B 1, AB 0, C 1, AC 0, BC 0, ABC 1") + runs_of(
+    AD_ABC, "(1) 0, A 3, B 2, AB 1, C 2, AC 1, BC 0, ABC 3, D 1, AD 2, BD 3, ABD 0, CD 3, ACD 0, BCD 1, ABCD 2") + [
+    Run(Plan(3, k, (), blocks), number, "high (1), block %s" % block)
+    for k, blocks, text in THREE_RUNS for number, block in enumerate(text.split(", "))
+] + [
+    Run(Plan(3, 3, (), (4,)), 26, "high (1), block 1"),
+    Run(Plan(3, 3, (), (13,)), 26, "high (1), block 0"),
+    Run(Plan(3, 3, (), (13,), 4), 14, "high (1), block 1"),
+    Run(Plan(3, 3, (), (22,)), 9, "high (1), block 2"),
+    Run(Plan(3, 6, (), (727,)), 728, "high (1), block 1"),
+    Run(Plan(3, 6, (), (487,)), 486, "high (1), block 1"),
+    Run(Plan(3, 6), 728, "high (1), block 0"),
+    Run(Plan(3, 5, (), (12,), 4), 242, "high (1), block 1"),
+    Run(TEN_BLOCKED, 1023, "high ABCDEFGHIJ, block 3"),
+    Run(TEN_ADDED, 1, "high AKLMNO, block 1"),
+] + [Run(plan, 0, "refused %d" % number) for number, plan in REFUSED_PLANS] + [
+    Run(Plan(2, 2), 3, "high AB, block 0"),
+    Run(Plan(2, 2), 4, "refused 10"),
+    Run(Plan(2, 2), 65535, "refused 10"),
+    Run(TEN, 1024, "refused 10"),
+    Run(Plan(3, 1), 3, "refused 10"),
+    Run(Plan(3, 2, (), (4,)), 9, "refused 10"),
+    Run(Plan(3, 3), 27, "refused 10"),
+    Run(Plan(3, 3, (), (22,)), 27, "refused 10"),
+    Run(Plan(3, 6), 729, "refused 10"),
+    Run(Plan(3, 1, repeats=2), 3, "refused 10"),
+    Run(Plan(3, 1, repeats=3), 3, "refused 16"),
+    Run(Plan(3, 2, (), (4,), 3), 9, "refused 16"),
+    Run(Plan(3, 2, (), (8,), 3), 9, "refused 5"),
+    Run(Plan(3, 2, (), (4, 4)), 9, "refused 4"),
+    Run(Plan(3, 7, (), (4, 4)), 9, "refused 3"),
+    Run(Plan(4, 2, (), (4,)), 9, "refused 2"),
+    Run(Plan(2, 3, ((ABC, 1),), (ABC,)), 8, "refused 8"),
+]
+
+
 # ---- checks ----
+
+def check_runs():
+    """The outcome of every run is the one that the rules give."""
+    found = [(own, ran_of(own)) for own in RUNS]
+    return ["run %d, %s: %s, listed %s" % (own.number, plan_text(own.plan), outcome, own.outcome)
+            for own, outcome in found if outcome != own.outcome]
+
+
+def ran_of(own):
+    """The outcome of a run in words: its letters, (1) for none, and its block, or the number that refuses it."""
+    refused = totals_rules.run_answer(own.plan, own.number)
+    if refused:
+        return "refused %d" % refused
+    high, block = totals_rules.treatment(own.plan, own.number)
+    return "high %s, block %d" % (row_label(high) if high else "(1)", block)
+
 
 def check_tables():
     """The number of every table is the one that the rules give."""
@@ -680,9 +786,9 @@ def check_lent():
 
 
 def check():
-    """List of all complaints about tables, estimates, aliases and effects."""
+    """List of all complaints about tables, estimates, aliases, effects and runs."""
     return (check_tables() + check_estimates() + check_report() + check_amcp() + check_zeros() + check_aliases()
-            + check_effects() + check_lent())
+            + check_effects() + check_runs() + check_lent())
 
 
 # ---- expected text ----
@@ -712,15 +818,24 @@ def effects_text(plan):
     return "\n".join(["effects %d" % len(found)] + [" %d %d %d" % own for own in [*found, NO_EFFECT][:PLACES]])
 
 
+def ran_text(own):
+    """What the program writes of a run: its letters as a number."""
+    if own.outcome.startswith("refused"):
+        return own.outcome
+    letters, block = own.outcome.split()[1:4:2]
+    return "high %d, block %s" % (0 if letters == "(1)," else row_number(letters.strip(",")), block)
+
+
 def numbered(texts):
     """The texts, each with its number before it and on lines of its own."""
     return "".join("%d: %s\n" % pair for pair in enumerate(texts, 1))
 
 
 def expected_text():
-    """What the program that tries tables, estimates, aliases and effects must write."""
+    """What the program that tries tables, estimates, aliases, effects and runs must write."""
     return numbered([table_text(own) for own in REFUSALS + ACCEPTED] + [estimate_text(own) for own in ESTIMATES]
-                    + [reduced_text(own) for own in ALIASES] + [effects_text(plan) for plan in EFFECTS])
+                    + [reduced_text(own) for own in ALIASES] + [effects_text(plan) for plan in EFFECTS]
+                    + [ran_text(own) for own in RUNS])
 
 
 # ---- input ----
@@ -751,10 +866,16 @@ def effects_record(plan):
     return record(plan, [], [], EFFECT, b"")
 
 
+def run_record(own):
+    """The record of a run."""
+    return record(own.plan, [], [], RUN, own.number.to_bytes(2, "big"))
+
+
 def inputs():
-    """The input of the program: the records of all tables, estimates, aliases and effects."""
+    """The input of the program: the records of all tables, estimates, aliases, effects and runs."""
     return b"".join([table_record(own) for own in REFUSALS + ACCEPTED] + [estimate_record(own) for own in ESTIMATES]
-                    + [alias_record(own) for own in ALIASES] + [effects_record(plan) for plan in EFFECTS])
+                    + [alias_record(own) for own in ALIASES] + [effects_record(plan) for plan in EFFECTS]
+                    + [run_record(own) for own in RUNS])
 
 
 def plan_text(plan):
@@ -765,11 +886,12 @@ def plan_text(plan):
 
 def list_text():
     """A line for each record: of a table why it is refused, or what it has about the limits; of an estimate plan, effect and
-    total; of an alias plan and effect; of effects the plan."""
+    total; of an alias plan and effect; of effects the plan; of a run plan and number."""
     return numbered(["refusal, " + own.why for own in REFUSALS] + ["table, " + own.why for own in ACCEPTED]
                     + ["estimate, %s, effect %d, total %d" % (plan_text(own.plan), *own[1:3]) for own in ESTIMATES]
                     + ["alias, %s, effect %d" % (plan_text(own.plan), own.effect) for own in ALIASES]
-                    + ["effects, " + plan_text(plan) for plan in EFFECTS])
+                    + ["effects, " + plan_text(plan) for plan in EFFECTS]
+                    + ["run, %s, number %d" % (plan_text(own.plan), own.number) for own in RUNS])
 
 
 if __name__ == "__main__":

@@ -4,11 +4,15 @@
 # Defined here:
 #   UNCLEAR, SAME, REFUSED   lines that are not understood, that make the sheet of the rules, that make a refused sheet
 #   UNCLEAR_TWICE            lines with repeats that are not understood
+#   UNCLEAR_NINE             lines of three levels with block words that are not understood
+#   THREE_WORDS              block words of three levels, in cells, and as the numbers that the sheet holds
 #   ABOUT_LIMITS             readings about the limits, on which the command itself is tried
 #   REPEATS_TOLD             repeats, and what the command tells of them
+#   WORDS_TOLD               block words and added factors at three levels, and what the command tells of them
 #   EXAMPLES                 the stored examples, and the worked table of each
 #   check                    list of complaints, empty if all is well
 
+import re
 import subprocess
 import sys
 import tempfile
@@ -19,9 +23,11 @@ sys.path[:0] = [str(ROOT), str(ROOT / "tools")]
 
 from csv_sheet import NotUnderstood, field_causes, listing, make, places, text_of
 from reference.cases import text_cases
+from reference.cases.answers import NINE
 from reference.published import analyses
 from reference.rules import sheet_bytes
 from reference.rules import text as text_rules
+from reference.rules import totals as totals_rules
 from reference.rules.totals import MOST_READING, Plan
 
 FOLDER = ROOT / "examples"
@@ -32,6 +38,7 @@ EXAMPLES = {
     "blocked": analyses.AMCP_BLOCKED,
     "three_levels": analyses.DANIEL_LETTUCE,
     "repeated": analyses.POTATO_PLOTS,
+    "three_blocks": analyses.FIRST_Y,
 }
 
 
@@ -69,6 +76,10 @@ UNCLEAR = [
     (7, "block,AQ", "line 7: 'AQ' is not made of different letters from A to P"),
     (7, "block,AA", "line 7: 'AA' is not made of different letters from A to P"),
     (7, "block,", "line 7: 1 cells, wanted 2"),
+    (7, "block,AB2", "line 7: 'AB2' is not made of different letters from A to P"),
+    (7, "block,2", "line 7: '2' is not made of different letters from A to P"),
+    (7, "added,AB2,0", "line 7: 'AB2' is not made of different letters from A to P"),
+    (7, "error,AB2", "line 7: 'AB2' is not made of different letters from A to P"),
     (7, "added,AB", "line 7: 2 cells, wanted 3"),
     (7, "added,,0", "line 7: '' is not made of different letters from A to P"),
     (7, "added,AB,256", "line 7: '256' is no whole number from 0 to 255"),
@@ -101,6 +112,33 @@ UNCLEAR_TWICE = [
     (5, "", "there is no line for the run 1,0"),
 ]
 
+# Nine runs at three levels in three blocks.
+NINE_LINES = ["levels,3", "factors,2", "block,AB"] + [
+    "run,%d,%d,%d" % (run % 3, run // 3, reading) for run, reading in enumerate(NINE)] + ["error,AB"]
+WORDS_WANTED = "different letters from A to P, each alone or with a 2 after it"
+UNCLEAR_NINE = [
+    (3, "block,%s" % cell, "line 3: '%s' is not made of %s" % (cell, WORDS_WANTED))
+    for cell in ("AA", "AA2", "A2BA", "AB3", "A1B2", "AB22", "2AB", "AB 2", "ab2", "AQ", "A-B", "7")
+] + [
+    (3, "block,AP", "line 3: no sheet holds the word 'AP' at 3 levels"),
+    (3, "block,AK2", "line 3: no sheet holds the word 'AK2' at 3 levels"),
+    (3, "block,AB,", None),
+    (3, "block,AB,2", "line 3: 3 cells, wanted 2"),
+    (3, "block", "line 3: 1 cells, wanted 2"),
+    (3, "added,AB2,0", "line 3: 'AB2' is not made of different letters from A to P"),
+    (13, "error,AB2", "line 13: 'AB2' is not made of different letters from A to P"),
+    (12, "run,2,3,9", "line 12: '3' is no whole number from 0 to 2"),
+]
+
+# Factors, a cell, the number that it stands for, and what the sheet is answered.
+THREE_WORDS = [
+    (2, "AB", 4, 0), (2, "BA", 4, 0), (2, "AB2", 7, 0), (2, "B2A", 7, 0),
+    (3, "ABC", 13, 0), (3, "ABC2", 22, 0), (3, "AB2C", 16, 0), (3, "AB2C2", 25, 0), (3, "C2BA", 22, 0), (3, "BC2", 21, 0),
+    (3, "AC", 10, 0), (3, "AC2", 19, 0), (2, "A", 1, 5), (2, "A2", 2, 5), (2, "B", 3, 5), (2, "A2B", 5, 5), (2, "BA2", 5, 5),
+    (2, "A2B2", 8, 5), (2, "B2", 6, 5), (2, "AC", 10, 5), (2, "C", 9, 5), (1, "AB", 4, 5), (2, "AK", 59050, 5),
+    (2, "AJ2", 39367, 5), (3, "A2BC", 14, 5), (3, "B2C", 15, 5),
+]
+
 # Repeats that make over 65,535 bytes of readings.
 TOO_MANY = "levels,2\nfactors,13\nrepeats,3"
 
@@ -131,7 +169,12 @@ REFUSED = [
     ("levels,2\nfactors,11\n" + "".join("run,%s,0\n" % ",".join(bin(run)[3:]) for run in range(2048, 4096)), 1),
     ("levels,4\nfactors,1\nrun,0,3\nrun,1,5\nrun,2,4\nrun,3,8", 2),
     ("levels,2\nfactors,0\nrun,3", 3),
-    ("levels,3\nfactors,1\nblock,A\nrun,0,2\nrun,1,5\nrun,2,3", 4),
+    ("levels,3\nfactors,1\nblock,A\nblock,A\nrun,0,2\nrun,1,5\nrun,2,3", 4),
+    ("levels,3\nfactors,1\nblock,A\nrun,0,2\nrun,1,5\nrun,2,3", 5),
+    (replaced(3, "block,AB\nblock,AB2", NINE_LINES), 4),
+    (replaced(3, "added,AB,0", NINE_LINES), 4),
+    (replaced(3, "block,AB\nadded,AB,0", NINE_LINES), 4),
+    (replaced(13, "error,mean", NINE_LINES), 13),
     (replaced(3, "added,A,0\nrun,0,0,3"), 5),
     (replaced(3, "block,AC\nrun,0,0,3"), 5),
     (replaced(3, "added,AB,2\nrun,0,0,3"), 5),
@@ -162,6 +205,20 @@ REPEATS_TOLD = [
     (8, ""),
     (3, "factab will answer: refused 16 (%s; 2 runs, repeats 3)\n" % WORDS_OF_16),
     (0, "factab will answer: refused 16 (%s; 2 runs, repeats 0)\n" % WORDS_OF_16),
+]
+
+AT_THREE_4 = "factab will answer: refused 4 (at three levels an added factor, or a second block word)\n"
+AT_THREE_5 = ("factab will answer: refused 5 (at three levels a block word with a letter beyond k, under two letters, or a 2 "
+              "after the first of them in the alphabet)\n")
+
+# What stands for the third of the nine runs' lines, and what the command tells of the sheet.
+WORDS_TOLD = [
+    ("block,AB", ""),
+    ("block,AB2", ""),
+    ("block,A2B", AT_THREE_5),
+    ("block,C", AT_THREE_5),
+    ("block,AB\nblock,AB2", AT_THREE_4),
+    ("added,AB,0", AT_THREE_4),
 ]
 
 WORDS_OF_12 = "a reading beyond 1,000,000 either way at two levels, or beyond 100,000 at three"
@@ -208,6 +265,10 @@ def check_make():
         found = message_of(replaced(number, text, TWICE_LINES))
         if found != message:
             complaints.append("%r with repeats: message %s" % (text, found))
+    for number, text, message in UNCLEAR_NINE:
+        found = message_of(replaced(number, text, NINE_LINES))
+        if found != message:
+            complaints.append("%r at three levels: message %s" % (text, found))
     if message_of(TOO_MANY) != "line 3: no sheet holds 3 readings for each run of 13 factors at 2 levels":
         complaints.append("too many readings: message %s" % message_of(TOO_MANY))
     for text, refused in REFUSED:
@@ -265,6 +326,36 @@ def check_repeats():
     return complaints
 
 
+def plain_lines(levels, k, block):
+    """Lines with a block word and readings that are all 7."""
+    runs = [totals_rules.digits(levels, k, run) for run in range(totals_rules.run_count(levels, k))]
+    return "\n".join(["levels,%d" % levels, "factors,%d" % k, "block," + block]
+                     + ["run,%s,7" % ",".join(map(str, own)) for own in runs])
+
+
+def check_three_words():
+    """Complaints about block words of three levels: the number that the sheet holds, its answer, and the listing, which has the
+    letters in the order of the alphabet; and about the command on them."""
+    complaints = []
+    for k, cell, word, refused in THREE_WORDS:
+        own_sheet, plan = make(plain_lines(3, k, cell)), Plan(3, k, (), (word,))
+        listed = ("# block word: %s" if refused else "block,%s") % "".join(sorted(re.findall("[A-P]2?", cell)))
+        if own_sheet != sheet_bytes.write(plan, [7] * totals_rules.reading_count(plan), [0] * 2 ** k):
+            complaints.append("%s with %d factors: another sheet" % (cell, k))
+        if text_rules.answer(own_sheet) != refused or listed not in listing(own_sheet).split("\n"):
+            complaints.append("%s with %d factors: answer or listing" % (cell, k))
+    for text, message in WORDS_TOLD:
+        lines = replaced(3, text, NINE_LINES)
+        if command_says(lines) != (make(lines), message):
+            complaints.append("%r at three levels: sheet or message" % text)
+    if make("\n".join(NINE_LINES)) != sheet_bytes.write(Plan(3, 2, (), (4,)), NINE, [0, 0, 0, 1]):
+        complaints.append("nine runs in three blocks: another sheet")
+    meant = "levels,3\nfactors,2\nblock,AB\n# lost to blocks: 2 degrees of AB\n"
+    if meant not in listing(make("\n".join(NINE_LINES))) or "\nrun,2,1,6,# block 0\n" not in listing(make("\n".join(NINE_LINES))):
+        complaints.append("nine runs in three blocks: listing")
+    return complaints
+
+
 def check_listing(own):
     """Complaints about the lines of a sheet: they make it again, or give the number of its refusal and a cause."""
     refused = text_rules.answer(own.sheet)
@@ -288,7 +379,7 @@ def check_example(name, own):
 
 def check():
     """List of all complaints about lines, the command, listings and stored examples."""
-    complaints = check_make() + check_limits() + check_repeats()
+    complaints = check_make() + check_limits() + check_repeats() + check_three_words()
     for own in text_cases.SHEETS:
         complaints += check_listing(own)
     for name, own in EXAMPLES.items():

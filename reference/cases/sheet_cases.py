@@ -1,5 +1,5 @@
 # Sheets for the two calls that take one, and the expected text of the program worked_sheets, which tries them: sheets with
-# a name, whose numbers are listed here; 600 sheets that are made and damaged by numbers from a fixed seed; and 300 that are
+# a name, whose numbers are listed here; 700 sheets that are made and damaged by numbers from a fixed seed; and 300 that are
 # made so with readings near the limits, whose numbers are known from how they are made. rules/sheet_bytes.py answers them.
 #
 # The program reads records, one for each sheet in this order: room, the number of places of the column that it lends, and
@@ -17,8 +17,10 @@
 #   CASES                the sheets with a name
 #   Numbers              numbers that are spread out, from a seed
 #   with_repeats         a plan with repeats, a third of the time
+#   three_words          the block words of three levels, by the number of factors
+#   in_blocks            a three-level plan in blocks, half of the time
 #   DAMAGES              ways to damage the fields of a sheet
-#   made, MADE           a sheet that is made and, four times of five, damaged; the 600 of them
+#   made, MADE           a sheet that is made and, four times of five, damaged; the 700 of them
 #   near_contents        what a sheet holds whose readings are near the limits, and its number
 #   near, NEAR           such a sheet; the 300 of them
 #   check, check_near    lists of complaints, empty if all is well; the second of sheets near the limits
@@ -34,7 +36,7 @@ from os.path import abspath, dirname
 sys.path.insert(0, dirname(dirname(dirname(abspath(__file__)))))
 
 from reference.cases import answers
-from reference.cases.answers import AB, ABC, BC, EIGHT, FOUR, LEVELS_NAMED, TOP, about_limit, named
+from reference.cases.answers import AB, ABC, BC, EIGHT, FOUR, LEVELS_NAMED, NINE, TOP, about_limit, named
 from reference.published.analyses import FOUR_BLOCKS, MOST_REPEATED, SIX, SIX_ADDED, TEN
 from reference.rules import sheet_bytes
 from reference.rules import table as table_rules
@@ -48,10 +50,13 @@ Case = namedtuple("Case", "number why sheet room contents", defaults=(None,))
 
 MOST_SHEET, MOST_SHEET_REPEATED = 5_187, 4_679
 MOST_ROOM = 1_100
-MOST_INPUT = 196_608
+MOST_INPUT = 262_144
 MOST_SHOWN = 40
 MODULUS = 2 ** 31 - 1
 ANSWERS = (DONE, 1, 2, 3, 4, 5, 6, 7, 8, 16, 11, 12, 13)
+
+# The answers to sheets of three levels to which refusal 1 does not apply.
+ANSWERS_OF_THREE = (DONE, 3, 4, 5, 16, 11, 12, 13)
 
 
 # ---- sheets with a name: accepted ----
@@ -130,6 +135,22 @@ ACCEPTED_REPEATED = [
     lent(DONE, "%s, k = %d, as many readings as there may be" % (named(plan), plan.k), plan,
          spread(plan.levels, totals_rules.reading_count(plan)), every_third(plan))
     for plans in MOST_REPEATED.values() for plan in plans
+]
+
+# Three levels in three blocks. As sets of letters 4 is C, which would be refused with 8, and 13 is A, C, D, beyond three
+# factors; 727 is the largest word.
+SIX_BLOCKED = Plan(3, 6, (), (727,))
+ACCEPTED_IN_THREE = [
+    lent(DONE, "three levels, k = 2, block word 4", Plan(3, 2, (), (4,)), NINE),
+    lent(DONE, "three levels, k = 2, block word 4, its row marked", Plan(3, 2, (), (4,)), NINE, LAST),
+    lent(DONE, "three levels, k = 2, block word 7, column longer", Plan(3, 2, (), (7,)), NINE, [0, 1, 1, 1], 12),
+    lent(DONE, "three levels, k = 2, block word 7, 2 repeats, its row marked", Plan(3, 2, (), (7,), 2), range(18), LAST),
+    lent(DONE, "three levels, k = 2, block word 4, 8 repeats", Plan(3, 2, (), (4,), 8), spread(3, 72), [0, 1, 0, 0], 73),
+    lent(DONE, "three levels, k = 3, block word 13, 4 repeats", Plan(3, 3, (), (13,), 4), spread(3, 108)),
+    lent(DONE, "three levels, k = 6, block word 727", SIX_BLOCKED, spread(3, 729), every_third(SIX_BLOCKED), 730),
+] + [
+    lent(DONE, "three levels, k = 3, block word %d" % word, Plan(3, 3, (), (word,)), range(-13, 14),
+         [0, 0, 1, 0, 0, 0, 0, word % 2]) for word in (4, 7, 10, 12, 13, 16, 19, 21, 22, 25)
 ]
 
 
@@ -244,9 +265,26 @@ REFUSED = [
     lent(4, "300 block words", Plan(2, 2, (), (AB,) * 300), FOUR, LAST),
     lent(4, "300 of each", Plan(2, 2, ((AB, 0),) * 300, (AB,) * 300), FOUR, LAST),
     lent(4, "7 added factors at three levels", Plan(3, 1, ((1, 0),) * 7), [2, 5, 3]),
+    lent(4, "three levels, block words 4 and 4", Plan(3, 2, (), (4, 4)), NINE, LAST),
+    lent(4, "three levels, block words 7 and 4", Plan(3, 2, (), (7, 4)), NINE, LAST),
+    lent(4, "three levels, 4 block words", Plan(3, 3, (), (13, 16, 22, 25)), range(27)),
+    lent(4, "three levels, 5 block words", Plan(3, 3, (), (13, 16, 22, 25, 4)), range(27)),
+    lent(4, "three levels, 256 block words", Plan(3, 2, (), (4,) * 256), NINE, LAST),
+    lent(4, "three levels, 257 block words", Plan(3, 2, (), (4,) * 257), NINE, LAST),
+    lent(4, "three levels, block word 4 and an added factor", Plan(3, 2, ((AB, 0),), (4,)), NINE, LAST),
+    lent(4, "three levels, an added factor", Plan(3, 2, ((AB, 0),)), NINE, LAST),
     lent(5, "added word 32768", Plan(2, 2, ((32768 + AB, 0),)), FOUR, LAST),
     lent(5, "block word 768, the bytes of AB the other way round", Plan(2, 2, (), (256 * AB,)), FOUR, LAST),
     lent(5, "sign 255", Plan(2, 2, ((AB, 255),)), FOUR, LAST),
+    lent(5, "block word 4, which three levels have", Plan(2, 2, (), (4,)), FOUR, LAST),
+    *[lent(5, "three levels, k = 2, block word %d" % word, Plan(3, 2, (), (word,)), NINE, LAST)
+      for word in (0, 1, 2, 3, 5, 6, 8, 9, 10, 13, 1024, 1792, 32768 + 4, 65535)],
+    *[lent(5, "three levels, k = 1, block word %d" % word, Plan(3, 1, (), (word,)), [2, 5, 3]) for word in (0, 1, 2, 3, 4, 7)],
+    *[lent(5, "three levels, k = 3, block word %d" % word, Plan(3, 3, (), (word,)), range(27))
+      for word in (6, 11, 14, 15, 24, 26, 27, 28, 31, 40)],
+    lent(5, "three levels, k = 6, block word 728", SIX._replace(blocks=(728,)), NINE, LAST),
+    lent(5, "three levels, k = 6, block word 730", SIX._replace(blocks=(730,)), NINE, LAST),
+    lent(5, "three levels, k = 6, block word 486", SIX._replace(blocks=(486,)), NINE, LAST),
     lent(5, "the sixth added word alone has a letter beyond k", MOST._replace(k=9, blocks=()), FOUR, LAST),
     lent(6, "the fifth and sixth of six added words", TEN._replace(added=SIX_ADDED[:5] + SIX_ADDED[4:5]), FOUR, LAST),
     lent(7, "the fourth block word is the combination of the first three",
@@ -274,6 +312,12 @@ REFUSED = [
     lent(13, "mark 255 on row 0", TWO, FOUR, [255, 0, 0, 0]),
     lent(13, "mark 1 on the combination of four block words", MOST, spread(2, 1024), [0] * 1023 + [1]),
     lent(13, "three levels, mark 2", Plan(3, 2), range(9), [0, 0, 2, 0]),
+    lent(13, "three levels, mark 2 on the row of the block word", Plan(3, 2, (), (4,)), NINE, [0, 0, 0, 2]),
+    lent(13, "three levels, block word 7, mark 1 on row 0", Plan(3, 2, (), (7,)), NINE, [1, 0, 0, 1]),
+    lent(11, "three levels, block word 4, 3 marks", Plan(3, 2, (), (4,)), NINE, [0, 0, 0]),
+    lent(11, "three levels, block word 4, 3 readings, a block of them", Plan(3, 2, (), (4,)), NINE[:3], LAST, 9),
+    lent(11, "three levels, block word 4, column one place short", Plan(3, 2, (), (4,)), NINE, LAST, 8),
+    lent(12, "three levels, block word 4, the last reading beyond the limit", Plan(3, 2, (), (4,)), NINE[:8] + [TOP[3] + 1]),
 ]
 
 
@@ -341,6 +385,18 @@ TWO_REFUSALS = [
     lent(4, "4 and 5: 7 added factors, words A and signs 9", SEVEN, FOUR, LAST),
     lent(4, "4 and 5: 5 empty block words", Plan(2, 2, (), (0,) * 5), FOUR, LAST),
     lent(4, "4 and 11: 7 added factors, 3 readings", SEVEN, [3, 5, 4], LAST),
+    lent(4, "4 and 5: three levels, block words 0 and 0", Plan(3, 2, (), (0, 0)), NINE, LAST),
+    lent(4, "4 and 5: three levels, block words 4 and 5", Plan(3, 2, (), (4, 5)), NINE, LAST),
+    lent(4, "4 and 5: three levels, an added factor, block word 9", Plan(3, 2, ((AB, 0),), (9,)), NINE, LAST),
+    lent(4, "4 and 16: three levels, block words 4 and 7, 3 repeats", Plan(3, 2, (), (4, 7), 3), NINE, LAST),
+    lent(3, "3 and 5: three levels, k = 7, block word 0", Plan(3, 7, (), (0,)), NINE, LAST),
+    lent(5, "5 and 16: three levels, block word 8, 3 repeats", Plan(3, 2, (), (8,), 3), NINE, LAST),
+    lent(5, "5 and 11: three levels, block word 8, 3 readings", Plan(3, 2, (), (8,)), NINE[:3], LAST),
+    lent(5, "5 and 12: three levels, block word 8, the least i32", Plan(3, 2, (), (8,)), NINE[:8] + [LOW], LAST),
+    lent(5, "5 and 13: three levels, block word 3, mark 1 on row 0", Plan(3, 2, (), (3,)), NINE, [1, 0, 0, 0]),
+    lent(16, "16 and 11: three levels, block word 4, 3 repeats, 9 readings", Plan(3, 2, (), (4,), 3), NINE, LAST),
+    lent(12, "12 and 13: three levels, block word 4, the least i32, mark 2 on its row", Plan(3, 2, (), (4,)),
+         NINE[:8] + [LOW], [0, 0, 0, 2]),
     lent(5, "5 and 7: block words C, C", Plan(2, 2, (), (4, 4)), FOUR, LAST),
     lent(5, "5 and 13: sign 2, mark 1 on row 0", Plan(2, 2, ((AB, 2),)), FOUR, [1, 0, 0, 0]),
     lent(6, "6 and 8: added AB, AB, block word A", Plan(2, 2, ((AB, 0), (AB, 1)), (1,)), FOUR, LAST),
@@ -405,14 +461,14 @@ ABOUT_LIMITS = (about_own_limit(THREE) + about_own_limit(Plan(3, 2))
                 + about_limits(12, "at the %s of two levels", Plan(3, 2), TOP[2])
                 + about_own_limit(TWO_4) + about_own_limit(Plan(3, 2, repeats=2)))
 
-CASES = (ACCEPTED + ACCEPTED_REPEATED + REFUSAL_1 + TABLE_REFUSALS + REFUSED + REFUSED_REPEATED + TWO_REFUSALS
+CASES = (ACCEPTED + ACCEPTED_REPEATED + ACCEPTED_IN_THREE + REFUSAL_1 + TABLE_REFUSALS + REFUSED + REFUSED_REPEATED + TWO_REFUSALS
          + ABOUT_LIMITS)
 
 
 # ---- sheets that are made ----
 
 SEED = 3950
-MADE_COUNT = 600
+MADE_COUNT = 700
 LIMITS = {levels: (-top, top) + many_sizes(levels) for levels, top in TOP.items()}
 
 
@@ -439,10 +495,21 @@ def with_repeats(numbers, plan):
     return plan._replace(repeats=numbers.choose(allowed)) if numbers.below(3) == 0 and allowed else plan
 
 
+def three_words(k):
+    """The block words of three levels and k factors."""
+    return [word for word in range(3 ** k) if not totals_rules.bad_digits(k, word)]
+
+
+def in_blocks(numbers, plan):
+    """A three-level plan, in blocks half of the time, if it has two factors or more."""
+    words = three_words(plan.k)
+    return plan._replace(blocks=(numbers.choose(words),)) if words and numbers.below(2) else plan
+
+
 def made_plan(numbers):
-    """An accepted plan: three levels and one or two factors, or two levels and one to four, with words or without."""
-    if numbers.below(6) == 0:
-        return Plan(3, 1 + numbers.below(2))
+    """An accepted plan: three levels and one to three factors, or two levels and one to four, with words or without."""
+    if numbers.below(5) == 0:
+        return in_blocks(numbers, Plan(3, numbers.choose((1, 1, 2, 2, 2, 2, 2, 3))))
     k = 1 + numbers.below(4)
     words = [word for word in range(2 ** k) if totals_rules.letter_count(word) > 1]
     while True:
@@ -533,9 +600,10 @@ def damage_count(numbers, parts):
 
 
 def damage_words(numbers, parts):
-    """One, two or seven fields 2 or 3 more, before the fields of higher tags."""
-    tag, count = numbers.choose((ADDED, BLOCK)), numbers.choose((1, 1, 2, 7))
+    """One, two or seven fields 2 or 3 more, before the fields of higher tags; half of the time all the same."""
+    tag, count = numbers.choose((ADDED, BLOCK)), numbers.choose((1, 1, 2, 2, 7))
     bodies = [bytes([0, numbers.below(8), numbers.below(2)])[:sheet_bytes.BODY_LENGTHS[tag]] for _ in range(count)]
+    bodies = bodies[:1] * count if numbers.below(2) else bodies
     at = next((place for place, part in enumerate(parts) if part[0] > tag), len(parts))
     return parts[:at] + [field(tag, body) for body in bodies] + parts[at:]
 
@@ -616,7 +684,8 @@ def near_contents(numbers):
     """Plan, readings and marks, with readings near the limits; and their number, which is 12 half of the time: then one or
     two readings are beyond the limit, and no other is."""
     levels, k = numbers.choose(NEAR_SIZES)
-    plan, number = with_repeats(numbers, Plan(levels, k)), numbers.choose((DONE, 12))
+    once = in_blocks(numbers, Plan(levels, k)) if levels == 3 else Plan(levels, k)
+    plan, number = with_repeats(numbers, once), numbers.choose((DONE, 12))
     count = totals_rules.reading_count(plan)
     beyond = [reading for reading in NEAR_READINGS if abs(reading) > TOP[levels]]
     within = [reading for reading in NEAR_READINGS if abs(reading) <= TOP[levels]]
@@ -687,6 +756,22 @@ def check_undamaged(own):
     return [] if found == (meant, marks) else ["undamaged sheet"]
 
 
+def check_three_levels():
+    """Complaints about three levels among the sheets that are made: about a third of those with nothing refused are in blocks,
+    and each answer that may be given occurs, and no other."""
+    plans = [own.contents.plan for own in MADE + NEAR if own.contents and own.contents.plan.levels == 3]
+    blocked = [plan for plan in plans if plan.blocks]
+    complaints = [] if len(plans) / 4 < len(blocked) < len(plans) / 2 else ["three levels: %d of %d" % (len(blocked), len(plans))]
+    answers = Counter()
+    for own in MADE:
+        fields = sheet_bytes.fields_of(own.sheet)
+        if fields and not sheet_bytes.bad_fields(fields) and sheet_bytes.contents_of(fields).plan.levels == 3:
+            answers[sheet_bytes.read(own.sheet, own.room).refused] += 1
+    complaints += ["three levels: answer %d %d times" % (number, answers[number]) for number in ANSWERS_OF_THREE
+                   if not answers[number]]
+    return complaints + ["three levels: answer %d" % number for number in answers if number not in ANSWERS_OF_THREE]
+
+
 def check_spread():
     """Every answer, every way of damage and every kind of plan occurs among the sheets that are made."""
     numbers = Counter(sheet_bytes.read(own.sheet, own.room).refused for own in MADE)
@@ -698,6 +783,7 @@ def check_spread():
     if not MADE_COUNT / 6 < ways[UNDAMAGED] < MADE_COUNT / 4:
         complaints.append("made sheets: %d undamaged" % ways[UNDAMAGED])
     complaints += ["made sheets: %d repeats %d times" % (own, repeats[own]) for own in totals_rules.REPEATS if repeats[own] < 4]
+    complaints += check_three_levels()
     return complaints + ["made sheets: none of %r" % (size,) for size in ((2, 1), (2, 2), (2, 3), (2, 4), (3, 1), (3, 2))
                          if not sizes[size]]
 

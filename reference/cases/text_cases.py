@@ -1,5 +1,5 @@
 # Sheets for the program factab, and the text that it must print for each: sheets with a name, whose numbers are listed
-# here; 400 that are made by numbers from a fixed seed; and 300 that are made so with readings near the limits, as in
+# here; 450 that are made by numbers from a fixed seed; and 300 that are made so with readings near the limits, as in
 # sheet_cases.py. rules/text.py makes the texts.
 #
 # The program worked_texts reads records, one for each sheet in this order: length, two bytes and big-endian, then so
@@ -13,12 +13,13 @@
 # Defined here:
 #   RULES_SHEET, RULES_TEXT   the example of the rules: its sheet, and the text that they print
 #   TWICE_SHEET, TWICE_TEXT   two runs that are made twice: their sheet, and the text, worked by hand
+#   NINE_SHEET, NINE_TEXT     nine runs in three blocks: their sheet, and the text, worked by hand
 #   SIZES                   levels and factors of all sizes of plans; SIZES_REPEATED: the same with repeats
 #   Case                    a sheet with a name; number is the answer that the rules give, None if it is not listed
 #   CASES                   the sheets with a name
 #   plan_with, made_plan, made_readings, made_marks, made_contents   lawful plans, readings and marks
 #   SPOILS, spoiled         ways to spoil these, by refusal, and what is spoiled in one to three of them
-#   made, MADE              a sheet that is made, of one of some sizes of plans; the 400 of them
+#   made, MADE              a sheet that is made, of one of some sizes of plans; the 450 of them
 #   near, NEAR              a sheet that is made with readings near the limits; the 300 of them
 #   Printed, printed        the figures of a text, as they are printed
 #   check                   list of complaints, empty if all is well
@@ -50,8 +51,11 @@ from reference.rules.totals import DONE, Plan
 # is another number, because the sheet is too long.
 Case = namedtuple("Case", "number name sheet table alone", defaults=(None, None))
 
-MOST_INPUT, MOST_TEXT = 360_000, 450_000
+MOST_INPUT, MOST_TEXT = 400_000, 450_000
 TOP = totals_rules.MOST_READING
+
+# At two levels.
+MOST_ADDED, MOST_BLOCK_WORDS = totals_rules.MOST_ADDED[2], totals_rules.MOST_BLOCK_WORDS[2]
 
 SIZES = [(levels, k) for levels, most in totals_rules.MOST_FACTORS.items() for k in range(1, most + 1)]
 SIZES_REPEATED = [(levels, k, repeats) for levels, k in SIZES for repeats in totals_rules.REPEATS[1:]
@@ -82,6 +86,22 @@ blocks 0 0
 error 2 40
 total 4 456
 check 16 16
+"""
+
+# Two factors at three levels in three blocks, the word A B. The blocks have 2 + 6 + 8, 5 + 1 + 9 and 3 + 4 + 7, which are 16,
+# 15 and 14; their squares, over 3 and over 36, are 8124, of which the mean's square term is 8100. The row AB would have 240
+# with 4 degrees.
+NINE_SHEET = sheet_bytes.write(Plan(3, 2, (), (4,)), [2, 5, 3, 1, 4, 6, 7, 8, 9], [0, 0, 0, 0])
+NINE_TEXT = b"""\
+over 36
+mean 1 8100
+A 2 456
+B 2 1464
+AB 2 216
+blocks 2 24
+error 0 0
+total 9 10260
+check 29 29
 """
 
 
@@ -186,6 +206,40 @@ LAWFUL_REPEATED = [
 ]
 
 
+# Three levels in three blocks; the first is the one that is worked by hand. The numbers 4 and 13 are as sets of letters C,
+# and A, C, D; 10 is B, D.
+def in_three(k, word, repeats=1):
+    """A three-level plan in three blocks."""
+    return Plan(3, k, (), (word,), repeats)
+
+
+NINE, NINE_BLOCKED, ALL_ONES = sheet_cases.NINE, in_three(2, 4), in_three(3, 13)
+LAWFUL_IN_THREE = [
+    Case(DONE, "three levels, block word 4, nine readings", NINE_SHEET),
+    lawful("three levels, block word 4, the row of the word marked", NINE_BLOCKED, NINE, [0, 0, 0, 1]),
+    lawful("three levels, block word 7", in_three(2, 7), NINE, no_marks(NINE_BLOCKED)),
+    lawful("three levels, block word 7, marks on all rows", in_three(2, 7), NINE, all_marks(NINE_BLOCKED)),
+    lawful("three levels, block word 4, readings 0", NINE_BLOCKED, [0] * 9, all_marks(NINE_BLOCKED)),
+    lawful("three levels, block word 4, equal readings", NINE_BLOCKED, [-7] * 9, no_marks(NINE_BLOCKED)),
+    lawful("three levels, block word 4, equal readings in each block", NINE_BLOCKED,
+           analyses.by_blocks(NINE_BLOCKED, (5, -3, 8)), no_marks(NINE_BLOCKED)),
+    lawful("three levels, block word 4, equal block sums", NINE_BLOCKED, [1, 2, 3, 4, 5, 6, 1, -1, 0], [0, 0, 0, 1]),
+    lawful("three levels, block word 4, 2 repeats", in_three(2, 4, 2), range(18), no_marks(NINE_BLOCKED)),
+    lawful("three levels, block word 7, 8 repeats, the row of the word marked", in_three(2, 7, 8), sheet_cases.spread(3, 72),
+           [0, 0, 0, 1]),
+    lawful("three levels, block word 13, 4 repeats, marks on all rows", in_three(3, 13, 4), sheet_cases.spread(3, 108),
+           all_marks(ALL_ONES)),
+    lawful("three levels, block word 13, alternating from the lower limit", ALL_ONES, alternating(ALL_ONES, -TOP[3]),
+           no_marks(ALL_ONES)),
+] + [
+    lawful("three levels, three factors, block word %d" % word, in_three(3, word), sheet_cases.spread(3, 27),
+           sheet_cases.every_third(in_three(3, word))) for word in (4, 7, 10, 12, 13, 16, 19, 21, 22, 25)
+] + [
+    lawful("three levels, %d factors, block word %d" % (k, word), in_three(k, word),
+           sheet_cases.spread(3, 3 ** k), sheet_cases.every_third(in_three(k, word))) for k, word in ((4, 30), (5, 241), (6, 567))
+]
+
+
 # ---- sheets with a name: refused ----
 
 def refused(number, name, plan, readings, marks=None):
@@ -206,7 +260,7 @@ SMALL = [
     Case(1, "small input of 1: empty sheet", b""),
     small(2, "levels 4", Plan(4, 2), FOUR),
     small(3, "three levels, k = 7", Plan(3, 7), FOUR),
-    small(4, "three levels, one block word", Plan(3, 1, (), (1,)), [2, 5, 3]),
+    small(4, "three levels, two block words", Plan(3, 2, (), (4, 7)), NINE),
     small(5, "k = 2, block word C", Plan(2, 2, (), (C,)), FOUR),
     small(6, "AB and AB", Plan(2, 2, ((AB, 0), (AB, 0))), FOUR),
     small(7, "AB, AB, with k = 3", Plan(2, 3, (), (AB, AB)), EIGHT),
@@ -225,7 +279,7 @@ def taken(own):
     return len(own.sheet) <= MOST_BYTES_TAKEN and "column" not in own.why
 
 
-EARLIER = {own.sheet for own in WORKED + LAWFUL_REPEATED + SMALL}
+EARLIER = {own.sheet for own in WORKED + LAWFUL_REPEATED + LAWFUL_IN_THREE + SMALL}
 TAKEN = [Case(own.number, own.why, own.sheet) for own in sheet_cases.CASES if taken(own) and own.sheet not in EARLIER]
 
 
@@ -252,13 +306,13 @@ TOO_LONG = [
     too_long(16, "k = 10 and 2 repeats", sheet_bytes.write(LONGEST._replace(repeats=2), SPREAD, NO_MARKS)),
 ]
 
-CASES = WORKED + EVERY_SIZE + LAWFUL + LAWFUL_REPEATED + SMALL + TAKEN + FITTING + TOO_LONG
+CASES = WORKED + EVERY_SIZE + LAWFUL + LAWFUL_REPEATED + LAWFUL_IN_THREE + SMALL + TAKEN + FITTING + TOO_LONG
 
 
 # ---- sheets that are made: lawful contents ----
 
 SEED = 706_112
-MADE_COUNT = 400
+MADE_COUNT = 450
 
 # Levels and factors of the sheets that are made, each as often as it is here; few have many runs.
 FEW_RUNS = ([(2, 1), (2, 2), (2, 3), (2, 4), (3, 1), (3, 2)] * 6 + [(2, 2), (2, 3), (2, 3), (2, 4)] * 4
@@ -278,12 +332,15 @@ def plan_with(numbers, k, added_count, block_count):
 
 
 def made_plan(numbers, levels, k):
-    """An accepted plan of so many levels and factors; at two levels with words or without."""
-    if levels == 3 or k == 1:
+    """An accepted plan of so many levels and factors, with words or without; at three levels in blocks half of the time, if
+    there are two factors."""
+    if levels == 3:
+        return sheet_cases.in_blocks(numbers, Plan(3, k))
+    if k == 1:
         return Plan(levels, k)
     while True:
-        added_count = numbers.below(totals_rules.MOST_ADDED + 1)
-        plan = plan_with(numbers, k, added_count, numbers.below(totals_rules.MOST_BLOCK_WORDS + 1))
+        added_count = numbers.below(MOST_ADDED + 1)
+        plan = plan_with(numbers, k, added_count, numbers.below(MOST_BLOCK_WORDS + 1))
         if totals_rules.plan_answer(plan) == DONE:
             return plan
 
@@ -332,12 +389,13 @@ def inserted(numbers, items, new, most):
 
 def with_added(numbers, contents, word, sign):
     """The contents with an added factor more."""
-    return with_plan(contents, added=inserted(numbers, contents.plan.added, (word, sign), totals_rules.MOST_ADDED))
+    return with_plan(contents, added=inserted(numbers, contents.plan.added, (word, sign), MOST_ADDED))
 
 
 def with_block(numbers, contents, word):
-    """The contents with a block word more."""
-    return with_plan(contents, blocks=inserted(numbers, contents.plan.blocks, word, totals_rules.MOST_BLOCK_WORDS))
+    """The contents with a block word more, at three levels with that alone."""
+    most = totals_rules.MOST_BLOCK_WORDS[contents.plan.levels]
+    return with_plan(contents, blocks=inserted(numbers, contents.plan.blocks, word, most))
 
 
 def spoil_levels(numbers, contents):
@@ -352,18 +410,36 @@ def spoil_factors(numbers, contents):
 
 
 def spoil_counts(numbers, contents):
-    """Over 6 added factors, over 4 block words, or either at three levels."""
+    """Over 6 added factors, over 4 block words; at three levels an added factor or a second block word, both of them numbers
+    that keep the digit rule as often as not."""
     plan, more = contents.plan, numbers.choose((1, 1, 1, 2, 20))
-    most_added, most_blocks = (totals_rules.MOST_ADDED, totals_rules.MOST_BLOCK_WORDS) if plan.levels == 2 else (0, 0)
-    words = [numbers.below(2 ** plan.k) for _ in range(totals_rules.MOST_ADDED + more)]
+    words = [numbers.below(2 ** plan.k) for _ in range(MOST_ADDED + more)]
     if numbers.below(2):
         added = plan.added + tuple((word, numbers.below(2)) for word in words)
-        return with_plan(contents, added=added[:most_added + more])
-    return with_plan(contents, blocks=(plan.blocks + tuple(words))[:most_blocks + more])
+        return with_plan(contents, added=added[:totals_rules.MOST_ADDED[plan.levels] + more])
+    lawful_words = sheet_cases.three_words(plan.k) if plan.levels == 3 and numbers.below(2) else []
+    words = [numbers.choose(lawful_words) for _ in words] if lawful_words else words
+    return with_plan(contents, blocks=(plan.blocks + tuple(words))[:totals_rules.MOST_BLOCK_WORDS[plan.levels] + more])
+
+
+def spoil_digits(numbers, contents):
+    """A block word of three levels that breaks the digit rule: no digit that is not 0, or one; 1 and 2 exchanged; too large,
+    also by a digit more; or a set of two letters or more."""
+    k, way = contents.plan.k, numbers.below(6)
+    size, lawful_words = 3 ** k, sheet_cases.three_words(k)
+    exchanged = [sum(2 * digit % 3 * 3 ** place for place, digit in enumerate(totals_rules.digits(3, k, word)))
+                 for word in lawful_words]
+    choices = [[0], [digit * 3 ** factor for factor in range(k) for digit in (1, 2)], exchanged,
+               [size, 65535, size + numbers.below(65536 - size)], [word + size for word in lawful_words], long_words(k)]
+    bad = [word for word in choices[way] if totals_rules.bad_digits(k, word)]
+    return with_block(numbers, contents, numbers.choose(bad or [0, size]))
 
 
 def spoil_words(numbers, contents):
-    """A letter beyond k, an added word under two letters, a sign over 1, or an empty block word."""
+    """A letter beyond k, an added word under two letters, a sign over 1, or an empty block word; at three levels a block word
+    that breaks the digit rule."""
+    if contents.plan.levels == 3:
+        return spoil_digits(numbers, contents)
     k, way = contents.plan.k, numbers.below(5)
     beyond = 1 << k + numbers.below(16 - k) | numbers.below(2 ** k)
     if way == 0:
@@ -380,15 +456,15 @@ def spoil_words(numbers, contents):
 def spoil_added(numbers, contents):
     """Two added factors with one word."""
     word = numbers.choose(long_words(contents.plan.k))
-    once = inserted(numbers, contents.plan.added, (word, numbers.below(2)), totals_rules.MOST_ADDED - 1)
+    once = inserted(numbers, contents.plan.added, (word, numbers.below(2)), MOST_ADDED - 1)
     return with_added(numbers, with_plan(contents, added=once), word, numbers.below(2))
 
 
 def spoil_blocks(numbers, contents):
     """A block word is the combination of one or more others."""
-    blocks = contents.plan.blocks[:totals_rules.MOST_BLOCK_WORDS - 1] or (1 + numbers.below(2 ** contents.plan.k - 1),)
-    combination = numbers.choose(totals_rules.confounded(blocks))
-    return with_block(numbers, with_plan(contents, blocks=blocks), combination)
+    blocks = contents.plan.blocks[:MOST_BLOCK_WORDS - 1] or (1 + numbers.below(2 ** contents.plan.k - 1),)
+    once = with_plan(contents, blocks=blocks)
+    return with_block(numbers, once, numbers.choose(totals_rules.confounded(once.plan)))
 
 
 def spoil_factor(numbers, contents):
@@ -420,12 +496,14 @@ def spoil_reading(numbers, contents):
 
 
 def spoil_mark(numbers, contents):
-    """A mark over 1, or mark 1 on the mean or a blocks row."""
-    marks = bytearray(contents.marks)
+    """A mark over 1, or mark 1 on the mean or a blocks row. At three levels no row is one; that of the block word has one of
+    the marks over 1 more often than others."""
+    marks, row = bytearray(contents.marks), table_rules.word_row(contents.plan)
     if numbers.below(2):
-        marks[numbers.below(len(marks))] = numbers.choose((2, 3, 128, 255))
+        place = row if row is not None and numbers.below(2) else numbers.below(len(marks))
+        marks[place] = numbers.choose((2, 3, 128, 255))
     else:
-        marks[numbers.choose([0] + totals_rules.confounded(contents.plan.blocks))] = 1
+        marks[numbers.choose([0] + totals_rules.confounded(contents.plan))] = 1
     return contents._replace(marks=bytes(marks))
 
 
@@ -445,10 +523,10 @@ SPOILS = {
 
 
 def refusals_for(plan):
-    """The refusals for which contents of a plan may be spoiled. At three levels words are refused by their count, and
-    with one factor there is no word of two letters."""
+    """The refusals for which contents of a plan may be spoiled. At three levels 6, 7 and 8 do not apply, and with one factor
+    there is no word of two letters."""
     return [number for number in SPOILS
-            if plan.levels == 2 or number not in (5, 6, 7, 8) if plan.k > 1 or number != 6]
+            if plan.levels == 2 or number not in (6, 7, 8) if plan.k > 1 or number != 6]
 
 
 def spoiled(numbers, contents):
@@ -589,6 +667,8 @@ def check_texts():
         complaints.append("text of 3, 5, 4, 8")
     if text_rules.text(TWICE_SHEET) != TWICE_TEXT:
         complaints.append("text of 3, 5 and 4, 8")
+    if text_rules.text(NINE_SHEET) != NINE_TEXT:
+        complaints.append("text of nine runs in three blocks")
     if text_rules.text(b"") != b"refused 1\n":
         complaints.append("text of the empty sheet")
     many = sheet_bytes.write(Plan(2, 2, ((3, 0),) * 1000), [3, 5, 4, 8], [0, 0, 0, 1])
@@ -597,16 +677,25 @@ def check_texts():
     return complaints
 
 
-def check_rows(figures):
+def word_label(own):
+    """The label of the row of the letters that the word of a three-level plan uses; empty where there is none."""
+    plan = sheet_bytes.contents_of(sheet_bytes.fields_of(own.sheet)).plan
+    if plan.levels == 2 or not plan.blocks:
+        return ""
+    return "".join(letter for place, letter in enumerate("ABCDEF") if plan.blocks[0] // 3 ** place % 3)
+
+
+def check_rows(own, figures):
     """Complaints about labels and degrees. The number of rows says how many factors there are, `over` what levels and
-    repeats."""
+    repeats. In three blocks a row has 2 degrees less."""
     k = len(figures.rows).bit_length() - 1
     if [row.label for row in figures.rows] != [table_rules.row_label(row) for row in range(2 ** k)]:
         return ["labels"]
     if size_of(figures) is None:
         return ["denominator"]
     levels, repeats = size_of(figures)
-    meant = [1 if levels == 2 or row.label == MEAN else 2 ** len(row.label) for row in figures.rows]
+    meant = [1 if levels == 2 or row.label == MEAN else 2 ** len(row.label) - 2 * (row.label == word_label(own))
+             for row in figures.rows]
     complaints = ["degrees"] if [row.degrees for row in figures.rows] != meant else []
     return complaints + (["degrees of the total"] if figures.total[0] != levels ** k * repeats else [])
 
@@ -620,14 +709,30 @@ def squares_about_means(own, figures):
     return [len(readings) - len(readings) // plan.repeats, figures.over * squares // plan.repeats]
 
 
+def block_amount(own):
+    """Degrees and numerator of the block amount of a three-level plan, in another way than that of rules/: as the squares of
+    the differences of each two block sums, times 2 to the power k. Nothing where there is no word."""
+    plan, readings, _ = sheet_bytes.contents_of(sheet_bytes.fields_of(own.sheet))
+    if not word_label(own):
+        return [0, 0]
+    word, block_sums = plan.blocks[0], [0, 0, 0]
+    for place, reading in enumerate(readings):
+        run = place // plan.repeats
+        block_sums[sum(word // 3 ** factor * (run // 3 ** factor % 3) for factor in range(plan.k)) % 3] += reading
+    return [2, 2 ** plan.k * sum((first - second) ** 2 for first, second in combinations(block_sums, 2))]
+
+
 def check_sums(own, figures):
-    """Complaints about sums: blocks and error are their rows, the error with the squares about the means of runs; mean, kept
-    rows, blocks and error are the total."""
+    """Complaints about sums: blocks and error are their rows, the blocks with the block amount of three levels, the error with
+    the squares about the means of runs; mean, kept rows, blocks and error are the total."""
     complaints = []
     if figures.rows[0].kind:
         complaints.append("kind of the mean")
-    if sums([row for row in figures.rows if row.kind == BLOCKS]) != figures.blocks:
+    blocks = zip(sums([row for row in figures.rows if row.kind == BLOCKS]), block_amount(own))
+    if [sum(values) for values in blocks] != figures.blocks:
         complaints.append(BLOCKS)
+    if word_label(own) and any(row.kind == BLOCKS for row in figures.rows):
+        complaints.append("a row of three levels is blocks")
     error = zip(sums([row for row in figures.rows if row.kind == ERROR]), squares_about_means(own, figures))
     if [sum(values) for values in error] != figures.error:
         complaints.append(ERROR)
@@ -653,7 +758,7 @@ def check_table(own, figures):
 
 def check_figures(own, figures):
     """Complaints about the figures of the text of a sheet that is accepted."""
-    complaints = check_rows(figures) + check_sums(own, figures)
+    complaints = check_rows(own, figures) + check_sums(own, figures)
     if [row.kind == ERROR for row in figures.rows] != [mark == 1 for mark in sheet_bytes.marks_part(own.sheet)]:
         complaints.append("error rows are not those that are marked")
     return complaints + (check_table(own.table, figures) if own.table else [])
@@ -694,6 +799,37 @@ def check_spread():
                          if not MADE_COUNT / 4 < kinds[kind] < MADE_COUNT / 2]
 
 
+def plans_of(cases):
+    """The plans of the sheets that are accepted."""
+    accepted = [own for own in cases if refused_of(text_of(own.sheet)) == DONE]
+    return [sheet_bytes.contents_of(sheet_bytes.fields_of(own.sheet)).plan for own in accepted]
+
+
+def check_three_levels():
+    """Complaints about three levels among the sheets that are made: of those that are accepted about a third are in blocks,
+    with repeats and without, with the row of the word marked and not; and each refusal occurs that may."""
+    plans = [plan for plan in plans_of(MADE + NEAR) if plan.levels == 3]
+    blocked = [plan for plan in plans if plan.blocks]
+    complaints = [] if len(plans) / 4 < len(blocked) < len(plans) / 2 else ["three levels: %d of %d" % (len(blocked), len(plans))]
+    if sum(plan.repeats > 1 for plan in blocked) < 8 or len({plan.blocks for plan in blocked}) < 6:
+        complaints.append("three levels in blocks: repeats or words")
+    kinds = Counter()
+    for own in MADE + NEAR:
+        figures = printed(text_of(own.sheet))
+        if figures and word_label(own):
+            kinds[next(row.kind for row in figures.rows if row.label == word_label(own))] += 1
+    complaints += ["three levels in blocks: row of the word %r %d times" % (kind, kinds[kind])
+                   for kind in ("", ERROR) if kinds[kind] < 8]
+    answers = Counter()
+    for own in MADE:
+        fields = sheet_bytes.fields_of(own.sheet)
+        if fields and not sheet_bytes.bad_fields(fields) and sheet_bytes.contents_of(fields).plan.levels == 3:
+            answers[refused_of(text_of(own.sheet))] += 1
+    complaints += ["three levels: answer %d %d times" % (number, answers[number]) for number in sheet_cases.ANSWERS_OF_THREE
+                   if answers[number] < 2]
+    return complaints + ["three levels: answer %d" % number for number in (6, 7, 8) if answers[number]]
+
+
 def check_small():
     """Each refusal that a sheet may have has its small input, and the first text is that of the rules."""
     complaints = [] if [own.number for own in SMALL] == list(sheet_cases.ANSWERS[1:]) else ["small inputs"]
@@ -704,7 +840,7 @@ def check_small():
 
 def check():
     """List of all complaints about coefficients, totals, sheets and their texts."""
-    complaints = check_texts() + check_small() + check_spread() + sheet_cases.check_near(NEAR)
+    complaints = check_texts() + check_small() + check_spread() + check_three_levels() + sheet_cases.check_near(NEAR)
     for levels, k in SIZES:
         complaints += check_coefficients(levels, k) + check_totals(levels, k)
     for own in SHEETS:

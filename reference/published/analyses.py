@@ -1,8 +1,9 @@
 # Published analyses of variance: readings, block words and marks with the figures that are printed for their tables; and
 # tables of extreme readings at the largest plans, with repeats and without.
 #
-# Sources are named as in examples.py, whose readings are used where it has them. Readings of six more tables are here:
-# Yates's squares that interlace and his hay; Daniel's mangolds in pounds, half of the beans, lettuce and air pollution.
+# Sources are named as in examples.py, whose readings are used where it has them. Readings of seven more tables are here:
+# Yates's squares that interlace, his hay and the second replication of his sugar beet; Daniel's mangolds in pounds, half of
+# the beans, lettuce and air pollution.
 #
 # Signs, units, question marks and points in printed figures are as in examples.py. In a printed text "94.22+216.84" is the
 # sum of two printed figures, and "9>-9" a damaged figure with its mend.
@@ -18,15 +19,23 @@
 # Repeats: where the single plots are the readings, the squares about the means of runs are what the source has for blocks,
 # rows, columns and error, added up; the rules have them all in the error.
 #
+# Three levels in blocks: Yates splits D.S.N into four pairs of degrees, W, X, Y and Z, and each pair is the block amount of a
+# word (yates.py has their sets). The first replication was laid out in the sets of Y, the second in those of Z. His readings
+# are also worked with the words of the other pairs, whose sums he prints, as if they had been laid out so.
+#
 # Defined here:
 #   TABLES                 the worked tables, numbered from 1 in this order
 #   FOUR_BLOCKS, SIX_ADDED, TEN, TEN_BLOCKED, TEN_ADDED, SIX
 #                          words and plans of ten factors, and the plan of six at three levels
 #   MOST_REPEATED          plans with repeats that have the most readings, by levels
+#   THREE_BLOCKED          large three-level plans in three blocks, with repeats and without
 #   MENDS, OFF             damaged figures; figures further off than half a unit
 #   POOLED                 the report's columns in which rows of three levels are pooled, as far as they can be read
 #   KNOWN                  numerators of the extreme tables that are known without adding up
+#   TOGETHER               printed figures that add up the blocks of several tables
+#   words_of_row           the words of three levels that use the letters of a row
 #   in_turn, each          readings with repeats: both limits in turn, and values for each run
+#   by_blocks              readings of three levels that are the same in each block
 #   marks_of, sums_of, table_of
 #                          the marks of all rows, the run sums, and the table, of a worked table
 #   check                  list of complaints, empty if all is well
@@ -34,9 +43,10 @@
 import re
 from collections import namedtuple
 from fractions import Fraction
-from itertools import product
+from itertools import combinations, product
 
 from reference.published import examples
+from reference.published.yates import WORDS
 from reference.rules import table as table_rules
 from reference.rules import totals as totals_rules
 from reference.rules.table import row_number
@@ -51,6 +61,9 @@ Printed = namedtuple("Printed", "where measure parts text units", defaults=(Frac
 # title, where, measure and place say which figure; place counts from 0.
 Mend = namedtuple("Mend", "title where measure place printed meant reason")
 Off = namedtuple("Off", "title where measure place units cause")
+
+# tables: those whose blocks are added up. cause: as of a figure that is off, None if it is not.
+Together = namedtuple("Together", "where tables figure cause", defaults=(None,))
 
 EXACT = 0
 LACKING, NOT_PRINTED = examples.LACKING, examples.NOT_PRINTED
@@ -69,7 +82,7 @@ def rows_of(labels):
 
 def of_letters(plan, least):
     """The rows of so many letters or more that are not confounded."""
-    lost = totals_rules.confounded(plan.blocks)
+    lost = totals_rules.confounded(plan)
     rows = range(table_rules.row_count(plan.k))
     return [row for row in rows if totals_rules.letter_count(row) >= least and row not in lost]
 
@@ -271,9 +284,9 @@ YATES_BOTH_REPLICATIONS = worked(examples.YATES_BOTH_REPLICATIONS, "ABC", [
 
 # Three treatments in each of two pairs of years. They have no order, but a row holds all effects of its letters, and its sum
 # of squares does not depend on the order. Factor A is 1933 and 1935, written down; B is 1932 and 1934, written across.
-YATES_HAY = worked(new_example(
-    "Yates, hay", "Yates", "Section 9f, Tables 41 and 42", 3, 2,
-    "65.2 104.2 94.5 71.0 101.0 84.8 85.2 112.2 108.2", places=1, plots=4), "", [
+HAY = new_example("Yates, hay", "Yates", "Section 9f, Tables 41 and 42", 3, 2,
+                  "65.2 104.2 94.5 71.0 101.0 84.8 85.2 112.2 108.2", places=1, plots=4)
+YATES_HAY = worked(HAY, "", [
     Printed("Table 42", "sum of squares", "A, B, AB, corrected", "402.20 115.85 22.83 540.89"),
     Printed("Table 42", "degrees", "A, B, AB, corrected", "2 2 4 8", EXACT),
     Printed("Table 42", "mean square", "A, B, AB", "201.10 57.92 5.71"),
@@ -337,6 +350,72 @@ DANIEL_BUDS = worked(examples.DANIEL_BUDS, "", [
     Printed("Table 3.8", "sum of squares", "kept, corrected", "6557+766 8363"),
     Printed("Table 3.8", "degrees", "kept", "1+2", EXACT),
 ])
+
+
+# ---- three levels in three blocks ----
+
+def in_sets(example, group, marked, printed):
+    """The table of an example laid out in the sets of one of Yates's groups."""
+    return worked(example._replace(title="%s, in the sets of %s" % (example.title, group), blocks=(WORDS[group],)),
+                  marked, printed)
+
+
+def sums_of_sets(where, text):
+    """The printed sums of the three sets of a group."""
+    return Printed(where, "block total", "0, 1, 2", text, EXACT)
+
+
+# As it was laid out and analysed. W, X and Z, which are what is left of D.S.N, are a part of the error in Table 58.
+FIRST_Y = in_sets(examples.YATES_FIRST_REPLICATION, "Y", "ABC", [
+    sums_of_sets("Table 44", "439.9 425.8 359.0"),
+    sums_of_sets("Table 55", "439.9 425.8 359.0"),
+    Printed("Table 56", "sum of squares", "A+B+AB, A+C+AC, B+C+BC, error", "262.05 333.49 250.82 90.36"),
+    Printed("Table 58", "sum of squares", "blocks, A+B+C, AB+AC+BC+ABC, corrected",
+            "415.03 301.12+51.42 57.87+173.79 999.23"),
+    Printed("Table 58", "degrees", "blocks, A+B+C, AB+AC+BC+ABC, corrected", "2 3+3 3+15 26", EXACT),
+    Printed("Table 58", "mean square", "blocks", "207.52"),
+    Printed("Table 59", "sum of squares", "blocks, kept, error, corrected",
+            "415.03 301.12+51.42+57.87+68.19+15.22 90.36 999.23"),
+    Printed("Table 59", "degrees", "blocks, kept, error, ABC, corrected", "2 3+3+3+6+3 6 6 26", EXACT),
+    Printed("Table 59", "mean square", "blocks", "207.52"),
+])
+
+FIRST_W = in_sets(examples.YATES_FIRST_REPLICATION, "W", "ABC", [sums_of_sets("Table 55", "402.6 396.5 425.6")])
+FIRST_X = in_sets(examples.YATES_FIRST_REPLICATION, "X", "", [sums_of_sets("Table 55", "403.5 415.3 405.9")])
+FIRST_Z = in_sets(examples.YATES_FIRST_REPLICATION, "Z", "ABC", [
+    sums_of_sets("Table 46, Z without the blocks Z", "420.3 397.4 407.0"),
+    sums_of_sets("Table 55", "420.3 397.4 407.0"),
+])
+
+# As it was laid out, in the sets of Z; and in those of Y.
+SECOND_REPLICATION = new_example(
+    "Yates, sugar beet, second replication", "Yates", "Section 10b, Tables 44 (blocks Z) and 46; factors d, s, n", 3, 3,
+    examples.by_runs(examples.BEET_TREATMENTS, [" ".join(examples.BEET_BLOCKS[1])]), places=1)
+SECOND_Z = in_sets(SECOND_REPLICATION, "Z", "ABC", [
+    sums_of_sets("Table 44", "317.8 305.5 314.3"),
+    sums_of_sets("Table 46, blocks", "317.8 305.5 314.3"),
+    Printed("Table 46", "effect total", "mean", "937.6", EXACT),
+])
+SECOND_Y = in_sets(SECOND_REPLICATION, "Y", "", [sums_of_sets("Table 46, Y without the blocks Y", "316.7 303.1 317.8")])
+
+# Both replications as repeats, all in the sets of one group.
+BOTH_Y = in_sets(examples.BEET_PLOTS, "Y", "ABC", [
+    sums_of_sets("Table 46", "756.6 728.9 676.8"),
+    Printed("Table 47", "sum of squares", "mean, A, B, C, blocks+ABC", "86584.10 94.47 107.80 150.14 94.22+216.84"),
+    Printed("Table 48", "sum of squares", "corrected", "2978.19"),
+    Printed("Table 48", "degrees", "blocks+ABC, corrected", "4+4 53", EXACT),
+])
+BOTH_Z = in_sets(examples.BEET_PLOTS, "Z", "", [sums_of_sets("Table 46", "738.1 702.9 721.3")])
+BOTH_W = in_sets(examples.BEET_PLOTS, "W", "ABC", [sums_of_sets("Table 46", "715.6 694.6 752.1")])
+BOTH_X = in_sets(examples.BEET_PLOTS, "X", "", [sums_of_sets("Table 46", "721.2 719.4 721.7")])
+
+# The diagonals of the hay; each pair's amount is what the other leaves of the interaction.
+HAY_PRINTED = [
+    Printed("Table 42", "sum of squares", "A, B, blocks+AB, corrected", "402.20 115.85 22.83 540.89"),
+    Printed("Table 42", "degrees", "A, B, blocks+AB, corrected", "2 2 4 8", EXACT),
+]
+HAY_I = in_sets(HAY, "I", "", [sums_of_sets("Table 41", "274.4 274.2 277.7")] + HAY_PRINTED)
+HAY_J = in_sets(HAY, "J", "AB", [sums_of_sets("Table 41", "262.2 283.4 280.7")] + HAY_PRINTED)
 
 
 # ---- the rules' own runs ----
@@ -455,12 +534,42 @@ EXTREMES_REPEATED = [
     extreme("four factors at three levels, 8 repeats, spread out", FOUR_8, by_spreading(FOUR_8), "AD ABCD"),
 ]
 
+# Three levels in blocks: the readings of each block at a limit or 0, so that nothing is left of the row; all readings at a
+# limit, so that the blocks have nothing; and readings in general. The words: the largest, that of all digits 1, and two that
+# are of two letters.
+SIX_LARGEST, SIX_ONES, SIX_ENDS = Plan(3, 6, (), (727,)), Plan(3, 6, (), (364,)), Plan(3, 6, (), (487,))
+FIVE_4_BLOCKED, FOUR_8_BLOCKED = Plan(3, 5, (), (241,), 4), Plan(3, 4, (), (30,), 8)
+THREE_BLOCKED = [SIX_LARGEST, FIVE_4_BLOCKED, FOUR_8_BLOCKED]
+
+
+def by_blocks(plan, values):
+    """For each run the value of its block."""
+    return [values[block_of(plan, run)] for run in range(totals_rules.run_count(plan.levels, plan.k))]
+
+
+EXTREMES_IN_THREE = [
+    extreme("six factors in three blocks, one at the upper limit, two at the lower", SIX_LARGEST,
+            by_blocks(SIX_LARGEST, (TOP[3], -TOP[3], -TOP[3])), "A ABCDEF"),
+    extreme("six factors in three blocks, at the lower limit, 0 and the upper limit", SIX_ONES,
+            by_blocks(SIX_ONES, (-TOP[3], 0, TOP[3])), "F"),
+    extreme("six factors in three blocks, all at the lower limit", SIX_ENDS, by_signs(SIX_ENDS, 0, -TOP[3], 0), "AF"),
+    extreme("six factors in three blocks, signs of effect 728", SIX_LARGEST, by_signs(SIX_LARGEST, 728, TOP[3], 0), "ABCDEF"),
+    extreme("six factors in three blocks, spread out", SIX_ENDS, by_spreading(SIX_ENDS), "AF ABCDEF"),
+    extreme("five factors in three blocks, 4 repeats, two at the upper limit, one at the lower", FIVE_4_BLOCKED,
+            each(FIVE_4_BLOCKED, by_blocks(FIVE_4_BLOCKED, (TOP[3], TOP[3], -TOP[3]))), "ABCDE"),
+    extreme("five factors in three blocks, 4 repeats, spread out", FIVE_4_BLOCKED, by_spreading(FIVE_4_BLOCKED), "A ABCDE"),
+    extreme("four factors in three blocks, 8 repeats, both limits in turn", FOUR_8_BLOCKED, in_turn(FOUR_8_BLOCKED, TOP[3]),
+            "BCD"),
+    extreme("four factors in three blocks, 8 repeats, spread out", FOUR_8_BLOCKED, by_spreading(FOUR_8_BLOCKED), "A BD"),
+]
+
 # Numerators of the extreme tables that are known without adding up: every row but these is 0. Where every reading is at the
 # limit, the total is the most that the rules have. With the signs of effect 728 each factor gives 1 and 4 as its sum and
 # third combination, so 1 * 1 * 2 without its letter and 4 * 4 with it; with those of effect 364 all but 64 of 729 readings
 # are 0; and with those of effect 1 the readings' mean is a third of the limit, so that the mean has a ninth of the total.
 # With repeats the total is the denominator times the number of readings times the limit squared, with seven factors again
-# the most; where both limits take turns no row has any of it.
+# the most; where both limits take turns no row has any of it. In three blocks with one at a limit and two at the other the
+# mean is a third of the limit, and the blocks have all but a ninth of the total.
 KNOWN = {
     "ten factors, all at the upper limit": {"mean": MOST_NUMERATOR[2]},
     "ten factors in 16 blocks, all at the lower limit": {"mean": MOST_NUMERATOR[2]},
@@ -485,6 +594,12 @@ KNOWN = {
     "four factors at three levels, 8 repeats, all at the upper limit": {"mean": 8 * 6 ** 4 * 648 * TOP[3] ** 2},
     "four factors at three levels, 8 repeats, all at the lower limit": {"mean": 8 * 6 ** 4 * 648 * TOP[3] ** 2},
     "four factors at three levels, 8 repeats, both limits in turn": {},
+    "six factors in three blocks, one at the upper limit, two at the lower": {"mean": MOST_NUMERATOR[3] // 9},
+    "six factors in three blocks, at the lower limit, 0 and the upper limit": {},
+    "six factors in three blocks, all at the lower limit": {"mean": MOST_NUMERATOR[3]},
+    "five factors in three blocks, 4 repeats, two at the upper limit, one at the lower":
+        {"mean": 4 * 6 ** 5 * 972 * TOP[3] ** 2 // 9},
+    "four factors in three blocks, 8 repeats, both limits in turn": {},
 }
 
 
@@ -498,6 +613,8 @@ TABLES = (
     + EXTREMES
     + [POTATO_PLOTS, POTATO_BLOCKED, SUGAR_BEET_SINGLE, BEET_PLOTS, DANIEL_BUDS]
     + EXTREMES_REPEATED
+    + [FIRST_Y, FIRST_W, FIRST_X, FIRST_Z, SECOND_Z, SECOND_Y, BOTH_Y, BOTH_Z, BOTH_W, BOTH_X, HAY_I, HAY_J]
+    + EXTREMES_IN_THREE
 )
 
 
@@ -547,6 +664,23 @@ OFF = [
     Off("Yates, sugar beet, single plots", "Table 48", "sum of squares", 0, "0.82", CUT),
     Off("Yates, sugar beet, single plots", "Table 48", "sum of squares", 3, "1.15", "341.52 - 94.47 - 107.80"),
     Off("Yates, sugar beet, single plots", "Table 48", "sum of squares", 4, "1.15", "275.13 - 94.47 - 150.14"),
+    Off("Yates, sugar beet, first replication, in the sets of Y", "Table 56", "sum of squares", 2, "0.52", CUT),
+    Off("Yates, sugar beet, single plots, in the sets of Y", "Table 47", "sum of squares", 1, "0.82", CUT),
+    Off("Yates, sugar beet, single plots, in the sets of Y", "Table 47", "sum of squares", 4, "1.15", CUT),
+    Off("Yates, hay, in the sets of I", "Table 42", "sum of squares", 2, "0.78", CUT),
+    Off("Yates, hay, in the sets of J", "Table 42", "sum of squares", 2, "0.78", CUT),
+]
+
+
+# ---- blocks of several tables ----
+
+# Table 56 has W, X and Z of the first replication; Table 47 W and X, and Y and Z, of both; Table 48 Y and Z from the
+# replications that are not laid out in them.
+TOGETHER = [
+    Together("Table 56", [FIRST_W, FIRST_X, FIRST_Z], "90.36"),
+    Together("Table 47", [BOTH_W, BOTH_X], "94.22", CUT),
+    Together("Table 47", [BOTH_Y, BOTH_Z], "216.84"),
+    Together("Table 48", [SECOND_Y, FIRST_Z], "44.29"),
 ]
 
 
@@ -796,20 +930,53 @@ def pooled_once(column):
     return [first for first, _, _ in sets] + [second + third for _, second, third in sets]
 
 
-def check_rows(own, table):
-    """Rows and their degrees in another way: at two levels the effects themselves, at three the report's pooling."""
+def whole_rows(own, table):
+    """Rows and their degrees in another way: at two levels the effects themselves, at three the report's pooling. Nothing has
+    left them."""
     levels, k, _, _, repeats = own.plan
     column = [totals_rules.numerator(levels, k, effect, total, repeats) for effect, total in enumerate(table.totals)]
     if levels == 3:
         for _ in range(k):
             column = pooled_once(column)
     degrees = [1] * len(column) if levels == 2 else degrees_of_report(k)
-    return [] if table.rows == [table_rules.Part(*pair) for pair in zip(degrees, column)] else ["rows"]
+    return [table_rules.Part(*pair) for pair in zip(degrees, column)]
+
+
+def words_of_row(plan, row):
+    """The words of three levels that use the letters of a row, and no others."""
+    words = range(totals_rules.run_count(3, plan.k))
+    return [word for word in words if not totals_rules.bad_digits(plan.k, word)
+            and table_rules.letters_used(3, plan.k, word) == row]
+
+
+def check_rows(own, table):
+    """Rows and their degrees in another way. In three blocks one row holds the amounts of all other words of its letters, and
+    2 degrees for each of them."""
+    meant, row = whole_rows(own, table), table_rules.word_row(own.plan)
+    if row is not None:
+        others = [word for word in words_of_row(own.plan, row) if word != totals_rules.three_word(own.plan)]
+        meant[row] = table_rules.added_up([table_rules.between_blocks(own.plan._replace(blocks=(word,)), own.readings)
+                                           for word in others])
+    return [] if table.rows == meant else ["rows"]
+
+
+def check_between(own, table):
+    """What has left a row in another way: the squares of the differences of each two block sums, times 2 to the power k. It
+    and what is left are the whole row."""
+    row = table_rules.word_row(own.plan)
+    if row is None:
+        return [] if table.between == (0, 0) else ["blocks without a word"]
+    sums = [block_total(own, number) for number in range(3)]
+    squares = sum((first - second) ** 2 for first, second in combinations(sums, 2))
+    complaints = [] if table.between == table_rules.Part(2, 2 ** own.plan.k * squares) else ["block amount"]
+    if table_rules.added_up([table.rows[row], table.between]) != whole_rows(own, table)[row]:
+        complaints.append("the row that the block amount leaves")
+    return complaints
 
 
 def check_blocks(own, table):
     """Mean and blocks together in another way: the squared sums of the blocks, over their readings."""
-    numbers = range(2 ** len(own.plan.blocks))
+    numbers = range(own.plan.levels ** len(own.plan.blocks))
     readings = Fraction(len(own.readings), len(numbers))
     squares = sum(block_total(own, number) ** 2 for number in numbers)
     meant = table_rules.Part(len(numbers), squares / readings * table.denominator)
@@ -848,15 +1015,19 @@ def check_table(own, table):
     if any(table.totals[effect] != totals_rules.total(levels, k, sums, effect) for effect in spot_effects(own)):
         complaints.append("totals")
     parts = [getattr(table, kind) for kind in table_rules.KINDS]
-    if table_rules.added_up(parts) != table.total or table_rules.added_up(table.rows + [table.within]) != table.total:
+    pieces = table.rows + [table.within, table.between]
+    if table_rules.added_up(parts) != table.total or table_rules.added_up(pieces) != table.total:
         complaints.append("mean, kept, blocks and error do not add up to the total")
     if table.sum_of_totals != table.check_number:
         complaints.append("check numbers")
     if beyond_limits(own, table):
         complaints.append("beyond the limits")
-    if table.error.degrees != sum(table_rules.row_degrees(levels, row) for row in own.marked) + len(own.readings) - len(sums):
+    left = 2 if table_rules.word_row(own.plan) in own.marked else 0
+    marked = sum(table_rules.row_degrees(levels, row) for row in own.marked) - left
+    if table.error.degrees != marked + len(own.readings) - len(sums):
         complaints.append("degrees of error")
-    return complaints + check_rows(own, table) + check_blocks(own, table) + check_within(own, table)
+    return (complaints + check_rows(own, table) + check_blocks(own, table) + check_between(own, table)
+            + check_within(own, table))
 
 
 def check_known(own, table):
@@ -908,6 +1079,17 @@ def check_pooled():
             shown, meant = mended(figure)
             if ">" in figure and wrong_mend(shown, meant) or Fraction(meant) != Fraction(columns[number][place], 10 ** 4):
                 complaints.append("report, 3^4: pooled column %d, place %d: %s" % (number, place, figure))
+    return complaints
+
+
+def check_together():
+    """The printed figures that add up the blocks of several tables."""
+    complaints = []
+    for own in TOGETHER:
+        meant = sum(sum_of_squares(table, table_of(table), table_rules.BLOCKS) for table in own.tables)
+        below, _ = units_below(own.figure, meant)
+        if own.cause == CUT and not Fraction(1, 2) < below < 1 or own.cause is None and abs(below) > Fraction(1, 2):
+            complaints.append("Yates, %s: %s is not %s" % (own.where, own.figure, float(meant)))
     return complaints
 
 
@@ -972,7 +1154,8 @@ def check_arrangement():
 
 def check():
     """List of all complaints about tables."""
-    complaints = check_lists() + check_pooled() + check_sums() + check_pounds() + check_half() + check_arrangement()
+    complaints = (check_lists() + check_pooled() + check_together() + check_sums() + check_pounds() + check_half()
+                  + check_arrangement())
     for own in TABLES:
         complaints += check_worked(own)
     return complaints

@@ -6,7 +6,8 @@
 #
 # Names: a row is a set of base letters, bit 0 for A. There are R rows, 2 to the power k. An effect uses the letters whose
 # digits in its number are not 0. Each row has a mark, 0 or 1, and is of one kind: mean, blocks, error or kept. Rows are
-# those of the run sums. The squares of readings about their run's mean are no row and join the error.
+# those of the run sums. The squares of readings about their run's mean are no row and join the error. Of a three-level plan
+# in blocks the block amount is no row either: it leaves the row of the letters that the word uses and joins the blocks.
 #
 # Defined here:
 #   row_count, row_label, row_number    R, the label of a row, and the row of a label
@@ -15,6 +16,8 @@
 #   row_kinds                           the kind of every row
 #   Part, Table                         a part of a table, and a table
 #   within_runs                         the part of the squares of readings about their run's mean
+#   between_blocks                      the part of the block amount of a three-level plan
+#   word_row, without                   the row of the letters that its word uses, and the rows when that part has left it
 #   table, table_of_totals              the table of readings and marks; the same where the totals are already there
 #   table_answer                        0, or the first of 2 to 8, 16, 11, 12, 13 that applies
 #   estimate                            mean, difference or lost, with the exact quotient; a difference is high minus low
@@ -34,8 +37,9 @@ KINDS = (MEAN, KEPT, BLOCKS, ERROR)
 Part = namedtuple("Part", "degrees numerator")
 
 # mean, kept, blocks, error and total are parts; rows are the parts of the single rows, and kinds their kinds. within is the
-# part of the error that is no row.
-Table = namedtuple("Table", "denominator mean kept blocks error total sum_of_totals check_number totals rows kinds within")
+# part of the error that is no row, and between that of the blocks.
+Table = namedtuple("Table", "denominator mean kept blocks error total sum_of_totals check_number totals rows kinds within "
+                            "between")
 
 
 # ---- rows ----
@@ -77,10 +81,11 @@ def row_numerators(plan, totals):
 
 
 def row_kind(plan, row, mark):
-    """Row 0 is the mean, confounded rows are blocks, rows with mark 1 are error, and mark 0 keeps any other row."""
+    """Row 0 is the mean, confounded rows are blocks, rows with mark 1 are error, and mark 0 keeps any other row. At three
+    levels no row is confounded, and so the row that the block amount leaves is kept or error."""
     if row == 0:
         return MEAN
-    if row in totals_rules.confounded(plan.blocks):
+    if row in totals_rules.confounded(plan):
         return BLOCKS
     return ERROR if mark == 1 else KEPT
 
@@ -106,17 +111,54 @@ def within_runs(plan, readings):
     return Part(totals_rules.run_count(plan.levels, plan.k) * (plan.repeats - 1), int(numerator))
 
 
+def readings_of_blocks(plan, readings):
+    """The readings of each of the three blocks."""
+    blocks = [], [], []
+    for run, own in enumerate(totals_rules.runs_of(plan.repeats, readings)):
+        blocks[totals_rules.block_of(plan, run)].extend(own)
+    return blocks
+
+
+def between_blocks(plan, readings):
+    """The block amount of a three-level plan with a word, over the denominator, with 2 degrees: the sum over blocks of the
+    squared block sum over its number of readings, less the mean's square term. Without a word nothing."""
+    if totals_rules.three_word(plan) is None:
+        return Part(0, 0)
+    squares = sum(Fraction(sum(own) ** 2, len(own)) for own in readings_of_blocks(plan, readings))
+    mean_square_term = Fraction(sum(readings) ** 2, len(readings))
+    numerator = totals_rules.denominator(plan.levels, plan.k, plan.repeats) * (squares - mean_square_term)
+    if numerator.denominator != 1 or numerator < 0:
+        raise ValueError("the block amount, over the denominator, is not whole or is negative: %s" % numerator)
+    return Part(2, int(numerator))
+
+
+def word_row(plan):
+    """The row of the letters that the word of a three-level plan uses; None where there is no word."""
+    word = totals_rules.three_word(plan)
+    return None if word is None else letters_used(plan.levels, plan.k, word)
+
+
+def without(rows, row, part):
+    """The rows when a part has left one of them, which holds the remainder. Raises if that were negative."""
+    left = Part(rows[row].degrees - part.degrees, rows[row].numerator - part.numerator)
+    if left.degrees < 0 or left.numerator < 0:
+        raise ValueError("the remainder is negative: %s" % (left,))
+    return rows[:row] + [left] + rows[row + 1:]
+
+
 def table_of_totals(plan, readings, marks, totals):
     """The table of an accepted plan, its readings and marks, where the totals are already there."""
     levels, k, repeats = plan.levels, plan.k, plan.repeats
     over = totals_rules.denominator(levels, k, repeats)
     rows = [Part(row_degrees(levels, row), numerator) for row, numerator in enumerate(row_numerators(plan, totals))]
-    kinds, within = row_kinds(plan, marks), within_runs(plan, readings)
+    kinds, within, between = row_kinds(plan, marks), within_runs(plan, readings), between_blocks(plan, readings)
+    if word_row(plan) is not None:
+        rows = without(rows, word_row(plan), between)
     of_kind = {kind: added_up([part for part, own in zip(rows, kinds) if own == kind]) for kind in KINDS}
     total = Part(totals_rules.reading_count(plan), over * sum(reading ** 2 for reading in readings))
     check_number = totals_rules.check_number(levels, k, totals_rules.run_sums(repeats, readings))
-    return Table(over, of_kind[MEAN], of_kind[KEPT], of_kind[BLOCKS], added_up([of_kind[ERROR], within]), total,
-                 sum(totals), check_number, totals, rows, kinds, within)
+    return Table(over, of_kind[MEAN], of_kind[KEPT], added_up([of_kind[BLOCKS], between]), added_up([of_kind[ERROR], within]),
+                 total, sum(totals), check_number, totals, rows, kinds, within, between)
 
 
 def table(plan, readings, marks):
@@ -155,7 +197,7 @@ def estimate(plan, effect, total):
 
     The divisors are 2 to the power k and k - 1, times repeats. A difference is negated when the effect has an odd number of
     letters. A total of 0 gives 0."""
-    if effect in totals_rules.confounded(plan.blocks):
+    if effect in totals_rules.confounded(plan):
         return LOST, None
     if effect == 0:
         return MEAN, Fraction(total, 2 ** plan.k * plan.repeats)

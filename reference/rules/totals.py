@@ -8,7 +8,8 @@
 # Names: a plan has levels (2 or 3), k base factors, added factors (word, sign), block words and repeats: each run is made
 # so often. N is levels to the power k. A run or an effect is a number below N whose digits, lowest first, belong to the
 # factors A, B, C and so on; a run's digit is the factor's level, an effect's digit chooses a coefficient row. A word is a
-# set of base letters, bit 0 for A. Readings are N times repeats; totals, steps and passes work on the N run sums.
+# set of base letters, bit 0 for A; but the block word of a three-level plan is a number whose digits to the base 3, lowest
+# first, belong to the factors. Readings are N times repeats; totals, steps and passes work on the N run sums.
 #
 # Defined here:
 #   Plan                                  a plan as a caller hands it in
@@ -27,21 +28,25 @@
 #   divisor, denominator, weight, numerator
 #                                         an effect's part of the sum of squares, in whole numbers
 #   check_number                          what the totals must add up to, from the run sums
-#   letter_count, combine, confounded     words of a plan
+#   letter_count, combine                 words that are sets of letters
+#   letter_words, three_word              the block words of a plan: those of two levels, and that of three
+#   confounded                            the combinations of block words; none at three levels
 #   block_of                              the block of a run
 #   high_letters                          the letters of all factors, base and added, that are high in a run
+#   treatment                             what the run call gives: the letters that are high in a run, and its block
 #   alias                                 the base word of an effect of all factors, and whether its sign turns
 #   foremost                              the first of some checks, in the order of checks, that applies
 #   plan_answer                           the plan check: 0, or the first of 2 to 8 and 16 that applies
 #   pass_answer, step_answer, totals_answer
 #                                         the answers of these calls: 0, or the first number that applies
 #   alias_answer                          the same: 0, or the first of 2 to 8, 16, 9, 10 that applies
+#   run_answer                            the same: 0, or the first of 2 to 8, 16, 10 that applies
 
 from collections import namedtuple
 from fractions import Fraction
 from itertools import combinations
 
-# added is a list of pairs (word, sign), blocks a list of words.
+# added is a list of pairs (word, sign), blocks a list of words, at three levels of numbers.
 Plan = namedtuple("Plan", "levels k added blocks repeats", defaults=((), (), 1))
 
 COEFFICIENTS = {
@@ -51,8 +56,10 @@ COEFFICIENTS = {
 DIVISORS = {2: (2, 2), 3: (3, 2, 6)}
 
 MOST_FACTORS = {2: 10, 3: 6}
-MOST_ADDED = 6
-MOST_BLOCK_WORDS = 4
+
+# The most added factors and block words, by levels.
+MOST_ADDED = {2: 6, 3: 0}
+MOST_BLOCK_WORDS = {2: 4, 3: 1}
 REPEATS = (1, 2, 4, 8)
 MOST_READINGS = 1_024
 
@@ -198,13 +205,28 @@ def combine(words):
     return combined
 
 
-def confounded(blocks):
-    """All combinations of one or more block words."""
+def letter_words(plan):
+    """The block words that are sets of letters, which are those of two levels."""
+    return tuple(plan.blocks) if plan.levels == 2 else ()
+
+
+def three_word(plan):
+    """The block word of a three-level plan, a number; None where there is none."""
+    return plan.blocks[0] if plan.levels == 3 and plan.blocks else None
+
+
+def confounded(plan):
+    """All combinations of one or more block words that are sets of letters."""
+    blocks = letter_words(plan)
     return [combine(chosen) for count in range(1, len(blocks) + 1) for chosen in combinations(blocks, count)]
 
 
 def block_of(plan, run):
-    """The block number of a run: bit j is set when an odd number of the letters of block word j are high."""
+    """The block number of a run: bit j is set when an odd number of the letters of block word j are high. At three levels it
+    is the sum of digit times level, modulo 3, and 0 without a word."""
+    if plan.levels == 3:
+        word = three_word(plan) or 0
+        return sum(digit * level for digit, level in zip(digits(3, plan.k, word), digits(3, plan.k, run))) % 3
     return sum(letter_count(word & run) % 2 << place for place, word in enumerate(plan.blocks))
 
 
@@ -217,6 +239,11 @@ def high_letters(plan, run):
     for place, (word, sign) in enumerate(plan.added, plan.k):
         high |= (letter_count(word & run) + sign) % 2 << place
     return high
+
+
+def treatment(plan, run):
+    """What the run call gives: the letters that are high in a run, none at three levels, and its block."""
+    return 0 if plan.levels == 3 else high_letters(plan, run), block_of(plan, run)
 
 
 def alias(plan, effect):
@@ -235,13 +262,22 @@ def alias(plan, effect):
 # ---- the plan check ----
 
 def too_many(plan):
-    """Refusal 4: over 6 added factors, over 4 block words, or either at three levels."""
-    return (len(plan.added) > MOST_ADDED or len(plan.blocks) > MOST_BLOCK_WORDS
-            or plan.levels == 3 and bool(plan.added or plan.blocks))
+    """Refusal 4: over 6 added factors or over 4 block words; at three levels an added factor or a second block word."""
+    return len(plan.added) > MOST_ADDED[plan.levels] or len(plan.blocks) > MOST_BLOCK_WORDS[plan.levels]
+
+
+def bad_digits(k, word):
+    """Whether a word breaks the digit rule: it is a number to the base 3 of k digits, A's the lowest, with at least two digits
+    that are not 0, the lowest of these 1."""
+    used = [digit for digit in digits(3, k, word) if digit]
+    return word >= 3 ** k or len(used) < 2 or used[0] != 1
 
 
 def bad_word(plan):
-    """Refusal 5: a letter beyond k, an added word under two letters, a sign over 1, an empty block word."""
+    """Refusal 5: a letter beyond k, an added word under two letters, a sign over 1, an empty block word. At three levels only
+    a word that breaks the digit rule."""
+    if plan.levels == 3:
+        return any(bad_digits(plan.k, word) for word in plan.blocks)
     words = [word for word, _ in plan.added] + list(plan.blocks)
     return (any(word >> plan.k for word in words)
             or any(letter_count(word) < 2 or sign > 1 for word, sign in plan.added)
@@ -249,20 +285,20 @@ def bad_word(plan):
 
 
 def equal_added(plan):
-    """Refusal 6: two added factors with one word."""
+    """Refusal 6: two added factors with one word. At three levels there are none."""
     words = [word for word, _ in plan.added]
     return len(set(words)) < len(words)
 
 
 def dependent_blocks(plan):
-    """Refusal 7: some one or more block words combine to the empty word."""
-    return 0 in confounded(plan.blocks)
+    """Refusal 7: some one or more block words combine to the empty word. Not at three levels."""
+    return 0 in confounded(plan)
 
 
 def lost_factor(plan):
-    """Refusal 8: a confounded effect is one letter or an added factor's word."""
+    """Refusal 8: a confounded effect is one letter or an added factor's word. Not at three levels."""
     added = [word for word, _ in plan.added]
-    return any(letter_count(word) == 1 or word in added for word in confounded(plan.blocks))
+    return any(letter_count(word) == 1 or word in added for word in confounded(plan))
 
 
 def bad_repeats(plan):
@@ -330,3 +366,8 @@ def alias_answer(plan, effect):
     """The alias call: 2 to 8, 16, 9, 10, or 0."""
     return foremost(plan_checks(plan) + [(9, lambda: plan.levels == 3),
                                          (10, lambda: bool(effect >> plan.k + len(plan.added)))])
+
+
+def run_answer(plan, run):
+    """The run call, at either level count: 2 to 8, 16, 10, or 0."""
+    return foremost(plan_checks(plan) + [(10, lambda: run >= run_count(plan.levels, plan.k))])

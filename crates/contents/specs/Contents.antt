@@ -24,7 +24,7 @@ use Rattle.fields.specs.Fields.{Fields, bodies, bodyAt}
 abbrev pub byteAt : ℕ → List ℕ → ℕ
 byteAt i body = getD body i 0
 
--- S5, S6: "the word": the first two bytes of a body
+-- S5, S6: "the word": the first two bytes of a body, for a set of letters (P6) as for the number of a three-level plan (P14)
 abbrev pub wordIn : List ℕ → ℕ
 wordIn body = big (byteAt 0 body ∷ byteAt 1 body ∷ [])
 

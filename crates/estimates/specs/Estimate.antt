@@ -86,7 +86,7 @@ abbrev pub totalLimit : Plan → ℕ
 totalLimit p = 2 ^ p .k * runLimit p
 
 -- L8: "the estimate 9, 10, 12"
--- N9: "estimate, alias or run call asked at three levels"; N10: "[..] estimate's letter not a base factor";
+-- N9: "estimate, alias [..] asked at three levels"; N10: "[..] estimate's letter not a base factor";
 -- N12: "estimate's total beyond its limit"
 abbrev pub estimateRefusals : Plan → ℕ → ℤ → List Refusal
 estimateRefusals p e t = refusal 9 (eqb (p .levels) 3) ∷ refusal 10 (beyond (p .k) e) ∷ refusal 12 (isBeyond (totalLimit p) t) ∷ []

@@ -1,7 +1,8 @@
-// Tries the table call on plans, readings and marks that it refuses and on large readings that it accepts, the estimate call and the alias call,
-// and the rows, divisors and weights of effects, by the records of its input. `reference/cases/answers.py` makes the input and the text that this
-// program must write, and says how both are laid out.
+// Tries the table call on plans, readings and marks that it refuses and on large readings that it accepts, the estimate, the alias and the run
+// call, and the rows, divisors and weights of effects, by the records of its input. `reference/cases/answers.py` makes the input and the text that
+// this program must write, and says how both are laid out.
 mod estimated;
+mod placed;
 mod reduced;
 mod tabled;
 mod text;
@@ -11,12 +12,13 @@ use contents::plan_in;
 use estimated::try_estimate;
 use fields::body;
 use numerals::byte;
+use placed::try_run;
 use reduced::try_alias;
 use tabled::try_table;
 use text::print;
 use weighed::try_effects;
 
-// Field 9 is the call, a byte, and what else it takes: 1 is the table, 2 the estimate, 3 the alias, 4 the effects.
+// Field 9 is the call, a byte, and what else it takes: 1 is the table, 2 the estimate, 3 the alias, 4 the effects, 5 the run.
 fn work(number: u64, record: &[u8]) {
     io::print_decimal(1, number);
     print(b":");
@@ -29,8 +31,10 @@ fn work(number: u64, record: &[u8]) {
         try_estimate(p, rest);
     } else if call == 3 {
         try_alias(p, rest);
-    } else {
+    } else if call == 4 {
         try_effects(p);
+    } else {
+        try_run(p, rest);
     }
 }
 

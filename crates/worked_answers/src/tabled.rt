@@ -9,7 +9,7 @@ use fields::body;
 use plan::Plan;
 
 // The most totals and rows, and the most readings.
-const MOST: usize = 8;
+const MOST: usize = 9;
 
 const MOST_READINGS: usize = 32;
 
@@ -31,7 +31,7 @@ fn is_kept(totals: &[i64; MOST], rows: &[u64; MOST]) -> bool {
 
 // Lends the readings, and so many totals and rows.
 fn try_lent(p: Plan, body: &[u8], readings: &mut [i32], marks: &[u8], n: usize, r: usize)
-    requires { ⌜ (n ≤ 8) × (r ≤ 8) ⌝ }
+    requires { ⌜ (n ≤ 9) × (r ≤ 9) ⌝ }
 {
     put_readings(body, readings);
     let mut totals = [TOTAL_BEFORE; MOST];
@@ -47,7 +47,7 @@ fn try_lent(p: Plan, body: &[u8], readings: &mut [i32], marks: &[u8], n: usize, 
     }
 }
 
-// Lends so many totals and rows, at most eight of each, and the readings and marks of the record.
+// Lends so many totals and rows, at most nine of each, and the readings and marks of the record.
 pub fn try_table(p: Plan, record: &[u8], totals: u8, rows: u8) {
     let readings = body(record, 4, 0);
     let count = readings.len() / 4;
@@ -61,7 +61,7 @@ pub fn try_table(p: Plan, record: &[u8], totals: u8, rows: u8) {
         readings,
         &mut column[..count],
         marks,
-        (totals % 9) as usize,
-        (rows % 9) as usize,
+        (totals % 10) as usize,
+        (rows % 10) as usize,
     );
 }

@@ -1,11 +1,14 @@
-// Prints the blocks of the plans of AMCP 706-112, Table 12-3, and the runs and aliases of those of its Table 12-4, by the run and alias
-// calls. `reference/published/amcp.py` has the figures that the tables print, and makes of them the text that this program must write.
+// Prints the blocks of the plans of AMCP 706-112, Table 12-3, the runs and aliases of those of its Table 12-4, and the blocks of those of
+// Yates's Table 43, by the run and alias calls. `reference/published/amcp.py` and `reference/published/yates.py` have the figures that the
+// tables print, and make of them the text that this program must write.
 mod blocked;
 mod fractional;
+mod grouped;
 mod text;
 
 use blocked::print_blocked;
 use fractional::print_fractional;
+use grouped::print_group;
 
 // The plans of Table 12-3: factors, the plan's number among those of as many factors, and its block words, the lowest bit for A.
 fn blocked_to_five() {
@@ -62,8 +65,21 @@ fn fractional_to_eight() {
     print_fractional(8, 4, 16, 4, [0b111, 0b1110, 0b1011, 0b1101, 0, 0]);
 }
 
+// The groups of Table 43: the name, and the word.
+fn groups_of_three_levels() {
+    // A, B squared, C squared
+    print_group(b"W:", 25);
+    // A, B squared, C
+    print_group(b"X:", 16);
+    // A, B, C squared
+    print_group(b"Y:", 22);
+    // A, B, C
+    print_group(b"Z:", 13);
+}
+
 fn main() {
     blocked_to_five();
     blocked_to_seven();
     fractional_to_eight();
+    groups_of_three_levels();
 }

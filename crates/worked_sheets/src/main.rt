@@ -14,7 +14,7 @@ use text::print;
 // The most places that are lent, and the most bytes of the input.
 const MOST: usize = 1100;
 
-const MOST_INPUT: usize = 196608;
+const MOST_INPUT: usize = 262144;
 
 fn work(bytes: &[u8], column: &mut [i32]) {
     fill(column);

@@ -4,6 +4,8 @@
 --   sample-written, sample-plan, sample-column, sample-marks    it is written so, and what both calls give of it
 --   narrow          a column that is too short for it
 --   twice-written   the sheet of runs that are made twice
+--   blocks-written  the sheet of a three-level plan with a block word
+--   largest-back    the largest such word is read back
 --   refusedSheets, small-inputs    the small input of each refusal that a sheet can show
 --   no-marks        the marks call gives an empty part of each of these
 use mathlib.Core.Path.{_≡_, refl}
@@ -19,7 +21,7 @@ use Rattle.contrasts.specs.Limits.{twoReadingLimit, threeReadingLimit, mostTwo,
 use Rattle.contrasts.specs.Factors.{two, three}
 use Rattle.contrasts.specs.Totals.{size}
 use Rattle.words.specs.Words.{letters, beyond, times, combined, any, among, repeated}
-use Rattle.plan.specs.Check.{badLevels, badFactors, badCounts, badWord, badSign, badWords, dependent, factorWord, losesFactor, badRepeats, planRefused, withPlan}
+use Rattle.plan.specs.Check.{badLevels, badFactors, badCounts, badWord, badSign, badDigits, usedDigits, lowestDigit, badWords, dependent, factorWord, losesFactor, badRepeats, planRefused, withPlan}
 use Rattle.plan.specs.Limits.{readingLimit, isBeyond}
 use Rattle.plan.specs.Examples.{AB, ABC, C, plan, made}
 use Rattle.plan.specs.Plan.{factorsOf, someCombination, combinesTo}
@@ -29,7 +31,7 @@ use Rattle.numerals.specs.Numbers.{big, twos}
 use Rattle.fields.specs.Fields.{parse, fieldsOf, bodies, bodyAt}
 use Rattle.fields.specs.Tags.{badFrom, badFields}
 use Rattle.contents.specs.Contents.{needless, planIn, readingAt, readingsOf}
-use Rattle.sheet.specs.Examples.{twice}
+use Rattle.sheet.specs.Examples.{twice, nine, inBlocks}
 use Rattle.sheet.specs.Sheet.{refusedWith, readRefused, noPlan, readPlan, readColumn, marksRefused, marksOf}
 use Rattle.writing.specs.Writer.{bytes, bytesOf, each, readingBytes, sheetFields, sheetOf}
 
@@ -70,13 +72,25 @@ twice-written : sheetOf (made 2 (plan 2 1 [] [] [])) four (0 ∷ 0 ∷ []) ≡ t
 unfolding sheetOf sheetFields bytesOf each readingBytes bytes
 twice-written = refl
 
+-- P14, S6: tag 3 holds the number as it holds a set of letters; the row of the letters used is marked (V19). What both calls give of this sheet
+-- stands beside `inBlocks`.
+blocks-written : sheetOf (plan 3 2 [] [] (4 ∷ [])) (map pos nine) (0 ∷ 0 ∷ 0 ∷ 1 ∷ []) ≡ inBlocks
+unfolding sheetOf sheetFields bytesOf each readingBytes bytes
+blocks-written = refl
+
+-- P15: the largest number of six digits that keeps the digit rule, AB2C2D2E2F2, takes both bytes
+largest-back : planIn (sheetFields (plan 3 6 [] [] (727 ∷ [])) [] []) ≡ plan 3 6 [] [] (727 ∷ [])
+unfolding sheetFields each bytes planIn big bodies bodyAt tabFrom
+largest-back = refl
+
 -- N1 to N8, N11 to N13: the small inputs; seven added factors; N16: runs made three times; S15: N readings of runs made twice
+-- P15, N5: at three levels a word whose lowest digit is 2; N13: mark 2 on the row of the word's letters
 abbrev refusedSheets : List (List ℕ)
 refusedSheets =
     []
     ∷ sheetOf (plan 4 1 [] [] []) four (0 ∷ 0 ∷ [])
     ∷ sheetOf (plan 3 7 [] [] []) four (0 ∷ 0 ∷ [])
-    ∷ sheetOf (plan 3 2 [] [] (AB ∷ [])) four (0 ∷ 0 ∷ [])
+    ∷ sheetOf (plan 3 2 [] [] (4 ∷ 7 ∷ [])) four (0 ∷ 0 ∷ [])
     ∷ sheetOf (plan 2 2 [] [] (C ∷ [])) four (0 ∷ 0 ∷ [])
     ∷ sheetOf (plan 2 3 (AB ∷ AB ∷ []) (0 ∷ 0 ∷ []) []) four (0 ∷ 0 ∷ [])
     ∷ sheetOf (plan 2 3 [] [] (AB ∷ AB ∷ [])) four (0 ∷ 0 ∷ [])
@@ -87,13 +101,15 @@ refusedSheets =
     ∷ sheetOf (plan 2 4 (replicate 7 AB) (replicate 7 0) []) four (0 ∷ 0 ∷ [])
     ∷ sheetOf (made 3 (plan 2 1 [] [] [])) four (0 ∷ 0 ∷ [])
     ∷ sheetOf (made 2 (plan 2 2 [] [] [])) four (0 ∷ 0 ∷ 0 ∷ 0 ∷ [])
+    ∷ sheetOf (plan 3 2 [] [] (5 ∷ [])) (map pos nine) (0 ∷ 0 ∷ 0 ∷ 0 ∷ [])
+    ∷ sheetOf (plan 3 2 [] [] (4 ∷ [])) (map pos nine) (0 ∷ 0 ∷ 0 ∷ 2 ∷ [])
     ∷ []
 
-small-inputs : map (λ sheet. readRefused sheet 8) refusedSheets ≡ 1 ∷ 2 ∷ 3 ∷ 4 ∷ 5 ∷ 6 ∷ 7 ∷ 8 ∷ 11 ∷ 12 ∷ 13 ∷ 4 ∷ 16 ∷ 11 ∷ []
-unfolding sheetOf sheetFields bytesOf each readingBytes bytes readRefused refusedWith needless planIn readingsOf readingAt twos big fieldsOf parse bodies bodyAt badFields badFrom wrongReadings wrongRows anyBeyond isBeyond badMarks badMark withPlan planRefused badLevels badFactors mostTwo mostThree badCounts badWords badWord badSign repeated dependent losesFactor factorWord badRepeats isRepeats mostReadings any among beyond letters combined times someCombination combinesTo some bits Σℕ readingLimit twoReadingLimit threeReadingLimit factorsOf size two three tabFrom
+small-inputs : map (λ sheet. readRefused sheet 9) refusedSheets ≡ 1 ∷ 2 ∷ 3 ∷ 4 ∷ 5 ∷ 6 ∷ 7 ∷ 8 ∷ 11 ∷ 12 ∷ 13 ∷ 4 ∷ 16 ∷ 11 ∷ 5 ∷ 13 ∷ []
+unfolding sheetOf sheetFields bytesOf each readingBytes bytes readRefused refusedWith needless planIn readingsOf readingAt twos big fieldsOf parse bodies bodyAt badFields badFrom wrongReadings wrongRows anyBeyond isBeyond badMarks badMark withPlan planRefused badLevels badFactors mostTwo mostThree badCounts badWords badWord badSign badDigits usedDigits lowestDigit repeated dependent losesFactor factorWord badRepeats isRepeats mostReadings any among beyond letters combined times someCombination combinesTo some bits Σℕ readingLimit twoReadingLimit threeReadingLimit factorsOf size two three tabFrom
 small-inputs = refl
 
 -- S13: "if the sheet is refused, an empty part"; of `sample`, which only a narrow column has refused, it gives the marks all the same
-no-marks : map marksOf refusedSheets ≡ replicate 14 []
-unfolding sheetOf sheetFields bytesOf each readingBytes bytes marksOf marksRefused refusedWith needless planIn readingsOf readingAt twos big fieldsOf parse bodies bodyAt badFields badFrom wrongReadings wrongRows anyBeyond isBeyond badMarks badMark withPlan planRefused badLevels badFactors mostTwo mostThree badCounts badWords badWord badSign repeated dependent losesFactor factorWord badRepeats isRepeats mostReadings any among beyond letters combined times someCombination combinesTo some bits Σℕ readingLimit twoReadingLimit threeReadingLimit factorsOf size two three tabFrom
+no-marks : map marksOf refusedSheets ≡ replicate 16 []
+unfolding sheetOf sheetFields bytesOf each readingBytes bytes marksOf marksRefused refusedWith needless planIn readingsOf readingAt twos big fieldsOf parse bodies bodyAt badFields badFrom wrongReadings wrongRows anyBeyond isBeyond badMarks badMark withPlan planRefused badLevels badFactors mostTwo mostThree badCounts badWords badWord badSign badDigits usedDigits lowestDigit repeated dependent losesFactor factorWord badRepeats isRepeats mostReadings any among beyond letters combined times someCombination combinesTo some bits Σℕ readingLimit twoReadingLimit threeReadingLimit factorsOf size two three tabFrom
 no-marks = refl

@@ -1,7 +1,7 @@
 -- What the law of the round trip asks and says: that a sheet which is written from a plan, readings and marks is read back as the same.
 --
 --   AllBytes bs             each number is below 256
---   Shaped p                the plan's arrays have their places, and its words 16 letters
+--   Shaped p                the plan's arrays have their places, and its words 16 bits
 --   Clean p                 the plan has 0 at the places beyond its counts
 --   Sheetable p xs marks    an accepted plan, readings within the limit and lawful marks
 --   ReadBack                what both calls give of the sheet that is written from them
@@ -24,7 +24,8 @@ abbrev pub AllBytes : List ℕ → Type 0
 AllBytes [] = Unit
 AllBytes (b ∷ bs) = (b < 256) × AllBytes bs
 
--- P6: "A word is a 16-bit set of base letters"; P3: 6 places for added factors, 4 for block words
+-- P6: "A word is a 16-bit set of base letters"; P14, P15: the block word of a three-level plan is "a number in base 3", in the same 16 bits
+-- P3: 6 places for added factors, 4 for block words
 pub record Shaped (p : Plan) : Type 0 where
   pub words-long : length (p .words) ≡ 6
   pub signs-long : length (p .signs) ≡ 6

@@ -50,7 +50,7 @@ readingBytes (x ∷ xs) = bytes 4 (complement x) ++ readingBytes xs
 abbrev pub addedBody : Plan → ℕ → List ℕ
 addedBody p i = bytes 2 (getD (p .words) i 0) ++ (getD (p .signs) i 0 ∷ [])
 
--- S6: "the word"
+-- S6: "the word": its 16 bits, for a set of letters (P6) as for the number of a three-level plan (P14)
 abbrev pub blockBody : Plan → ℕ → List ℕ
 blockBody p i = bytes 2 (getD (p .blockwords) i 0)
 

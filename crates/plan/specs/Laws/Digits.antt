@@ -7,6 +7,7 @@
 --   Adding, adding, one-added, added-up                 the loop that adds up digit times level
 --   product-few                                         each product is small
 --   digits-known                                        what the digit rule says of a word that keeps it
+--   too-large, too-few, by-lowest                       how code comes to it
 --   letters-used                                        such a word uses letters: its row is not row 0
 use mathlib.Core.Path.{_≡_, refl, sym, _∙_, ap}
 use mathlib.Core.Bool.{Bool, true, false, cond, not, _||_}
@@ -16,7 +17,7 @@ use native.Mathlib.Numerals.{add-one}
 use native.Mathlib.Omega.{arith}
 use lib.Dec.{eqb, leb, ltb}
 use lib.ListN.{replicate}
-use borrow.Author.Tests.{eq-eqb, ne-eqb, eqb-true, leb-false, ltb-false, not-false}
+use borrow.Author.Tests.{le-leb, lt-leb, lt-ltb, le-ltb, eq-eqb, ne-eqb, eqb-true, leb-false, ltb-false, not-false}
 use Rattle.algebra.specs.Laws.Tests.{neither}
 use Rattle.contrasts.specs.Factors.{three}
 use Rattle.contrasts.specs.Rows.{rowOf}
@@ -163,6 +164,23 @@ digits-known k w e =
     let a = neither (leb (3 ^ k) w) (ltb (usedDigits k w) 2 || not (eqb (lowestDigit k w) 1)) e in
     let b = neither (ltb (usedDigits k w) 2) (not (eqb (lowestDigit k w) 1)) (a .1) in
     (leb-false (3 ^ k) w (a .0), ltb-false (usedDigits k w) 2 (b .0), eqb-true (lowestDigit k w) 1 (not-false (eqb (lowestDigit k w) 1) (b .1)))
+
+module _ (k w : ℕ) {n : ℕ} (power : n ≡ 3 ^ k) where
+  pub too-large : n ≤ w → true ≡ badDigits k w
+  unfolding badDigits
+  too-large h = rw (le-leb (3 ^ k) w (omega (arith, power, h))) refl
+
+  module _ (h : w < n) {m : ℕ} (used : m ≡ usedDigits k w) where
+    inside : leb (3 ^ k) w ≡ false
+    inside = lt-leb (3 ^ k) w (omega (arith, power, h))
+
+    pub too-few : m < 2 → true ≡ badDigits k w
+    unfolding badDigits
+    too-few l = rw (inside, lt-ltb (usedDigits k w) 2 (omega (arith, used, l))) refl
+
+    pub by-lowest : 2 ≤ m → {d : ℕ} → d ≡ lowestDigit k w → not (eqb d 1) ≡ badDigits k w
+    unfolding badDigits
+    by-lowest l e = rw (inside, le-ltb (usedDigits k w) 2 (omega (arith, used, l)), e) refl
 
 some-letter : (k w : ℕ) → 0 < usedDigits k w → 0 < rowOf (replicate k three) w
 unfolding usedDigits rowOf three

@@ -11,7 +11,7 @@ use Rattle.runs.specs.Run.{runRefused, runValues}
 module _ {p q : Plan} (a : Alike p q) (r : ℕ) where
   pub same-refused : runRefused p r ≡ runRefused q r
   unfolding runRefused withPlan
-  same-refused = rw (same-plan-refused a, same-factors a, a .levels) refl
+  same-refused = rw (same-plan-refused a, same-factors a) refl
 
   pub same-values : runValues p r ≡ runValues q r
-  same-values = rw (a .words, a .signs, a .blockwords, a .k) refl
+  same-values = rw (a .words, a .signs, a .blockwords, a .numbers, same-factors a, a .levels, a .k) refl

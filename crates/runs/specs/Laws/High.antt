@@ -5,7 +5,7 @@
 --   high-at                  each letter of the set of high letters
 --   high-base, high-added    a base letter in it, and the letter of an added factor
 --   high-turned              an added factor is high by the parity of its word, turned where its sign is 1
---   run-two                  of an accepted plan of two levels only refusal 10 is left
+--   run-two, values-two      of an accepted plan of two levels only refusal 10 is left, and the answer is by letters
 use mathlib.Core.Path.{_≡_, refl, sym, _∙_}
 use mathlib.Core.Bool.{cond, not}
 use mathlib.Core.List.{List}
@@ -18,9 +18,9 @@ use Rattle.algebra.specs.Bits.{bits}
 use Rattle.algebra.specs.Laws.Bits.{bits-at, bits-all, bits-cong}
 use Rattle.words.specs.Words.{has, oddIn}
 use Rattle.plan.specs.declared.types.Plan.{Plan}
-use Rattle.plan.specs.Plan.{runsOf}
+use Rattle.plan.specs.Plan.{addedWords, addedSigns, blockWords, runsOf}
 use Rattle.plan.specs.Check.{planRefused}
-use Rattle.runs.specs.Run.{highBy, highIn, highLetters, runRefused}
+use Rattle.runs.specs.Run.{highBy, highIn, highLetters, blockNumber, runValues, runRefused}
 use Rattle.plan.specs.Laws.Sizes.{two-levels, runs-two}
 use Rattle.plan.specs.Laws.Answers.{after-plan}
 
@@ -55,4 +55,8 @@ unfolding runRefused
 run-two p r z t =
     let e : p .levels ≡ 2 = two-levels p z t in
     let n : runsOf p ≡ 2 ^ p .k = runs-two p e in
-    after-plan p _ z ∙ rw (ne-eqb (p .levels) 3 t, n) refl
+    after-plan p _ z ∙ rw n refl
+
+pub values-two : (p : Plan) (r : ℕ) → (p .levels ≡ 3 → ⊥)
+    → runValues p r ≡ (highLetters (p .k) (addedWords p) (addedSigns p) r, blockNumber (blockWords p) r)
+values-two p r t = rw (ne-eqb (p .levels) 3 t) refl

@@ -20,6 +20,8 @@ use lib.Seq.{length-take-le, getD-take}
 use Rattle.algebra.specs.Tab.{tab}
 use Rattle.algebra.specs.Laws.Tab.{length-tab, getD-tab, is-tab, tab-cong}
 use Rattle.plan.specs.declared.types.Plan.{Plan}
+use Rattle.plan.specs.Plan.{wordCount, numberCount}
+use Rattle.plan.specs.Laws.Words.{counts-few}
 use Rattle.plan.specs.Laws.Alike.{Alike}
 use Rattle.numerals.specs.Numbers.{big}
 use Rattle.fields.specs.Fields.{Fields, end, field, bodies, bodyAt}
@@ -32,29 +34,34 @@ use Rattle.writing.specs.RoundTrip.{Shaped, Clean}
 
 -- ---- 0 beyond the counts
 
-front : (m n : ℕ) (ws : List ℕ) → length ws ≡ m → n ≤ m → take n (tab m (λ i. cond (ltb i n) (getD ws i 0) 0)) ≡ take n ws
-front m n ws l h =
-    is-tab 0 (take n (tab m upto)) n (λ i. getD ws i 0) (length-take-le n (tab m upto) (rw (length-tab m upto) h)) so
-    ∙ sym (is-tab 0 (take n ws) n (λ i. getD ws i 0) (length-take-le n ws (rw l h)) (λ i k. getD-take n ws i 0 k))
+-- a list with 0 put from place n on keeps its first c places, where c is n or fewer
+front : (m n c : ℕ) (ws : List ℕ) → length ws ≡ m → n ≤ m → c ≤ n → take c (tab m (λ i. cond (ltb i n) (getD ws i 0) 0)) ≡ take c ws
+front m n c ws l h f =
+    is-tab 0 (take c (tab m upto)) c (λ i. getD ws i 0) (length-take-le c (tab m upto) (rw (length-tab m upto) (omega arith))) so
+    ∙ sym (is-tab 0 (take c ws) c (λ i. getD ws i 0) (length-take-le c ws (rw l (omega arith))) (λ i k. getD-take c ws i 0 k))
   where
     upto : ℕ → ℕ
     upto i = cond (ltb i n) (getD ws i 0) 0
 
-    so : (i : ℕ) → i < n → getD (take n (tab m upto)) i 0 ≡ getD ws i 0
-    so i k = getD-take n (tab m upto) i 0 k ∙ getD-tab 0 m upto i (omega arith) ∙ rw (lt-ltb i n k) refl
+    so : (i : ℕ) → i < c → getD (take c (tab m upto)) i 0 ≡ getD ws i 0
+    so i k = getD-take c (tab m upto) i 0 k ∙ getD-tab 0 m upto i (omega arith) ∙ rw (lt-ltb i n (omega arith)) refl
 
+-- P14: at two levels all block words are sets of letters, at three they are numbers; either way they are the first of the plan's own
 pub settled-alike : (p : Plan) → Shaped p → p .added ≤ 6 → p .blocks ≤ 4 → Alike (settled p) p
 unfolding settled
-settled-alike p s h k = record {
-  levels = refl;
-  k = refl;
-  added = refl;
-  words = front 6 (p .added) (p .words) (s .words-long) h;
-  signs = front 6 (p .added) (p .signs) (s .signs-long) h;
-  blocks = refl;
-  blockwords = front 4 (p .blocks) (p .blockwords) (s .blockwords-long) k;
-  repeats = refl;
-}
+settled-alike p s h k =
+    let few = counts-few p (p .blocks) (omega arith) in
+    record {
+      levels = refl;
+      k = refl;
+      added = refl;
+      words = front 6 (p .added) (p .added) (p .words) (s .words-long) h (omega arith);
+      signs = front 6 (p .added) (p .added) (p .signs) (s .signs-long) h (omega arith);
+      blocks = refl;
+      blockwords = front 4 (p .blocks) (wordCount p) (p .blockwords) (s .blockwords-long) k (few .0);
+      numbers = front 4 (p .blocks) (numberCount p) (p .blockwords) (s .blockwords-long) k (few .1);
+      repeats = refl;
+    }
 
 stays : (m n : ℕ) (ws : List ℕ) → length ws ≡ m → ((i : ℕ) → n ≤ i → getD ws i 0 ≡ 0) → tab m (λ i. cond (ltb i n) (getD ws i 0) 0) ≡ ws
 stays m n ws l h = sym (is-tab 0 ws m (λ i. cond (ltb i n) (getD ws i 0) 0) l (λ i k. by i (decLt i n)))
