@@ -46,7 +46,7 @@ abbrev pub aliasValues : Plan → ℕ → ℕ × Bool
 aliasValues p e = (baseWord (p .k) (addedWords p) e, turned (p .k) (addedWords p) (addedSigns p) e)
 
 -- L7: "the run and alias calls 9, 10"
--- N9: "estimate, alias or run call asked at three levels"; N10: "alias letter [..] not in the plan"
+-- N9: "estimate, alias [..] asked at three levels"; N10: "alias letter [..] not in the plan"
 abbrev pub aliasRefusals : Plan → ℕ → List Refusal
 aliasRefusals p e = refusal 9 (eqb (p .levels) 3) ∷ refusal 10 (beyond (allLetters p) e) ∷ []
 

@@ -3,7 +3,7 @@
 --   readings-ready        the run sums can be passed over
 --   totals-made           the totals, as the passes leave them
 --   walk-ready            the walk stays within its slices, and no sum wraps
---   sums-made, rows-made  what it leaves are the sums of the table, and its rows
+--   sums-made, rows-made  what it leaves are the sums of the effects, and their rows
 use mathlib.Core.Path.{_≡_, refl, _∙_}
 use mathlib.Core.List.{List}
 use Prim.Native.Nat.{ℕ, _<_}
@@ -20,9 +20,9 @@ use Rattle.walks.specs.declared.types.Sums.{Sums}
 use Rattle.walks.specs.After.{rowsAfter, sumsAfter}
 use Rattle.walks.specs.Ready.{PlanWalkable}
 use Rattle.walks.specs.Laws.After.{rows-agree, sums-agree}
+use Rattle.anova.specs.Inner.Effects.{rowsByEffects}
 use Rattle.anova.specs.Laws.Admitted.{TableReady, sums-ready}
 use Rattle.anova.specs.Laws.After.{rows-after-all, total-read, table-walkable}
-use Rattle.anova.specs.Table.{rowsOf}
 
 module _ {p : Plan} {readings : List ℤ} {marks : List ℕ} {totals : List ℤ} {rows : List ℕ} (a : TableReady p readings marks totals rows) where
   abbrev sums : List ℤ
@@ -46,5 +46,5 @@ module _ {p : Plan} {readings : List ℤ} {marks : List ℕ} {totals : List ℤ}
     pub sums-made : {s : Sums} → s ≡ sumsAfter p (read ts) marks (runsOf p) → s ≡ sumsAfter p (total (factorsOf p) (read sums)) marks (runsOf p)
     sums-made e = e ∙ sums-agree p total-is marks
 
-    pub rows-made : {zs : List ℕ} → zs ≡ rowsAfter p (read ts) (runsOf p) → zs ≡ rowsOf p sums
+    pub rows-made : {zs : List ℕ} → zs ≡ rowsAfter p (read ts) (runsOf p) → zs ≡ rowsByEffects p sums
     rows-made e = e ∙ rows-agree p total-is ∙ rows-after-all p sums

@@ -6,7 +6,8 @@
 --   Spread     the squares of readings about their run's mean
 --   Judged     what is refused
 --   Formed     what is handed to the walk, and what it makes
---   Made       the figures
+--   Made       the figures by effects
+--   Moved      the block amount of a three-level plan
 pub mod Rounded
 pub mod Squared
 pub mod Spread
@@ -14,3 +15,4 @@ pub mod Checked
 pub mod Judged
 pub mod Formed
 pub mod Made
+pub mod Moved

@@ -1,4 +1,4 @@
--- What the table call hands to the squares, the check and the sums, and the figures that it makes of what they give.
+-- What the table by its effects hands to the squares, the check and the sums, and the figures that it makes of what they give.
 --
 --   squares-ready                 the sum of squared readings
 --   spread-ready                  the squares of readings about their run's mean
@@ -40,13 +40,14 @@ use Rattle.rows.specs.Laws.Rows.{rows-few}
 use Rattle.walks.specs.declared.types.Sums.{Sums}
 use Rattle.walks.specs.After.{sumsAfter}
 use Rattle.anova.specs.declared.types.Figures.{Figures}
+use Rattle.anova.specs.Inner.Effects.{effectSource, effectFigures}
 use Rattle.anova.specs.Inner.Figures.{lineIn, figuresFrom}
 use Rattle.anova.specs.Inner.Ready.{SquaresFit, RunSquares, Checkable, Joinable, Figurable}
 use Rattle.anova.specs.Inner.Readings.{aboutMeans}
 use Rattle.anova.specs.Laws.Admitted.{TableReady, sums-ready}
 use Rattle.anova.specs.Laws.After.{numerator-after-all, degrees-after-all, totals-after-all}
-use Rattle.anova.specs.Laws.Within.{fit, kind-within, total-source-within, within-source-within, error-within}
-use Rattle.anova.specs.Table.{sourceOf, withinSource, joined, totalSource, checksOf, tableFigures}
+use Rattle.anova.specs.Laws.Within.{fit, effect-within, total-source-within, within-source-within, effect-error-within}
+use Rattle.anova.specs.Table.{withinSource, joined, totalSource, checksOf}
 
 module _ {p : Plan} {readings : List ℤ} {marks : List ℕ} {totals : List ℤ} {rows : List ℕ} (a : TableReady p readings marks totals rows) where
   abbrev sums : List ℤ
@@ -81,7 +82,7 @@ module _ {p : Plan} {readings : List ℤ} {marks : List ℕ} {totals : List ℤ}
       }
 
   pub on-used : {ts : List ℤ} → length ts ≡ length totals → TableReady p readings marks ts rows
-  on-used e = record { plan = a .plan; whole = a .whole; same = e ∙ a .same; rows-long = a .rows-long; within = a .within }
+  on-used e = record { plan = a .plan; whole = a .whole; same = e ∙ a .same; rows-long = a .rows-long; marks-long = a .marks-long; within = a .within }
 
   pub column-long : {ts : List ℤ} → ts ≡ totalsOf (factorsOf p) sums → length ts ≡ length totals
   unfolding totalsOf
@@ -135,22 +136,22 @@ module _ {p : Plan} {readings : List ℤ} {marks : List ℕ} {totals : List ℤ}
     unfolding aboutMeans
     within-are = rw (once, about, a .same) (sym (within-is (factorsOf p) (p .repeats) some readings (a .whole)))
 
-    line-is : (c : Kind) → lineIn held c ≡ sourceOf p sums marks c
+    line-is : (c : Kind) → lineIn held c ≡ effectSource p sums marks c
     line-is c =
-        let degrees-are : lineIn held c .degrees ≡ sourceOf p sums marks c .degrees = rw made (degrees-after-all p sums marks c) in
-        let numerator-is : lineIn held c .numerator ≡ sourceOf p sums marks c .numerator = rw made (numerator-after-all p sums marks c) in
+        let degrees-are : lineIn held c .degrees ≡ effectSource p sums marks c .degrees = rw made (degrees-after-all p sums marks c) in
+        let numerator-is : lineIn held c .numerator ≡ effectSource p sums marks c .numerator = rw made (numerator-after-all p sums marks c) in
         λ i. record { degrees = degrees-are i; numerator = numerator-is i }
 
     join-ready : Joinable (lineIn held errorRow) (length totals) (p .repeats) (d * w)
-    unfolding tableFigures joined withinSource
+    unfolding effectFigures joined withinSource
     join-ready =
         rw (line-is errorRow)
         (record {
           some = some;
           few = some-repeat p (a .plan) .1;
           runs-few = lengths-few .0;
-          degrees-fit = omega (arith, kind-within (sums-ready a) marks errorRow .degrees, numerator-fits p);
-          numerator-fits = rw within-are (omega (arith, error-within a .numerator, numerator-fits p));
+          degrees-fit = omega (arith, effect-within (sums-ready a) marks errorRow .degrees, numerator-fits p);
+          numerator-fits = rw within-are (omega (arith, effect-error-within a .numerator, numerator-fits p));
         })
 
     pub figures-ready : Figurable d (length totals) (p .repeats) s w held
@@ -165,13 +166,13 @@ module _ {p : Plan} {readings : List ℤ} {marks : List ℕ} {totals : List ℤ}
         }
 
     error-is : joined (lineIn held errorRow) (record { degrees = length totals * (p .repeats - 1); numerator = d * w })
-        ≡ joined (sourceOf p sums marks errorRow) (withinSource p readings)
+        ≡ joined (effectSource p sums marks errorRow) (withinSource p readings)
     unfolding withinSource
     error-is = rw (line-is errorRow, a .same, within-are) refl
 
     pub figures-made : {f : Figures} {z : ℤ} → z ≡ rounds (replicate (p .k) (ofLevels (p .levels))) (read (runSumsIn (length totals) (p .repeats) readings))
-        → f ≡ figuresFrom d (length totals) (p .repeats) s w held z → f ≡ tableFigures p readings marks
-    unfolding figuresFrom tableFigures totalSource checksOf factorsOf
+        → f ≡ figuresFrom d (length totals) (p .repeats) s w held z → f ≡ effectFigures p readings marks
+    unfolding figuresFrom effectFigures totalSource checksOf factorsOf
     figures-made {z = z} from e =
         let readings-are : z ≡ rounds (factorsOf p) (read sums) = from ∙ rw (a .same) refl in
         let totals-are : held .totals ≡ checksOf p sums .totals = rw made (totals-after-all p sums marks) in

@@ -2,7 +2,9 @@
 --
 --   Ready      what they ask
 --   Readings   what they form of the readings: the squares about their run's mean, and a round of the check
---   Figures    what they make of all of it
+--   Effects    the table by its effects alone, before the block amount leaves its row
+--   Figures    the figures that they make of all of it
 pub mod Ready
 pub mod Readings
+pub mod Effects
 pub mod Figures

@@ -3,6 +3,7 @@
 //   table(p, readings, marks, totals, rows)   totals, row numerators and the figures of the table
 //   Table, Figures, Source, Checks            what it answers
 //   estimate(p, effect, total), Estimate      of the crate `estimates`
+mod amounts;
 mod refusals;
 mod rounds;
 mod squares;

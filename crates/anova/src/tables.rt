@@ -4,6 +4,9 @@ ghost use mathlib.Core.Bool.{cond};
 ghost use Prim.Native.Nat.{_-_, _*_, _<_, _≤_};
 ghost use lib.Dec.{eqb};
 ghost use lib.ListN.{getD};
+use super::amounts::amount_of;
+use super::amounts::leave_row;
+use super::amounts::move_amount;
 use super::refusals::table_refused;
 use super::rounds::check_number;
 use super::squares::about_means;
@@ -14,6 +17,8 @@ use super::types::Source;
 use super::types::Table;
 use passes::form_totals;
 use plan::Plan;
+use plan::three_word;
+use plan::word_row;
 use walks::Sums;
 use walks::walk;
 ghost use Rattle.contrasts.specs.Columns.{read, totalsOf};
@@ -21,9 +26,10 @@ ghost use Rattle.contrasts.specs.Totals.{total};
 ghost use Rattle.plan.specs.Outcome.{outcome};
 ghost use Rattle.plan.specs.Plan.{factorsOf, runsOf, runSumsOf};
 ghost use Rattle.walks.specs.After.{sumsAfter};
+ghost use Rattle.anova.specs.Inner.Effects.{effectFigures, rowsByEffects};
 ghost use Rattle.anova.specs.Inner.Figures.{figuresFrom};
 ghost use Rattle.anova.specs.Inner.Ready.{Joinable, Figurable};
-ghost use Rattle.anova.specs.Laws.Admitted.{TableReady};
+ghost use Rattle.anova.specs.Laws.Admitted.{TableReady, InBlocks};
 ghost use Rattle.anova.specs.Table.{tableRefused, joined, tableFigures, tableTotals, tableRows, tableOutcome, rowsOf};
 
 const KEPT: usize = 0;
@@ -51,7 +57,7 @@ fn form(p: Plan, readings: &[i32], marks: &[u8], column: &mut [i64], rows: &mut 
     requires { ⌜ TableReady p (now readings) (now marks) (now column) (now rows) ⌝ }
     ensures { λ r. ⌜ r ≡ sumsAfter p (total (factorsOf p) (read (runSumsOf p (now (readings .entry))))) (now (marks .entry)) (runsOf p) ⌝ }
     ensures { λ _. ⌜ now (column .exit) ≡ totalsOf (factorsOf p) (runSumsOf p (now (readings .entry))) ⌝ }
-    ensures { λ _. ⌜ now (rows .exit) ≡ rowsOf p (runSumsOf p (now (readings .entry))) ⌝ }
+    ensures { λ _. ⌜ now (rows .exit) ≡ rowsByEffects p (runSumsOf p (now (readings .entry))) ⌝ }
 {
     form_totals(
         p.levels as usize,
@@ -125,12 +131,18 @@ fn figures(
     }
 }
 
-// A table that is not refused.
-fn make(p: Plan, readings: &[i32], marks: &[u8], column: &mut [i64], rows: &mut [u64]) -> Figures
+// The table by its effects: without a block word of three levels it is the table.
+fn by_effects(
+    p: Plan,
+    readings: &[i32],
+    marks: &[u8],
+    column: &mut [i64],
+    rows: &mut [u64],
+) -> Figures
     requires { ⌜ TableReady p (now readings) (now marks) (now column) (now rows) ⌝ }
-    ensures { λ r. ⌜ r ≡ tableFigures p (now (readings .entry)) (now (marks .entry)) ⌝ }
+    ensures { λ r. ⌜ r ≡ effectFigures p (now (readings .entry)) (now (marks .entry)) ⌝ }
     ensures { λ _. ⌜ now (column .exit) ≡ totalsOf (factorsOf p) (runSumsOf p (now (readings .entry))) ⌝ }
-    ensures { λ _. ⌜ now (rows .exit) ≡ rowsOf p (runSumsOf p (now (readings .entry))) ⌝ }
+    ensures { λ _. ⌜ now (rows .exit) ≡ rowsByEffects p (runSumsOf p (now (readings .entry))) ⌝ }
 {
     let runs = column.len();
     let repeats = p.repeats as usize;
@@ -140,6 +152,41 @@ fn make(p: Plan, readings: &[i32], marks: &[u8], column: &mut [i64], rows: &mut 
     let once = denominator(p.levels, runs, rows.len()) as u64;
     let sums = form(p, readings, marks, column, rows);
     figures(once, runs, repeats, squares, within, sums, check)
+}
+
+// With one, the block amount leaves the row of the letters used and goes to the blocks line.
+fn in_blocks(
+    p: Plan,
+    word: u16,
+    readings: &[i32],
+    marks: &[u8],
+    column: &mut [i64],
+    rows: &mut [u64],
+) -> Figures
+    requires { ⌜ InBlocks p word (now readings) (now marks) (now column) (now rows) ⌝ }
+    ensures { λ r. ⌜ r ≡ tableFigures p (now (readings .entry)) (now (marks .entry)) ⌝ }
+    ensures { λ _. ⌜ now (column .exit) ≡ totalsOf (factorsOf p) (runSumsOf p (now (readings .entry))) ⌝ }
+    ensures { λ _. ⌜ now (rows .exit) ≡ rowsOf p (runSumsOf p (now (readings .entry))) ⌝ }
+{
+    let amount = amount_of(p.k, word, p.repeats as usize, readings, column);
+    let figures = by_effects(p, readings, marks, column, rows);
+    let row = word_row(p);
+    leave_row(row, amount, rows);
+    move_amount(figures, marks[row] == 1, amount)
+}
+
+// A table that is not refused.
+fn make(p: Plan, readings: &[i32], marks: &[u8], column: &mut [i64], rows: &mut [u64]) -> Figures
+    requires { ⌜ TableReady p (now readings) (now marks) (now column) (now rows) ⌝ }
+    ensures { λ r. ⌜ r ≡ tableFigures p (now (readings .entry)) (now (marks .entry)) ⌝ }
+    ensures { λ _. ⌜ now (column .exit) ≡ totalsOf (factorsOf p) (runSumsOf p (now (readings .entry))) ⌝ }
+    ensures { λ _. ⌜ now (rows .exit) ≡ rowsOf p (runSumsOf p (now (readings .entry))) ⌝ }
+{
+    let word = three_word(p);
+    if word == 0 {
+        return by_effects(p, readings, marks, column, rows);
+    }
+    in_blocks(p, word, readings, marks, column, rows)
 }
 
 // The table of a plan's readings, with the rows that are marked pooled as error.

@@ -6,7 +6,7 @@
 --   small-inputs, other-refused         the numbers of plans that are refused
 --   repeats-refused                     plans that are refused for their repeats, or for more
 --   three-refused, three-accepted       three-level plans with block words
---   digits-of-words                     the digit rule, of all numbers that have at most three digits
+--   digits-of-words                     the digit rule with k = 3, of all numbers below 40
 --   all-accepted, BCD-lost              plans that are accepted, and the confounded effects of one
 --   by-choice                           what the choices of some words combine to
 --   of-any-plan                         how many runs there are, and how far apart a factor's values lie, for any plan

@@ -12,9 +12,8 @@ use mathlib.Core.List.{List, [], _++_}
 use Prim.Native.Nat.{ℕ, zero, suc}
 use lib.Dec.{eqb, ltb}
 use lib.ListN.{length, getD}
-use Rattle.contrasts.specs.Rows.{degreesOf}
 use Rattle.plan.specs.declared.types.Plan.{Plan}
-use Rattle.plan.specs.Plan.{factorsOf, runSumsOf}
+use Rattle.plan.specs.Plan.{runSumsOf}
 use Rattle.rows.specs.Kinds.{rowsIn, kindOf}
 use Rattle.text.specs.Text.{ascii}
 use Rattle.lines.specs.Lines.{rowLine, namedLine, sourceLine, checkLine}
@@ -22,13 +21,13 @@ use Rattle.fields.specs.Fields.{fieldsOf}
 use Rattle.contents.specs.Contents.{planIn, readingsIn, marksIn}
 use Rattle.sheet.specs.Sheet.{marksRefused}
 use Rattle.anova.specs.declared.types.Figures.{Figures}
-use Rattle.anova.specs.Table.{tableFigures, rowsOf}
+use Rattle.anova.specs.Table.{rowDegrees, tableFigures, rowsOf}
 
 -- ---- the table
 
--- W5 to W7
+-- W5 to W7; V19: the row that the block amount has left is "printed without `blocks`", since it is kept or error, with the degrees that it has left
 abbrev pub lineOfRow : Plan → List ℕ → List ℕ → ℕ → List ℕ
-lineOfRow p marks rows w = rowLine w (degreesOf (factorsOf p) w) (getD rows w 0) (kindOf p marks w)
+lineOfRow p marks rows w = rowLine w (rowDegrees p w) (getD rows w 0) (kindOf p marks w)
 
 -- W5: "Row lines, in row order"
 unfoldable pub rowLines : Plan → List ℕ → List ℕ → ℕ → List ℕ

@@ -28,7 +28,7 @@ use Rattle.plan.specs.Plan.{addedWords, addedSigns, allLetters}
 use Rattle.plan.specs.Laws.Accepted.{Accepted, signs-small}
 use Rattle.plan.specs.Laws.Sizes.{letters-few}
 use Rattle.runs.specs.Run.{highBy, highLetters, runValues}
-use Rattle.runs.specs.Laws.High.{high-added}
+use Rattle.runs.specs.Laws.High.{high-added, values-two}
 use Rattle.runs.specs.Laws.BaseLetters.{high-letter}
 use Rattle.aliases.specs.Alias.{baseWord, signOnes, oddSigns, turned, aliasValues}
 
@@ -104,11 +104,13 @@ module _ (k : ℕ) (words signs : List ℕ) (r e : ℕ) (room : k + length words
   unfolding oddIn oddSigns
   reduces-odd = ap (λ (m : ℕ). eqb m 1) reduces-number ∙ odd-add (shared r (baseWord k words e)) (signOnes c signs)
 
--- the same of an accepted plan
-pub plan-reduces-odd : (p : Plan) → Accepted p → (r e : ℕ) → e < 2 ^ allLetters p
+-- the same of an accepted plan of two levels
+pub plan-reduces-odd : (p : Plan) → Accepted p → (p .levels ≡ 3 → ⊥) → (r e : ℕ) → e < 2 ^ allLetters p
     → oddIn (runValues p r .0) e
     ≡ cond (oddSigns (p .k) (addedSigns p) e) (not (oddIn r (aliasValues p e .0))) (oddIn r (aliasValues p e .0))
-plan-reduces-odd p a r e f = reduces-odd (p .k) (addedWords p) (addedSigns p) r e (letters-few p a) f (signs-small a)
+plan-reduces-odd p a t r e f =
+    ap (λ (v : ℕ × ℕ). oddIn (v .0) e) (values-two p r t)
+    ∙ reduces-odd (p .k) (addedWords p) (addedSigns p) r e (letters-few p a) f (signs-small a)
 
 -- ---- high minus low
 
@@ -125,12 +127,12 @@ both-counted false true false x = refl
 both-counted false false true x = refl
 both-counted false false false x = refl
 
-pub plan-reduces : (p : Plan) → Accepted p → (r e : ℕ) → e < 2 ^ allLetters p
+pub plan-reduces : (p : Plan) → Accepted p → (p .levels ≡ 3 → ⊥) → (r e : ℕ) → e < 2 ^ allLetters p
     → plusIn (runValues p r .0) e ≡ cond (aliasValues p e .1) (not (plusIn r (aliasValues p e .0))) (plusIn r (aliasValues p e .0))
 unfolding turned
-plan-reduces p a r e f =
+plan-reduces p a t r e f =
     let w = aliasValues p e .0 in
     plus-odd (runValues p r .0) e
-    ∙ ap (λ (o : Bool). cond (oddWord e) o (not o)) (plan-reduces-odd p a r e f)
+    ∙ ap (λ (o : Bool). cond (oddWord e) o (not o)) (plan-reduces-odd p a t r e f)
     ∙ both-counted (oddWord e) (oddWord w) (oddSigns (p .k) (addedSigns p) e) (oddIn r w)
     ∙ ap (differ (aliasValues p e .1)) (sym (plus-odd r w))

@@ -3,6 +3,7 @@
 --   TableReady p readings marks totals rows    lengths and bounds of a table that is not refused
 --   table-admitted                             these, from the number
 --   table-admits                               and this is all that is asked, with readings within the limit and marks that are lawful
+--   InBlocks p word readings marks totals rows    such a table of a three-level plan with this block word
 --   SumsReady p sums, sums-ready               run sums of an accepted plan within their limit: those of such a table
 --   rows-power                                 R is 2 to the power of the number of factors
 --   within-limit                               the sum of all numerators of run sums is within the plan's limit of numerators
@@ -23,7 +24,7 @@ use Rattle.contrasts.specs.Laws.Repeats.{sums-within}
 use Rattle.plan.specs.declared.types.Plan.{Plan}
 use Rattle.plan.specs.Check.{planRefused}
 use Rattle.plan.specs.Limits.{readingLimit, runLimit, numeratorLimit}
-use Rattle.plan.specs.Plan.{factorsOf, runsOf, allReadings, runSumsOf}
+use Rattle.plan.specs.Plan.{factorsOf, runsOf, allReadings, runSumsOf, threeWord}
 use Rattle.plan.specs.Laws.Answers.{passed, plan-passed, after-plan}
 use Rattle.plan.specs.Laws.Limits.{plan-roomy}
 use Rattle.columns.specs.Refusals.{wrongLength, wrongReadings, anyBeyond}
@@ -37,6 +38,7 @@ pub record TableReady (p : Plan) (readings : List ℤ) (marks : List ℕ) (total
   pub whole : length readings ≡ allReadings p
   pub same : length totals ≡ runsOf p
   pub rows-long : length rows ≡ rowsIn p
+  pub marks-long : length marks ≡ rowsIn p
   pub within : AllWithin (readingLimit p) readings
 
 pub table-admitted : (p : Plan) (readings : List ℤ) (marks : List ℕ) (totals : List ℤ) (rows : List ℕ)
@@ -54,8 +56,14 @@ table-admitted p readings marks totals rows e =
       whole = all-readings p (length readings) (a .0);
       same = as-long p (length totals) (b .0);
       rows-long = rows-as-long p (length rows) (c .0);
+      marks-long = rows-as-long p (length marks) (c .1);
       within = all-within (readingLimit p) readings (l12 .0);
     }
+
+pub record InBlocks (p : Plan) (word : ℕ) (readings : List ℤ) (marks : List ℕ) (totals : List ℤ) (rows : List ℕ) : Type 0 where
+  pub ready : TableReady p readings marks totals rows
+  pub word-is : word ≡ threeWord p
+  pub some : word ≡ 0 → ⊥
 
 module _ (p : Plan) (readings : List ℤ) (marks : List ℕ) (totals : List ℤ) (rows : List ℕ) where
   pub table-admits : planRefused p ≡ 0 → length readings ≡ allReadings p → length totals ≡ runsOf p → length rows ≡ rowsIn p → length marks ≡ rowsIn p

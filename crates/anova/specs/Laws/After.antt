@@ -1,4 +1,4 @@
--- What rows and sums hold after all totals is what the table has, and the totals that the walk is handed: those of the run sums.
+-- What rows and sums hold after all totals is what the table has by effects, and the totals that the walk is handed: those of the run sums.
 --
 --   rows-after-all                           the rows
 --   numerator-after-all, degrees-after-all   numerator and degrees of each kind
@@ -25,12 +25,13 @@ use Rattle.rows.specs.Kinds.{rowsIn, Kind, kindOf, codeOf}
 use Rattle.rows.specs.Laws.Kinds.{four-kinds}
 use Rattle.walks.specs.After.{kindAt, numeratorAt, rowsAfter, sumsBy, sumsAfter}
 use Rattle.walks.specs.Ready.{PlanWalkable}
+use Rattle.anova.specs.Inner.Effects.{effectSource, rowsByEffects}
 use Rattle.anova.specs.Laws.Admitted.{SumsReady, rows-power, within-limit}
-use Rattle.anova.specs.Table.{sourceOf, checksOf, rowsOf}
+use Rattle.anova.specs.Table.{checksOf}
 
 module _ (p : Plan) (sums : List ℤ) where
-  pub rows-after-all : rowsAfter p (total (factorsOf p) (read sums)) (runsOf p) ≡ rowsOf p sums
-  unfolding rowsAfter rowsOf
+  pub rows-after-all : rowsAfter p (total (factorsOf p) (read sums)) (runsOf p) ≡ rowsByEffects p sums
+  unfolding rowsAfter rowsByEffects
   rows-after-all = refl
 
   pub totals-after-all : (marks : List ℕ) → sumsAfter p (total (factorsOf p) (read sums)) marks (runsOf p) .totals ≡ checksOf p sums .totals
@@ -43,15 +44,15 @@ module _ (p : Plan) (sums : List ℤ) where
     code w = codeOf (kindOf p marks w)
 
     pub numerator-after-all : getD (sumsAfter p (total (factorsOf p) (read sums)) marks (runsOf p) .numerators) (codeOf c) 0
-        ≡ sourceOf p sums marks c .numerator
-    unfolding sumsBy sourceOf
+        ≡ effectSource p sums marks c .numerator
+    unfolding sumsBy effectSource
     numerator-after-all =
         getD-tab 0 4 (sumAt (kindAt p marks) (numeratorAt p (total (factorsOf p) (read sums))) (runsOf p)) (codeOf c) (four-kinds c)
         ∙ sym (rw (rows-power p) at (numerators-of-kind (factorsOf p) code (codeOf c) (read sums)))
 
     pub degrees-after-all : getD (sumsAfter p (total (factorsOf p) (read sums)) marks (runsOf p) .degrees) (codeOf c) 0
-        ≡ sourceOf p sums marks c .degrees
-    unfolding sumsBy sourceOf
+        ≡ effectSource p sums marks c .degrees
+    unfolding sumsBy effectSource
     degrees-after-all =
         getD-tab 0 4 (sumAt (kindAt p marks) (λ i. 1) (runsOf p)) (codeOf c) (four-kinds c)
         ∙ sym (rw (rows-power p) at (degrees-of-kind (factorsOf p) code (codeOf c)))

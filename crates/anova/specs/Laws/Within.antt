@@ -4,13 +4,15 @@
 --   all-degrees                                 the degrees of all rows add up to N
 --   fit                                         the denominator and the number of readings are within the limit
 --   some-within                                 any sum of some effects' numerators is
---   row-within                                  the numerator of a row is
---   kind-within                                 those of the rows of one kind are
+--   row-within, effects-within                  the numerator of a row is, and so with all its effects
+--   kind-within, effect-within                  those of the rows of one kind are, and so with all their effects
 --   total-within-limit                          each total is, in size
 --   check-small, checks-within                  both check numbers are, in size
 --   numerators-add-up, degrees-add-up           mean, kept effects, blocks and error add up to the total, the squares within runs in the error line
+--                                               and the block amount of a three-level plan in the blocks line
 --   total-source-within, within-source-within   the total and the squares within runs are within the limit
---   error-within                                and so is the error line
+--   error-within, blocks-within                 and so are the error line and the blocks line
+--   effect-error-within                         and the error line of all effects
 use mathlib.Core.Path.{_≡_, sym, _∙_, ap}
 use mathlib.Core.Bool.{Bool, cond}
 use mathlib.Core.List.{List}
@@ -42,8 +44,10 @@ use Rattle.plan.specs.Laws.Limits.{plan-roomy, some-reading}
 use Rattle.plan.specs.Laws.Sizes.{some-repeat}
 use Rattle.rows.specs.Kinds.{rowsIn, Kind, meanRow, blocksRow, errorRow, keptRow, kindOf, codeOf, same}
 use Rattle.rows.specs.Laws.Kinds.{four-kinds}
+use Rattle.anova.specs.Inner.Effects.{effectSource, effectFigures}
 use Rattle.anova.specs.Laws.Admitted.{TableReady, SumsReady, sums-ready, rows-power, within-limit}
-use Rattle.anova.specs.Table.{sourceOf, withinSource, joined, totalSource, checksOf, tableFigures, SourceWithin}
+use Rattle.anova.specs.Laws.Blocks.{all-left, all-degrees-left, numerator-moved, degrees-moved}
+use Rattle.anova.specs.Table.{blockSource, rowDegrees, rowLeft, sourceOf, withinSource, joined, totalSource, checksOf, tableFigures, SourceWithin}
 
 -- a product whose other factors are not 0
 least : (a b m : ℕ) → 0 < b → a * b ≤ m → a ≤ m
@@ -98,18 +102,31 @@ module _ {p : Plan} {sums : List ℤ} (a : SumsReady p sums) where
       → Σℕ n (λ e. cond (some e) (numerator (factorsOf p) (read sums) e) 0) ≤ numeratorLimit p
   some-within = numerators-fit (plan-roomy p (a .plan)) (read sums) (λ r _. a .within r)
 
-  pub row-within : (w : ℕ) → rowNumerator (factorsOf p) (read sums) w ≤ numeratorLimit p
-  row-within w =
+  pub effects-within : (w : ℕ) → rowNumerator (factorsOf p) (read sums) w ≤ numeratorLimit p
+  effects-within w =
       le-trans (rw (numerators (factorsOf p) (read sums)) at (sum-least (rowOf (factorsOf p)) (numerator (factorsOf p) (read sums)) (runsOf p) (runsOf p) w (omega arith)))
       (within-limit a)
 
-  pub kind-within : (marks : List ℕ) (c : Kind) → SourceWithin (numeratorLimit p) (sourceOf p sums marks c)
-  unfolding sourceOf
-  kind-within marks c =
+  -- V20: what is left of a row is no more than the row
+  pub row-within : (w : ℕ) → rowLeft p sums w ≤ numeratorLimit p
+  unfolding rowLeft
+  row-within w = omega (arith, effects-within w)
+
+  pub effect-within : (marks : List ℕ) (c : Kind) → SourceWithin (numeratorLimit p) (effectSource p sums marks c)
+  unfolding effectSource
+  effect-within marks c =
       record {
         degrees = le-trans (Σℕ-some (rowsIn p) (rowsIn p) (λ w. same (kindOf p marks w) c) (degreesOf (factorsOf p)) (omega arith))
             (rw all-degrees (least (runsOf p) (p .repeats) (numeratorLimit p) (some-repeat p (a .plan) .0) (fit .1)));
         numerator = le-trans (Σℕ-some (rowsIn p) (rowsIn p) (λ w. same (kindOf p marks w) c) (rowNumerator (factorsOf p) (read sums)) (omega arith)) (rw all-rows (within-limit a));
+      }
+
+  pub kind-within : (marks : List ℕ) (c : Kind) → SourceWithin (numeratorLimit p) (sourceOf p sums marks c)
+  kind-within marks c =
+      let e = effect-within marks c in
+      record {
+        degrees = omega (arith, degrees-moved p (a .plan) sums marks c, e .degrees);
+        numerator = omega (arith, numerator-moved p (a .plan) sums marks c, e .numerator);
       }
 
   -- ---- the totals and the check numbers, in size
@@ -138,14 +155,14 @@ module _ {p : Plan} {readings : List ℤ} {marks : List ℕ} {totals : List ℤ}
 
   pub numerators-add-up : let f = tableFigures p readings marks in
       f .mean .numerator + f .kept .numerator + f .blocks .numerator + f .error .numerator ≡ f .total .numerator
-  unfolding tableFigures sourceOf withinSource joined totalSource
-  numerators-add-up = omega (arith, four (rowsIn p) (kindOf p marks) (rowNumerator (factorsOf p) (read sums)), together)
+  unfolding tableFigures sourceOf blockSource withinSource joined totalSource
+  numerators-add-up = omega (arith, four (rowsIn p) (kindOf p marks) (rowLeft p sums), all-left p (a .plan) sums, together)
 
   pub degrees-add-up : let f = tableFigures p readings marks in
       f .mean .degrees + f .kept .degrees + f .blocks .degrees + f .error .degrees ≡ f .total .degrees
-  unfolding tableFigures sourceOf withinSource joined totalSource
+  unfolding tableFigures sourceOf blockSource withinSource joined totalSource
   degrees-add-up =
-      omega (arith, four (rowsIn p) (kindOf p marks) (degreesOf (factorsOf p)), all-degrees (sums-ready a), all-repeats (runsOf p) (p .repeats) (some-repeat p (a .plan) .0))
+      omega (arith, four (rowsIn p) (kindOf p marks) (rowDegrees p), all-degrees-left p (a .plan), all-degrees (sums-ready a), all-repeats (runsOf p) (p .repeats) (some-repeat p (a .plan) .0))
 
   pub total-source-within : SourceWithin (numeratorLimit p) (totalSource p readings)
   unfolding totalSource
@@ -154,6 +171,22 @@ module _ {p : Plan} {readings : List ℤ} {marks : List ℕ} {totals : List ℤ}
         degrees = fit (sums-ready a) .1;
         numerator = squares-fit (factorsOf p) (p .repeats) (some-repeat p (a .plan) .0) readings (a .whole) (plan-roomy p (a .plan)) (a .within);
       }
+
+  -- the error line of all effects is no more than these and the squares within runs
+  pub effect-error-within : SourceWithin (numeratorLimit p) (effectFigures p readings marks .error)
+  unfolding effectFigures effectSource withinSource joined totalSource
+  effect-error-within =
+      let all-effects = four (rowsIn p) (kindOf p marks) (rowNumerator (factorsOf p) (read sums)) in
+      let all-their-degrees = four (rowsIn p) (kindOf p marks) (degreesOf (factorsOf p)) in
+      let repeats = all-repeats (runsOf p) (p .repeats) (some-repeat p (a .plan) .0) in
+      record {
+        degrees = omega (arith, all-their-degrees, all-degrees (sums-ready a), repeats, total-source-within .degrees);
+        numerator = omega (arith, all-effects, together, total-source-within .numerator);
+      }
+
+  pub blocks-within : SourceWithin (numeratorLimit p) (tableFigures p readings marks .blocks)
+  unfolding tableFigures totalSource
+  blocks-within = record { degrees = omega (arith, degrees-add-up, total-source-within .degrees); numerator = omega (arith, numerators-add-up, total-source-within .numerator) }
 
   pub error-within : SourceWithin (numeratorLimit p) (tableFigures p readings marks .error)
   unfolding tableFigures totalSource

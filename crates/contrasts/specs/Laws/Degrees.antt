@@ -2,6 +2,7 @@
 --
 --   used d           0 for the digit 0, and 1 for the others
 --   degrees-power    of factors that are alike: one less than the levels for each letter, multiplied
+--   some-digit       a number that is not 0 has a digit to the base 2 that is not 0
 --   letter-degrees   so a row that has a letter has no fewer than that
 --   row-lt           an effect's row is one of the 2 ^ k rows
 --   degrees-count    the effects of a row are as many as its degrees
@@ -121,7 +122,7 @@ degrees-power F (suc k) w h =
     last (no e) = let o : w % 2 ≡ 1 = omega arith in rw (o, pow-suc b 0, pow-zero b) (sym (one-mul b))
 
 -- a number that is not 0 has a digit that is not 0
-some-digit : (k w : ℕ) → w < 2 ^ k → (w ≡ 0 → ⊥) → 1 ≤ ones w
+pub some-digit : (k w : ℕ) → w < 2 ^ k → (w ≡ 0 → ⊥) → 1 ≤ ones w
 some-digit zero w h n = absurd (n (lt-one h))
 some-digit (suc k) w h n = by (ℕ-discrete (w % 2) 0) (some-digit k (w / 2) (div-lt-iff-lt-mul (lit< tt) .1 (rw (pow-suc 2 k) at h)))
   where

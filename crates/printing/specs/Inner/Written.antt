@@ -1,12 +1,13 @@
 -- What the inner functions write: the loop over the rows, by the numbers that it has at hand, and the text of a table.
 --
 --   degreesBy levels w             the degrees of row w, by the rules' wording
---   rowsBy levels kinds rows n     the lines of the first n rows
+--   degreesLeft levels used w      what it has left of them, where `used` is the row of the letters that a three-level block word uses, and 0 without one
+--   rowsBy levels used kinds rows n    the lines of the first n rows
 --   madeText p readings marks      the text of the table of a plan's readings
 --   answerText p readings marks totals rows    that text, or the line of the refusal, as the table call answers
 use mathlib.Core.Bool.{cond}
 use mathlib.Core.List.{List, [], _++_}
-use Prim.Native.Nat.{ℕ, zero, suc, _^_}
+use Prim.Native.Nat.{ℕ, zero, suc, _-_, _^_}
 use lib.Dec.{eqb}
 use lib.IntN.{ℤ}
 use lib.ListN.{getD}
@@ -24,9 +25,13 @@ use Rattle.printing.specs.Printed.{tableText, printed}
 unfoldable pub degreesBy : ℕ → ℕ → ℕ
 degreesBy levels w = cond (eqb levels 2) 1 (2 ^ letters w)
 
-unfoldable pub rowsBy : ℕ → List ℕ → List ℕ → ℕ → List ℕ
-rowsBy levels kinds rows zero = []
-rowsBy levels kinds rows (suc w) = rowsBy levels kinds rows w ++ rowLine w (degreesBy levels w) (getD rows w 0) (kindIn (getD kinds w 0))
+-- "It leaves the row of the letters used, with 2 degrees"
+unfoldable pub degreesLeft : ℕ → ℕ → ℕ → ℕ
+degreesLeft levels used w = degreesBy levels w - cond (eqb used 0) 0 (cond (eqb w used) 2 0)
+
+unfoldable pub rowsBy : ℕ → ℕ → List ℕ → List ℕ → ℕ → List ℕ
+rowsBy levels used kinds rows zero = []
+rowsBy levels used kinds rows (suc w) = rowsBy levels used kinds rows w ++ rowLine w (degreesLeft levels used w) (getD rows w 0) (kindIn (getD kinds w 0))
 
 -- ---- the table
 

@@ -13,7 +13,6 @@ use native.Mathlib.Omega.{arith}
 use borrow.Author.Tests.{eq-eqb, ne-eqb, lt-ltb, le-ltb}
 use lib.Dec.{ltb}
 use lib.ListN.{length, getD, drop, length-append}
-use Rattle.contrasts.specs.Rows.{degreesOf}
 use Rattle.plan.specs.declared.types.Plan.{Plan}
 use Rattle.plan.specs.Check.{planRefused}
 use Rattle.plan.specs.Plan.{factorsOf, runSumsOf}
@@ -28,7 +27,7 @@ use Rattle.text.specs.Laws.Writing.{from-start}
 use Rattle.lines.specs.Lines.{namedLine, sourceLine, checkLine}
 use Rattle.lines.specs.Laws.Lines.{named-long, source-long, check-long, row-long}
 use Rattle.anova.specs.declared.types.Figures.{Figures}
-use Rattle.anova.specs.Table.{tableFigures, rowsOf}
+use Rattle.anova.specs.Table.{rowDegrees, tableFigures, rowsOf}
 use Rattle.printing.specs.Printed.{lineOfRow, rowLines, tableText, printed, sheetTable, longestSheet, printRefused, textOf}
 
 -- ---- the table
@@ -38,7 +37,7 @@ unfolding rowLines
 rows-long p marks rows zero = omega arith
 rows-long p marks rows (suc w) =
     rw (length-append (rowLines p marks rows w) (lineOfRow p marks rows w), suc-mul w 66)
-    (omega (arith, rows-long p marks rows w, row-long w (degreesOf (factorsOf p) w) (getD rows w 0) (kindOf p marks w)))
+    (omega (arith, rows-long p marks rows w, row-long w (rowDegrees p w) (getD rows w 0) (kindOf p marks w)))
 
 -- two texts, one after the other
 both : (t u : List ℕ) {m n : ℕ} → length t ≤ m → length u ≤ n → length (t ++ u) ≤ m + n

@@ -19,7 +19,6 @@ use lib.Signed.{mag}
 use Rattle.algebra.specs.Laws.Machine.{wrap, kept}
 use Rattle.algebra.specs.Laws.Tab.{length-tab}
 use Rattle.contrasts.specs.Columns.{read}
-use Rattle.contrasts.specs.Rows.{rowNumerator}
 use Rattle.plan.specs.declared.types.Plan.{Plan}
 use Rattle.plan.specs.Outcome.{outcome}
 use Rattle.plan.specs.Check.{runCount, readingCount}
@@ -34,7 +33,7 @@ use Rattle.lines.specs.Lines.{namedLine, sourceLine, checkLine}
 use Rattle.anova.specs.declared.types.Figures.{Figures}
 use Rattle.anova.specs.declared.types.Table.{Table}
 use Rattle.anova.specs.declared.types.Table.the-variants.{Made, Refused}
-use Rattle.anova.specs.Table.{tableRefused, tableFigures, tableRows, tableOutcome, rowsOf}
+use Rattle.anova.specs.Table.{rowLeft, tableRefused, tableFigures, tableRows, tableOutcome, rowsOf}
 use Rattle.anova.specs.Laws.Admitted.{table-admitted, table-admits}
 use Rattle.printing.specs.Inner.Ready.{RowsReady, SheetReady}
 use Rattle.printing.specs.Inner.Written.{madeText, answerText}
@@ -89,7 +88,7 @@ module _ (p : Plan) (readings : List ℤ) (marks : List ℕ) (totals : List ℤ)
         rows-ready =
             record {
               plan = table-admitted p readings marks totals rows (made .0) .plan;
-              long = ap length rows-are ∙ length-tab (rowsIn p) (rowNumerator (factorsOf p) (read (runSumsOf p readings)));
+              long = ap length rows-are ∙ length-tab (rowsIn p) (rowLeft p (runSumsOf p readings));
             }
 
         pub made-text : {a b : List ℕ} {at next : ℕ} → Wrote a at (tableText p marks f after) b next
