@@ -27,7 +27,7 @@ use Rattle.contrasts.specs.Laws.Repeats.{sums-long, sums-within}
 use Rattle.plan.specs.declared.types.Plan.{Plan}
 use Rattle.plan.specs.Check.{usedRow}
 use Rattle.plan.specs.Limits.{readingLimit}
-use Rattle.plan.specs.Plan.{factorsOf, runsOf, allReadings, runSumsOf, threeWord, wordRow}
+use Rattle.plan.specs.Plan.{factorsOf, runSumsOf, threeWord, wordRow}
 use Rattle.plan.specs.Laws.Accepted.{accepted}
 use Rattle.plan.specs.Laws.Limits.{limit-three, numerator-fits}
 use Rattle.plan.specs.Laws.Sizes.{as-power, readings-few, some-repeat}
@@ -39,10 +39,11 @@ use Rattle.anova.specs.declared.types.Source.{Source}
 use Rattle.anova.specs.declared.types.Figures.{Figures}
 use Rattle.anova.specs.Inner.Effects.{effectSource, effectFigures, rowsByEffects}
 use Rattle.anova.specs.Inner.Figures.{leaves, movedFigures}
-use Rattle.anova.specs.Inner.Ready.{Amountable, Leavable, Enterable, Movable}
+use Rattle.anova.specs.Inner.Ready.{Amountable, Leavable, Movable}
 use Rattle.anova.specs.Laws.Admitted.{TableReady, InBlocks, sums-ready}
-use Rattle.anova.specs.Laws.Blocks.{no-degrees, no-amount, rows-stay, sources-stay, uses-digits, two-degrees, by-mark, amount-once, word-row-lt, never-below, degrees-moved, numerator-moved, remainder, other-rows}
-use Rattle.anova.specs.Laws.Within.{effects-within, effect-within}
+use Rattle.anova.specs.Laws.Blocks.{no-degrees, no-amount, rows-stay, sources-stay}
+use Rattle.anova.specs.Laws.Blocks.{uses-digits, two-degrees, by-mark, amount-once, word-row-lt, never-below, degrees-moved, numerator-moved, remainder, other-rows}
+use Rattle.anova.specs.Laws.Within.{row-effects-within, effect-within}
 use Rattle.anova.specs.Table.{blockDegrees, blockAmount, blockSource, rowLeft, sourceOf, withinSource, joined, tableFigures, rowsOf}
 
 -- ---- forming it
@@ -161,7 +162,7 @@ module _ {p : Plan} {word : ℕ} {readings : List ℤ} {marks : List ℕ} {total
     amount-small : m < 2 ^ 63
     amount-small =
         rw amount-is
-        (omega (arith, never-below p (a .plan) sums .0, effects-within (sums-ready a) (wordRow p), numerator-fits p))
+        (omega (arith, never-below p (a .plan) sums .0, row-effects-within (sums-ready a) (wordRow p), numerator-fits p))
 
     module _ {row : ℕ} (there : row ≡ usedRow p) where
       pub row-is : row ≡ wordRow p

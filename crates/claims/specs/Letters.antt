@@ -25,7 +25,7 @@
 --   AliasTotals            CLAIM: the contrast of any effect is the total of its base word, turned as in `Aliases`
 --   MainEffects            CLAIM: the total of one letter is the sum where its factor is low, less the sum where it is high
 --   AnyFactor              CLAIM: for any factor, base or added, that difference is the total of its base word, turned as in `Aliases`
---   Answered               CLAIM: the runs and effects that the run and alias calls answer are those that the claims speak of
+--   Answered               CLAIM: the runs and effects that the run and alias calls answer are those of the plan
 use mathlib.Core.Path.{_≡_}
 use mathlib.Core.Logic.{_⊎_}
 use mathlib.Core.Bool.{Bool, true, cond, not}
@@ -144,9 +144,9 @@ AnyFactor =
     (p : Plan) → TwoLevels p → (x : Column) (i : ℕ) → i < allLetters p
     → contrast (runsOf p) (λ r. not (has (high p r) i)) x ≡ turnIf (oddSignsIn p (2 ^ i)) (total (factorsOf p) x (base p (2 ^ i)))
 
--- R7, N9, N10: where the run call gives an answer, the plan is accepted and has two levels, and the run is one of it; where the alias call gives one of a
--- 16-bit set of letters, the same of the plan, and the letters are those of its factors.
+-- R7, R12, N9, N10: where the run call gives an answer, the plan is accepted, and the run is one of it; where the alias call gives one of a 16-bit set of
+-- letters, the plan is accepted and has two levels, and the letters are those of its factors.
 abbrev pub Answered : Type 0
 Answered =
-    (p : Plan) → ((r : ℕ) → runRefused p r ≡ 0 → TwoLevels p × (r < runsOf p))
+    (p : Plan) → ((r : ℕ) → runRefused p r ≡ 0 → (planRefused p ≡ 0) × (r < runsOf p))
     × ((e : ℕ) → e < 2 ^ 16 → aliasRefused p e ≡ 0 → TwoLevels p × (e < 2 ^ allLetters p))

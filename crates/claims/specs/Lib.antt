@@ -10,6 +10,7 @@
 --   SumOfSquares   demand 3: the exact sum of squares
 --   TableAddsUp    demand 3: mean, kept, blocks and error
 --   OneWalk        rows and sums after every total
+--   ThreeBlocks    demand 2: three-level plans in three blocks
 --   Starred        the starred runs, as one fact
 --   WrongPrograms  the programs that have to break their statements
 --   Examples       worked examples
@@ -24,6 +25,7 @@ pub mod Steps
 pub mod SumOfSquares
 pub mod TableAddsUp
 pub mod OneWalk
+pub mod ThreeBlocks
 pub mod Starred
 pub mod WrongPrograms
 pub mod Examples

@@ -54,7 +54,7 @@ tableRefusalsC p readings marks totals rows figures checks =
 
 pub record LowestNumber : Type 0 where
   pub check : (p : Plan) → Lowest (planRefused p) (planRefusals p)
-  -- L7: "the run and alias calls 9, 10"
+  -- L7: "the run and alias calls 9, 10", and "no 9 from the run call"
   pub run : (p : Plan) (r : ℕ) → Lowest (runRefused p r) (onPlan p (runRefusals p r))
   pub alias : (p : Plan) (e : ℕ) → Lowest (aliasRefused p e) (onPlan p (aliasRefusals p e))
   -- L8: "the estimate 9, 10, 12"

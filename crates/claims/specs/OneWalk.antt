@@ -5,28 +5,32 @@
 --   HeldAfter p readings marks e h       what a loop holds is what rows and sums hold after e totals
 --   EveryTotal p readings marks          so it is of the table call's loop, for every e up to N
 --   sourceIn s c                         what the sums s have of the kind c
---   AtEnd p readings marks totals rows   after N totals, with the squares within runs added, they are the table's rows and figures
+--   moving p readings marks c            what the block amount of a three-level plan takes from the kind c: its row's kind loses it
+--   AtEnd p readings marks totals rows   after N totals, with the block amount moved from its row to blocks, and the squares within runs added, they are the
+--                                        table's rows and figures
 --   OneWalk                              THE CLAIM
 --
 -- `courseTwo` and `courseThree` are what the loops of `walks` hold after e totals, by the lists that `walk` hands to them: each effect changes
 -- it as `bring_two` or `bring_three` promises, and that rows, parts and sum are just that is the invariant in the proof of each loop
 -- (`RunningTwo`, `RunningThree`). At two levels a turn is two effects, and between them it is the course after one more (`two-more`).
 use mathlib.Core.Path.{_≡_}
+use mathlib.Core.Bool.{cond}
 use mathlib.Core.List.{List}
-use Prim.Native.Nat.{ℕ, _≤_}
+use Prim.Native.Nat.{ℕ, _+_, _<_, _≤_}
+use lib.Dec.{eqb}
 use lib.IntN.{ℤ}
-use lib.ListN.{getD}
+use lib.ListN.{length, getD}
 use Rattle.contrasts.specs.Columns.{read, totalsOf}
 use Rattle.contrasts.specs.Totals.{Column, total}
 use Rattle.effects.specs.Effects.{effectRows, effectWeights}
 use Rattle.plan.specs.declared.types.Plan.{Plan}
-use Rattle.plan.specs.Plan.{factorsOf, runsOf, runSumsOf}
-use Rattle.rows.specs.Kinds.{rowsIn, Kind, meanRow, blocksRow, errorRow, keptRow, codeOf, kindsOf}
+use Rattle.plan.specs.Plan.{factorsOf, runsOf, runSumsOf, wordRow}
+use Rattle.rows.specs.Kinds.{rowsIn, Kind, meanRow, blocksRow, errorRow, keptRow, kindOf, codeOf, same, kindsOf}
 use Rattle.walks.specs.declared.types.Sums.{Sums}
 use Rattle.walks.specs.After.{rowsAfter, sumsAfter}
 use Rattle.walks.specs.State.{heldIn, Held, courseTwo, courseThree}
 use Rattle.anova.specs.declared.types.Source.{Source}
-use Rattle.anova.specs.Table.{tableRefused, withinSource, joined, tableFigures, tableRows}
+use Rattle.anova.specs.Table.{blockDegrees, blockAmount, blockSource, tableRefused, withinSource, joined, tableFigures, tableRows}
 
 -- T8, T29
 abbrev pub totalIn : Plan → List ℤ → Column
@@ -49,14 +53,28 @@ pub record EveryTotal (p : Plan) (readings : List ℤ) (marks : List ℕ) : Type
 abbrev pub sourceIn : Sums → Kind → Source
 sourceIn s c = record { degrees = getD (s .degrees) (codeOf c) 0; numerator = getD (s .numerators) (codeOf c) 0 }
 
--- V12, V13: what the call writes, and the figures that come from the walk
+-- V18: the block amount leaves the kind of its row, "with 2 degrees"; of a plan without one it is nothing
+abbrev pub moving : Plan → List ℤ → List ℕ → Kind → Source
+moving p readings marks c = record {
+  degrees = cond (same (kindOf p marks (wordRow p)) c) (blockDegrees p) 0;
+  numerator = cond (same (kindOf p marks (wordRow p)) c) (blockAmount p (runSumsOf p readings)) 0;
+}
+
+-- V12, V13: what the call writes, and the figures that come from the walk; V18: what has left a row or a kind stands beside it
 pub record AtEnd (p : Plan) (readings : List ℤ) (marks : List ℕ) (totals : List ℤ) (rows : List ℕ) : Type 0 where
-  pub rows-written : tableRows p readings marks totals rows ≡ rowsAfter p (totalIn p readings) (runsOf p)
-  pub mean : tableFigures p readings marks .mean ≡ sourceIn (sumsAfter p (totalIn p readings) marks (runsOf p)) meanRow
-  pub kept : tableFigures p readings marks .kept ≡ sourceIn (sumsAfter p (totalIn p readings) marks (runsOf p)) keptRow
-  pub blocks : tableFigures p readings marks .blocks ≡ sourceIn (sumsAfter p (totalIn p readings) marks (runsOf p)) blocksRow
+  pub rows-long : length (tableRows p readings marks totals rows) ≡ rowsIn p
+  pub rows-written : (w : ℕ) → w < rowsIn p
+      → getD (tableRows p readings marks totals rows) w 0 + cond (eqb w (wordRow p)) (blockAmount p (runSumsOf p readings)) 0
+      ≡ getD (rowsAfter p (totalIn p readings) (runsOf p)) w 0
+  pub mean : joined (tableFigures p readings marks .mean) (moving p readings marks meanRow)
+      ≡ sourceIn (sumsAfter p (totalIn p readings) marks (runsOf p)) meanRow
+  pub kept : joined (tableFigures p readings marks .kept) (moving p readings marks keptRow)
+      ≡ sourceIn (sumsAfter p (totalIn p readings) marks (runsOf p)) keptRow
+  -- V18: and "goes to the blocks line"
+  pub blocks : joined (tableFigures p readings marks .blocks) (moving p readings marks blocksRow)
+      ≡ joined (sourceIn (sumsAfter p (totalIn p readings) marks (runsOf p)) blocksRow) (blockSource p (runSumsOf p readings))
   -- V16: the squares within runs "join the error line"
-  pub error : tableFigures p readings marks .error
+  pub error : joined (tableFigures p readings marks .error) (moving p readings marks errorRow)
       ≡ joined (sourceIn (sumsAfter p (totalIn p readings) marks (runsOf p)) errorRow) (withinSource p readings)
   pub check : tableFigures p readings marks .checks .totals ≡ sumsAfter p (totalIn p readings) marks (runsOf p) .totals
 

@@ -4,6 +4,7 @@
 --
 --   ofKind p marks rows c        the numerators of the rows of the kind c, added up
 --   degreesOfKind p marks c      and their degrees
+--   leaving p w n                what leaves row w, where n leaves the row of the letters that a three-level block word uses
 --   Formed p xs marks ts rows f  each of the four is formed as the rules say, from the totals and rows that the call writes, and the readings xs
 --   totalNumerator p readings    the total
 --   AddsUp p readings f          what is claimed of the figures f
@@ -21,11 +22,11 @@ use Rattle.contrasts.specs.Columns.{read, totalsOf, squaresOf}
 use Rattle.contrasts.specs.Rows.{rowOf, degreesOf}
 use Rattle.contrasts.specs.Totals.{numerator}
 use Rattle.plan.specs.declared.types.Plan.{Plan}
-use Rattle.plan.specs.Plan.{factorsOf, runsOf, allReadings, runSumsOf, denominatorOf}
+use Rattle.plan.specs.Plan.{factorsOf, runsOf, allReadings, runSumsOf, denominatorOf, wordRow}
 use Rattle.plan.specs.Limits.{numeratorLimit}
 use Rattle.rows.specs.Kinds.{rowsIn, Kind, meanRow, blocksRow, errorRow, keptRow, kindOf, same}
 use Rattle.anova.specs.declared.types.Figures.{Figures}
-use Rattle.anova.specs.Table.{tableRefused, tableFigures, tableTotals, tableRows, rowsOf, SourceWithin}
+use Rattle.anova.specs.Table.{blockDegrees, blockAmount, rowDegrees, tableRefused, tableFigures, tableTotals, tableRows, rowsOf, SourceWithin}
 use Rattle.claims.specs.SumOfSquares.{numeratorIn, squaresWithin}
 
 -- V6 to V10: "Row 0 is the mean. Confounded rows are blocks. Rows with mark 1 are error; mark 0 keeps any other row. Each of these four adds up the
@@ -34,20 +35,27 @@ abbrev pub ofKind : Plan → List ℕ → List ℕ → Kind → ℕ
 ofKind p marks rows c = Σℕ (rowsIn p) (λ w. cond (same (kindOf p marks w) c) (getD rows w 0) 0)
 
 abbrev pub degreesOfKind : Plan → List ℕ → Kind → ℕ
-degreesOfKind p marks c = Σℕ (rowsIn p) (λ w. cond (same (kindOf p marks w) c) (degreesOf (factorsOf p) w) 0)
+degreesOfKind p marks c = Σℕ (rowsIn p) (λ w. cond (same (kindOf p marks w) c) (rowDegrees p w) 0)
+
+-- what leaves row w, where n leaves the row of the letters used
+abbrev pub leaving : Plan → ℕ → ℕ → ℕ
+leaving p w n = cond (eqb w (wordRow p)) n 0
 
 -- D3.9: "each formed as the table's rules say"
 pub record Formed (p : Plan) (readings : List ℤ) (marks : List ℕ) (totals : List ℤ) (rows : List ℕ) (f : Figures) : Type 0 where
-  -- V2: "A three-level row adds the numerators of every effect using exactly its letters.": of the totals that the call writes
+  -- V2: "A three-level row adds the numerators of every effect using exactly its letters.": of the totals that the call writes; V18: the block amount "leaves
+  -- the row of the letters used, with 2 degrees"
   pub each-row : (w : ℕ) → w < rowsIn p
-      → getD rows w 0 ≡ Σℕ (runsOf p) (λ e. cond (eqb (rowOf (factorsOf p) e) w) (numeratorIn p totals e) 0)
+      → getD rows w 0 + leaving p w (blockAmount p (runSumsOf p readings)) ≡ Σℕ (runsOf p) (λ e. cond (eqb (rowOf (factorsOf p) e) w) (numeratorIn p totals e) 0)
+  pub each-degrees : (w : ℕ) → rowDegrees p w + leaving p w (blockDegrees p) ≡ degreesOf (factorsOf p) w
   pub degrees : (f .mean .degrees ≡ degreesOfKind p marks meanRow)
       × (f .kept .degrees ≡ degreesOfKind p marks keptRow)
-      × (f .blocks .degrees ≡ degreesOfKind p marks blocksRow)
+      × (f .blocks .degrees ≡ degreesOfKind p marks blocksRow + blockDegrees p)
       × (f .error .degrees ≡ degreesOfKind p marks errorRow + runsOf p * (p .repeats - 1))
   pub mean : f .mean .numerator ≡ ofKind p marks rows meanRow
   pub kept : f .kept .numerator ≡ ofKind p marks rows keptRow
-  pub blocks : f .blocks .numerator ≡ ofKind p marks rows blocksRow
+  -- V18: it "goes to the blocks line"
+  pub blocks : f .blocks .numerator ≡ ofKind p marks rows blocksRow + blockAmount p (runSumsOf p readings)
   -- V16: "The squares of readings about their run's mean, over the new denominator, join the error line with N times (r - 1) degrees."
   pub error : f .error .numerator ≡ ofKind p marks rows errorRow + squaresWithin p readings
   -- R10, T29: the totals that the call writes are those of the run sums

@@ -44,14 +44,8 @@ pub fn row_lines(text: &mut [u8], at: usize, p: Plan, marks: &[u8], rows: &[u64]
     let mut i = 0;
     while i < rows.len() {
         let row = i as u16;
-        next = row_line(
-            text,
-            next,
-            row,
-            degrees_left(levels, used, row),
-            rows[i],
-            kinds[i],
-        );
+        let left = degrees_left(levels, used, row);
+        next = row_line(text, next, row, left, rows[i], kinds[i]);
         i += 1;
     }
     next

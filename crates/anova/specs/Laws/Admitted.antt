@@ -3,7 +3,7 @@
 --   TableReady p readings marks totals rows    lengths and bounds of a table that is not refused
 --   table-admitted                             these, from the number
 --   table-admits                               and this is all that is asked, with readings within the limit and marks that are lawful
---   InBlocks p word readings marks totals rows    such a table of a three-level plan with this block word
+--   InBlocks p word readings .. rows           such a table of a three-level plan with this block word
 --   SumsReady p sums, sums-ready               run sums of an accepted plan within their limit: those of such a table
 --   rows-power                                 R is 2 to the power of the number of factors
 --   within-limit                               the sum of all numerators of run sums is within the plan's limit of numerators

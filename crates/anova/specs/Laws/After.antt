@@ -1,6 +1,6 @@
 -- What rows and sums hold after all totals is what the table has by effects, and the totals that the walk is handed: those of the run sums.
 --
---   rows-after-all                           the rows
+--   rows-after-all, row-after-all            the rows, and each of them
 --   numerator-after-all, degrees-after-all   numerator and degrees of each kind
 --   totals-after-all                         the sum of the totals
 --   total-read, table-walkable               the totals that are handed to the walk: it can go over them, and no sum wraps
@@ -15,6 +15,7 @@ use Rattle.algebra.specs.Laws.Tab.{length-tab, getD-tab}
 use Rattle.algebra.specs.Naturals.{Σℕ}
 use Rattle.algebra.specs.Sorted.{sumAt}
 use Rattle.contrasts.specs.Columns.{read, totalsOf}
+use Rattle.contrasts.specs.Rows.{rowNumerator}
 use Rattle.contrasts.specs.Laws.Rows.{numerators-of-kind, degrees-of-kind}
 use Rattle.contrasts.specs.Laws.Squares.{numerators}
 use Rattle.contrasts.specs.Totals.{total, denominator, numeratorOf, squared}
@@ -33,6 +34,11 @@ module _ (p : Plan) (sums : List ℤ) where
   pub rows-after-all : rowsAfter p (total (factorsOf p) (read sums)) (runsOf p) ≡ rowsByEffects p sums
   unfolding rowsAfter rowsByEffects
   rows-after-all = refl
+
+  pub row-after-all : (w : ℕ) → w < rowsIn p
+      → getD (rowsAfter p (total (factorsOf p) (read sums)) (runsOf p)) w 0 ≡ rowNumerator (factorsOf p) (read sums) w
+  unfolding rowsByEffects
+  row-after-all w h = ap (λ (rows : List ℕ). getD rows w 0) rows-after-all ∙ getD-tab 0 (rowsIn p) (rowNumerator (factorsOf p) (read sums)) w h
 
   pub totals-after-all : (marks : List ℕ) → sumsAfter p (total (factorsOf p) (read sums)) marks (runsOf p) .totals ≡ checksOf p sums .totals
   unfolding sumsBy checksOf

@@ -14,7 +14,8 @@ use Rattle.plan.specs.Plan.{factorsOf, runSumsOf}
 use Rattle.plan.specs.Laws.Alike.{Alike, same-refused as same-plan-refused, same-limit}
 use Rattle.columns.specs.Refusals.{wrongLength, wrongReadings}
 use Rattle.rows.specs.Kinds.{rowsIn, wrongRows, kindOf, badMark, badMarks}
-use Rattle.anova.specs.Table.{wrongLengths, tableRefused, blockDegrees, blockAmount, blockSource, rowDegrees, rowLeft, sourceOf, withinSource, totalSource, checksOf, tableFigures, rowsOf}
+use Rattle.anova.specs.Table.{wrongLengths, tableRefused, blockDegrees, blockAmount, blockSource, rowDegrees, rowLeft, sourceOf, withinSource, totalSource, checksOf}
+use Rattle.anova.specs.Table.{tableFigures, rowsOf}
 
 module _ {p q : Plan} (a : Alike p q) (readings : List ℤ) where
   pub same-refused : (marks : List ℕ) (totals : List ℤ) (rows : List ℕ) → tableRefused p readings marks totals rows ≡ tableRefused q readings marks totals rows

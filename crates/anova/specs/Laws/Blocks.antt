@@ -4,18 +4,20 @@
 --   degrees-stay, row-stays           so every row has its degrees and its numerator
 --   sources-stay, rows-stay           and sources and rows are those of the effects
 --   two-unchanged                     as they are at two levels
---   of-three, amount-once             with one it is that of three-level factors, and the same as of runs made once
---   uses-row, by-mark                 its row is not row 0, and is kept or error by its mark: at three levels no row is of the kind blocks
---   word-row-lt                       it is one of the rows
+--   uses-row, uses-digits             with one its row is not row 0
+--   by-mark                           and is kept or error by its mark: at three levels no row is of the kind blocks
+--   two-degrees, of-three             it has 2 degrees, and is that of three-level factors
+--   amount-once                       the same as of runs made once
+--   word-row-lt                       its row is one of the rows
 --   never-below                       "The remainder is never negative", and there are 2 degrees to leave
 --   remainder, degrees-left           what is left of that row, and the amount, are the row's numerator; and so of its degrees
---   other-rows                        every other row has all of its own
 --   all-left, all-degrees-left        what is left of all rows, and the amount, are the numerators of all rows; and so of their degrees
 --   numerator-moved, degrees-moved    what is left of the rows of a kind, and the amount where its row is one of them, are the kind's by effects
-use mathlib.Core.Path.{_≡_, refl, sym, _∙_, ap, ap₂}
+--   other-rows, other-degrees         every other row has all of its own
+use mathlib.Core.Path.{_≡_, refl, sym, _∙_, ap}
 use mathlib.Core.Bool.{Bool, true, false, cond}
 use mathlib.Core.List.{List}
-use Prim.Native.Nat.{ℕ, _+_, _-_, _*_, _^_, _<_, _≤_}
+use Prim.Native.Nat.{ℕ, _+_, _-_, _<_, _≤_}
 use native.Mathlib.Omega.{arith}
 use native.Mathlib.Decide.{ℕ-discrete}
 use borrow.Author.Tests.{eq-eqb, ne-eqb}
@@ -209,3 +211,21 @@ module _ (p : Plan) (w : ℕ) (other : w ≡ wordRow p → ⊥) where
   pub other-rows : (sums : List ℤ) → rowLeft p sums w ≡ rowNumerator (factorsOf p) (read sums) w
   unfolding rowLeft
   other-rows sums = rw (ne-eqb w (wordRow p) other) (omega arith)
+
+-- of any row
+module _ (p : Plan) (ok : planRefused p ≡ 0) (w : ℕ) where
+  pub each-degrees : rowDegrees p w + cond (eqb w (wordRow p)) (blockDegrees p) 0 ≡ degreesOf (factorsOf p) w
+  each-degrees = by (ℕ-discrete w (wordRow p))
+    where
+      by : Dec (w ≡ wordRow p) → rowDegrees p w + cond (eqb w (wordRow p)) (blockDegrees p) 0 ≡ degreesOf (factorsOf p) w
+      by (yes e) = rw (eq-eqb w (wordRow p) e) (ap (λ v. rowDegrees p v + blockDegrees p) e ∙ degrees-left p ok ∙ ap (degreesOf (factorsOf p)) (sym e))
+      by (no n) = rw (ne-eqb w (wordRow p) n) (omega (arith, other-degrees p w n))
+
+  pub each-left : (sums : List ℤ) → rowLeft p sums w + cond (eqb w (wordRow p)) (blockAmount p sums) 0 ≡ rowNumerator (factorsOf p) (read sums) w
+  each-left sums = by (ℕ-discrete w (wordRow p))
+    where
+      by : Dec (w ≡ wordRow p) → rowLeft p sums w + cond (eqb w (wordRow p)) (blockAmount p sums) 0 ≡ rowNumerator (factorsOf p) (read sums) w
+      by (yes e) =
+          rw (eq-eqb w (wordRow p) e)
+          (ap (λ v. rowLeft p sums v + blockAmount p sums) e ∙ remainder p ok sums ∙ ap (rowNumerator (factorsOf p) (read sums)) (sym e))
+      by (no n) = rw (ne-eqb w (wordRow p) n) (omega (arith, other-rows p w n sums))

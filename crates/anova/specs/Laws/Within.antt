@@ -4,7 +4,7 @@
 --   all-degrees                                 the degrees of all rows add up to N
 --   fit                                         the denominator and the number of readings are within the limit
 --   some-within                                 any sum of some effects' numerators is
---   row-within, effects-within                  the numerator of a row is, and so with all its effects
+--   row-within, row-effects-within              the numerator of a row is, and so with all its effects
 --   kind-within, effect-within                  those of the rows of one kind are, and so with all their effects
 --   total-within-limit                          each total is, in size
 --   check-small, checks-within                  both check numbers are, in size
@@ -102,15 +102,15 @@ module _ {p : Plan} {sums : List ℤ} (a : SumsReady p sums) where
       → Σℕ n (λ e. cond (some e) (numerator (factorsOf p) (read sums) e) 0) ≤ numeratorLimit p
   some-within = numerators-fit (plan-roomy p (a .plan)) (read sums) (λ r _. a .within r)
 
-  pub effects-within : (w : ℕ) → rowNumerator (factorsOf p) (read sums) w ≤ numeratorLimit p
-  effects-within w =
+  pub row-effects-within : (w : ℕ) → rowNumerator (factorsOf p) (read sums) w ≤ numeratorLimit p
+  row-effects-within w =
       le-trans (rw (numerators (factorsOf p) (read sums)) at (sum-least (rowOf (factorsOf p)) (numerator (factorsOf p) (read sums)) (runsOf p) (runsOf p) w (omega arith)))
       (within-limit a)
 
   -- V20: what is left of a row is no more than the row
   pub row-within : (w : ℕ) → rowLeft p sums w ≤ numeratorLimit p
   unfolding rowLeft
-  row-within w = omega (arith, effects-within w)
+  row-within w = omega (arith, row-effects-within w)
 
   pub effect-within : (marks : List ℕ) (c : Kind) → SourceWithin (numeratorLimit p) (effectSource p sums marks c)
   unfolding effectSource
@@ -162,7 +162,8 @@ module _ {p : Plan} {readings : List ℤ} {marks : List ℕ} {totals : List ℤ}
       f .mean .degrees + f .kept .degrees + f .blocks .degrees + f .error .degrees ≡ f .total .degrees
   unfolding tableFigures sourceOf blockSource withinSource joined totalSource
   degrees-add-up =
-      omega (arith, four (rowsIn p) (kindOf p marks) (rowDegrees p), all-degrees-left p (a .plan), all-degrees (sums-ready a), all-repeats (runsOf p) (p .repeats) (some-repeat p (a .plan) .0))
+      let repeats = all-repeats (runsOf p) (p .repeats) (some-repeat p (a .plan) .0) in
+      omega (arith, four (rowsIn p) (kindOf p marks) (rowDegrees p), all-degrees-left p (a .plan), all-degrees (sums-ready a), repeats)
 
   pub total-source-within : SourceWithin (numeratorLimit p) (totalSource p readings)
   unfolding totalSource
@@ -186,7 +187,11 @@ module _ {p : Plan} {readings : List ℤ} {marks : List ℕ} {totals : List ℤ}
 
   pub blocks-within : SourceWithin (numeratorLimit p) (tableFigures p readings marks .blocks)
   unfolding tableFigures totalSource
-  blocks-within = record { degrees = omega (arith, degrees-add-up, total-source-within .degrees); numerator = omega (arith, numerators-add-up, total-source-within .numerator) }
+  blocks-within =
+      record {
+        degrees = omega (arith, degrees-add-up, total-source-within .degrees);
+        numerator = omega (arith, numerators-add-up, total-source-within .numerator);
+      }
 
   pub error-within : SourceWithin (numeratorLimit p) (tableFigures p readings marks .error)
   unfolding tableFigures totalSource

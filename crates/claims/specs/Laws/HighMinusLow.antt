@@ -44,7 +44,7 @@ use Rattle.estimates.specs.Laws.Totals.{totals-admitted}
 use Rattle.promises.specs.Promised.{promisedEstimate}
 use Rattle.claims.specs.Letters.{TwoLevels, high, base, word, turnIf}
 use Rattle.claims.specs.HighMinusLow.{plus, turn, turnedBy, highMinusLow, estimateOf, MeanDifference, PrintedTotals, PrintedAliases, PrintedAliasTotals, OwnWord, Generators, Estimates, MainEstimates, AddedEstimates, AliasEstimates, MeanEstimate, LostEstimates, PositiveZero}
-use Rattle.claims.specs.Laws.Letters.{a, k-few, high-same, base-in, letter-in}
+use Rattle.claims.specs.Laws.Letters.{a, k-few, not-three-levels, high-same, base-in, letter-in}
 
 -- ---- signs
 
@@ -65,7 +65,7 @@ printed-totals p t x e h =
     twice false b = refl
 
 pub printed-aliases : PrintedAliases
-printed-aliases p t e r f = (base-in p t e, plan-reduces p (a p t) r e f ∙ ap (turnedBy (turn p e)) (sym (plus-same p t (base p e) r (base-in p t e))))
+printed-aliases p t e r f = (base-in p t e, plan-reduces p (a p t) (not-three-levels p t) r e f ∙ ap (turnedBy (turn p e)) (sym (plus-same p t (base p e) r (base-in p t e))))
 
 pub printed-alias-totals : PrintedAliasTotals
 printed-alias-totals p t x e f =

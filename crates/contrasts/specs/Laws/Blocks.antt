@@ -3,12 +3,14 @@
 --   digits-none, block-none    without a word every run is in block 0
 --   digits-turn                a loop that adds up digit times level from the lowest digit on: its next turn
 --   digits-bound               how large that sum is
+--   digits-are                 it is the sum, over the positions, of digit times level
 --   block-lt                   there are three blocks
 --   by-block, all-blocks       sums over the runs, block by block
 --   block-sum-within           how large a block sum is
 --   apart Fs w x               the squares of the differences of the block sums, added up
 --   thrice                     three times the squares of the block sums: those of their differences, and that of their sum
 --   vanishes                   a function of the block that adds up to 0 has no total outside the row of the word's letters
+--   untouched                  what blocks differ by changes no total outside that row, but the mean's
 --   evenly                     sums over the runs of a function of the block
 --   block-runs                 a block has a third of the runs
 --   products, squares-of-y     the column y, three times the sum of the run's block less the sum of all
@@ -16,27 +18,28 @@
 --   inside-row                 so the weight of effect 0 times `apart` is at most the row's numerator
 --   no-remainder, not-cut      no division in the block amount leaves a remainder, and nothing is cut off at 0
 --   amount-is                  the block amount is that product, however often runs are made
+--   amount-whole               the amount in whole numbers, with the number of all readings for that of each block's
 --   never-negative             "The remainder is never negative"
 use mathlib.Core.Path.{_≡_, refl, sym, _∙_, ap, ap₂}
 use mathlib.Core.Bool.{Bool, true, false, cond}
 use mathlib.Core.List.{List, [], _∷_}
-use Prim.Native.Nat.{ℕ, zero, suc, _+_, _*_, _-_, _/_, _%_, _<_, _≤_}
+use Prim.Native.Nat.{ℕ, zero, suc, _+_, _*_, _-_, _/_, _%_, _^_, _<_, _≤_}
 use native.Mathlib.Nat.{le-trans, zero-mod, zero-div, zero-mul, mod-lt, add-assoc, mul-pos, mul-assoc, mul-left-comm, mul-le-mul}
-use native.Mathlib.Nat.{div-eq-of-eq-mul-right, le-of-mul-le-mul-left}
+use native.Mathlib.Nat.{mul-comm, div-one, div-div-eq-div-mul, div-eq-of-eq-mul-right, pow-zero, pow-suc, le-of-mul-le-mul-left}
 use native.Mathlib.Decide.{ℕ-discrete}
 use native.Mathlib.Omega.{arith}
 use borrow.Author.Tests.{eq-eqb, ne-eqb}
 use lib.Arith.{digits-div, digits-mod}
 use lib.Dec.{eqb, lit<}
-use lib.IntN.{ℤ, pos, natAbs, _+ℤ_, _*ℤ_, _-ℤ_, *ℤ-zero, zero-*ℤ, +ℤ-idl}
+use lib.IntN.{ℤ, pos, negsuc, natAbs, _+ℤ_, _*ℤ_, _-ℤ_, *ℤ-zero, zero-*ℤ, +ℤ-idl, +ℤ-idr}
 use lib.ListN.{replicate}
 use Rattle.algebra.specs.Naturals.{Σℕ}
 use Rattle.algebra.specs.Sorted.{sumAt}
 use Rattle.algebra.specs.Sum.{Σ, δ}
 use Rattle.algebra.specs.Tests.{every, eqZ}
-use Rattle.algebra.specs.Laws.Naturals.{Σℕ-pos, Σℕ-cong, Σℕ-each}
+use Rattle.algebra.specs.Laws.Naturals.{Σℕ-pos, Σℕ-cong, Σℕ-first, Σℕ-each}
 use Rattle.algebra.specs.Laws.Ring.{ℤ-*one}
-use Rattle.algebra.specs.Laws.Size.{sq, square, squares-of, natAbs-Σ}
+use Rattle.algebra.specs.Laws.Size.{sq, square, squares-of, natAbs-*ℤ, natAbs-Σ}
 use Rattle.algebra.specs.Laws.Solve.{Ex, solve, var, lit, _⊕_, _⊖_, _⊗_}
 use Rattle.algebra.specs.Laws.Sum.{Σ-ext, Σ-cong, Σ-zero, Σ-const, Σ-add, Σ-mul, Σ-mul-r, Σ-swap, Σ-one, cond-*ℤ}
 use Rattle.algebra.specs.Laws.Tests.{every-at, eqZ→eq}
@@ -78,6 +81,21 @@ digits-bound (suc k) u v = omega (arith, mul-le-mul (two u) (two v), digits-boun
   where
     two : (n : ℕ) → n % 3 ≤ 2
     two n = omega arith
+
+-- R11: "the sum of digit times level"
+pub digits-are : (k w r : ℕ) → digitSum (replicate k three) w r ≡ Σℕ k (λ i. (w / 3 ^ i % 3) * (r / 3 ^ i % 3))
+unfolding digitSum three Σℕ
+digits-are zero w r = refl
+digits-are (suc k) w r =
+    ap (λ n. (w % 3) * (r % 3) + n) (digits-are k (w / 3) (r / 3) ∙ Σℕ-cong k (λ i _. ap₂ (λ (a b : ℕ). (a % 3) * (b % 3)) (higher w i) (higher r i)))
+    ∙ ap (λ n. n + Σℕ k (λ i. (w / 3 ^ suc i % 3) * (r / 3 ^ suc i % 3))) (ap₂ (λ (a b : ℕ). (a % 3) * (b % 3)) (lowest w) (lowest r))
+    ∙ sym (Σℕ-first k (λ i. (w / 3 ^ i % 3) * (r / 3 ^ i % 3)))
+  where
+    higher : (n i : ℕ) → n / 3 / 3 ^ i ≡ n / 3 ^ suc i
+    higher n i = div-div-eq-div-mul n 3 (3 ^ i) ∙ ap (λ m. n / m) (mul-comm 3 (3 ^ i) ∙ sym (pow-suc 3 i))
+
+    lowest : (n : ℕ) → n ≡ n / 3 ^ 0
+    lowest n = sym (rw (pow-zero 3) (div-one n))
 
 pub block-lt : (Fs : List Factor) (w r : ℕ) → blockOf Fs w r < 3
 block-lt Fs w r = mod-lt (digitSum Fs w r) (lit< tt)
@@ -293,6 +311,59 @@ vanishes (suc k) w e h z n =
         (λ q _. one-used h z (blockOf (replicate k three) (w / 3) q) (e % 3) (w % 3) (mod-lt e (lit< tt)) (mod-lt w (lit< tt)) s)
         ∙ no-total (replicate k three) (e / 3)
 
+-- ---- what blocks differ by
+
+split : (a c : ℤ) → a ≡ (a -ℤ c) +ℤ c
+split a c = solve (a ∷ c ∷ []) (var 0) (var 0 ⊖ var 1 ⊕ var 1) refl
+
+total-plus : (Fs : List Factor) (x y : Column) (e : ℕ) → total Fs (λ r. x r +ℤ y r) e ≡ total Fs x e +ℤ total Fs y e
+unfolding total
+total-plus Fs x y e =
+    Σ-ext (size Fs) (λ r. both (x r) (y r) (coef* Fs e r)) ∙ Σ-add (size Fs) (λ r. x r *ℤ coef* Fs e r) (λ r. y r *ℤ coef* Fs e r)
+  where
+    both : (a b c : ℤ) → (a +ℤ b) *ℤ c ≡ a *ℤ c +ℤ b *ℤ c
+    both a b c = solve (a ∷ b ∷ c ∷ []) ((var 0 ⊕ var 1) ⊗ var 2) (var 0 ⊗ var 2 ⊕ var 1 ⊗ var 2) refl
+
+total-times : (Fs : List Factor) (c : ℤ) (x : Column) (e : ℕ) → total Fs (λ r. c *ℤ x r) e ≡ c *ℤ total Fs x e
+unfolding total
+total-times Fs c x e =
+    Σ-ext (size Fs) (λ r. solve (c ∷ x r ∷ coef* Fs e r ∷ []) ((var 0 ⊗ var 1) ⊗ var 2) (var 0 ⊗ (var 1 ⊗ var 2)) refl) ∙ Σ-mul c (size Fs) (λ r. x r *ℤ coef* Fs e r)
+
+-- a third of 0
+no-third : (z : ℤ) → pos 3 *ℤ z ≡ pos 0 → z ≡ pos 0
+no-third (pos zero) e = refl
+no-third (pos (suc n)) e = absurd (omega (arith, natAbs-*ℤ (pos 3) (pos (suc n)), ap natAbs e))
+no-third (negsuc n) e = absurd (omega (arith, natAbs-*ℤ (pos 3) (negsuc n), ap natAbs e))
+
+module _ (k e : ℕ) (used-letters : rowOf (replicate k three) e ≡ 0 → ⊥) where
+  -- all blocks alike: by the word that uses no letter, for which all runs are in block 0
+  alike-none : (c : ℤ) → total (replicate k three) (λ r. c) e ≡ pos 0
+  unfolding Σ
+  alike-none c =
+      sym (total-cong (replicate k three) _ _ e (λ r _. ap own (block-none (replicate k three) r)))
+      ∙ vanishes k 0 e own (solve (c ∷ []) (lit (pos 0) ⊕ var 0 ⊕ (lit (pos 0) ⊖ var 0) ⊕ lit (pos 0)) (lit (pos 0)) refl) (λ s. used-letters (s ∙ row-none (replicate k three)))
+    where
+      own : ℕ → ℤ
+      own j = cond (eqb j 0) c (cond (eqb j 1) (pos 0 -ℤ c) (pos 0))
+
+  pub untouched : (w : ℕ) (x : Column) (h : ℕ → ℤ) → (rowOf (replicate k three) e ≡ rowOf (replicate k three) w → ⊥)
+      → total (replicate k three) (λ r. x r +ℤ h (blockOf (replicate k three) w r)) e ≡ total (replicate k three) x e
+  untouched w x h other =
+      total-plus Fs x own e ∙ ap (λ z. total Fs x e +ℤ z) (no-third (total Fs own e) (sym (total-times Fs (pos 3) own e) ∙ thirds)) ∙ +ℤ-idr (total Fs x e)
+    where
+      Fs : List Factor
+      Fs = replicate k three
+
+      own : Column
+      own r = h (blockOf Fs w r)
+
+      -- three times the column, less the sum of the three, and that sum
+      thirds : total Fs (λ r. pos 3 *ℤ own r) e ≡ pos 0
+      thirds =
+          total-cong Fs _ _ e (λ r _. split (pos 3 *ℤ own r) (Σ 3 h))
+          ∙ total-plus Fs (λ r. pos 3 *ℤ own r -ℤ Σ 3 h) (λ r. Σ 3 h) e
+          ∙ ap₂ _+ℤ_ (vanishes k w e (λ j. pos 3 *ℤ h j -ℤ Σ 3 h) (centred h) other) (alike-none (Σ 3 h))
+
 -- ---- a word that uses a letter
 
 -- of three blocks one is block j
@@ -320,9 +391,6 @@ module _ (k w : ℕ) (some : rowOf (replicate k three) w ≡ 0 → ⊥) where
     where
       c : ℕ → ℤ
       c j = pos 3 *ℤ h j -ℤ Σ 3 h
-
-      split : (a c : ℤ) → a ≡ (a -ℤ c) +ℤ c
-      split a c = solve (a ∷ c ∷ []) (var 0) (var 0 ⊖ var 1 ⊕ var 1) refl
 
   -- each block has a third of the runs
   pub block-runs : (j : ℕ) → j < 3 → 3 * blockRuns Fs w j ≡ N
@@ -462,6 +530,17 @@ module _ (k w : ℕ) (some : rowOf (replicate k three) w ≡ 0 → ⊥) where
 
       pub not-cut : blockNumerator Fs r w x + numerator Fs x 0 ≡ Σℕ 3 (λ j. top j / bottom j)
       not-cut = ap (λ n. n + numerator Fs x 0) amount-is ∙ sym shares-out
+
+      pub amount-whole : N * r * blockNumerator Fs r w x + r * D * sq (Σ N x) ≡ r * D * (3 * Σℕ 3 (λ j. sq (B Fs w x j)))
+      unfolding Σℕ
+      amount-whole =
+          rw (amount-is, ← (weight-all k))
+          (all-in (sq (B Fs w x 0)) (sq (B Fs w x 1)) (sq (B Fs w x 2)) (apart Fs w x) (sq (Σ N x)) N P (thrice Fs w x))
+        where
+          all-in : (a b c d t n p : ℕ) → 3 * (a + b + c) ≡ d + t → n * r * (p * d) + r * (n * p) * t ≡ r * (n * p) * (3 * (0 + a + b + c))
+          all-in a b c d t n p e =
+              let f : r * (n * p) * (3 * (a + b + c)) ≡ r * (n * p) * (d + t) = ap (λ m. r * (n * p) * m) e in
+              omega (arith, f)
 
       -- V20: "The remainder is never negative"
       pub never-negative : blockNumerator Fs r w x ≤ rowNumerator Fs x (rowOf Fs w)

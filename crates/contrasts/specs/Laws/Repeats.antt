@@ -3,6 +3,7 @@
 --   sums-long, sums-read     there are as many run sums as runs, and each is the sum of its run's readings
 --   sums-once                of runs made once they are the readings
 --   sums-within              they are within r times the limit of the readings
+--   by-run                   sums over all readings, run by run
 --   about-means              all deviations squared, of n runs
 --   sums-least               the squares of the run sums are at most r times those of the readings: those about the means are never negative
 --   deviations-are           all deviations squared, of the runs of a plan
@@ -11,17 +12,19 @@
 --   squares-fit              the sum that they add up to is within the limit of numerators
 --   same-weight              "The denominator, all divisors [..] are multiplied by r": no weight changes
 use mathlib.Core.Path.{_≡_, refl, sym, _∙_, ap, ap₂}
+use mathlib.Core.Bool.{Bool, true, false, cond}
 use mathlib.Core.List.{List, [], _∷_}
 use Prim.Native.Nat.{ℕ, _+_, _*_, _-_, _/_, _<_, _≤_}
 use native.Mathlib.Nat.{le-trans, add-zero, mul-one, mul-pos, mul-comm, mul-assoc, mul-add, mul-sub, mul-le-mul, mul-le-mul-left, div-eq-of-eq-mul-right, le-of-mul-le-mul-left}
 use native.Mathlib.Omega.{arith}
+use lib.Arith.{digits-div}
 use lib.IntN.{ℤ, pos, natAbs, _+ℤ_, _*ℤ_, _-ℤ_}
 use lib.ListN.{length}
 use Rattle.algebra.specs.Sum.{Σ}
 use Rattle.algebra.specs.Naturals.{Σℕ}
 use Rattle.algebra.specs.Laws.Size.{sq, squares-of, natAbs-Σ}
 use Rattle.algebra.specs.Laws.Solve.{solve, var, lit, _⊕_, _⊖_, _⊗_}
-use Rattle.algebra.specs.Laws.Sum.{Σ-ext, Σ-unit, Σ-const, Σ-add, Σ-mul, Σ-digits}
+use Rattle.algebra.specs.Laws.Sum.{Σ-ext, Σ-cong, Σ-unit, Σ-zero, Σ-const, Σ-add, Σ-mul, Σ-digits}
 use Rattle.algebra.specs.Laws.Naturals.{Σℕ-pos, Σℕ-cong, Σℕ-each}
 use Rattle.algebra.specs.Laws.Tab.{length-tab, getD-tab, is-tab}
 use Rattle.contrasts.specs.Factor.{Factor}
@@ -57,6 +60,19 @@ sums-within n r M xs h =
     (Σℕ-each r M (λ j. natAbs (read xs (i * r + j))) (λ j _. h (i * r + j))))
 
 -- ---- the squares about the run's mean
+
+-- the readings of the runs that are chosen
+pub by-run : (n r : ℕ) → 0 < r → (chosen : ℕ → Bool) (x : Column)
+    → Σ (n * r) (λ i. cond (chosen (i / r)) (x i) (pos 0)) ≡ Σ n (λ q. cond (chosen q) (runSums r x q) (pos 0))
+unfolding runSums
+by-run n r some chosen x =
+    ap (λ m. Σ m (λ i. cond (chosen (i / r)) (x i) (pos 0))) (mul-comm n r)
+    ∙ Σ-digits r n (λ i. cond (chosen (i / r)) (x i) (pos 0))
+    ∙ Σ-ext n (λ q. Σ-cong r (λ d l. ap (λ m. cond (chosen m) (x (q * r + d)) (pos 0)) (digits-div q l)) ∙ together (chosen q) (λ d. x (q * r + d)))
+  where
+    together : (b : Bool) (u : ℕ → ℤ) → Σ r (λ d. cond b (u d) (pos 0)) ≡ cond b (Σ r u) (pos 0)
+    together true u = refl
+    together false u = Σ-zero r
 
 -- one run: r deviations squared are r times (r times the squares, less the square of the sum)
 one-run : (r : ℕ) (u : ℕ → ℤ)

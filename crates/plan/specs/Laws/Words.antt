@@ -7,26 +7,30 @@
 --   three-levels, keeps-rule   an accepted plan with a number has three levels, and the number keeps the digit rule
 --   uses-letters               so it uses letters: its row is not row 0
 --   row-of-digits              that row is one of three-level factors, whatever the levels
+--   three-refusals             what is refused at three levels: 3, 4, 5 and 16, and no more
 --   used-row                   what the code gives as that row
 use mathlib.Core.Path.{_≡_, refl, sym, _∙_, ap}
 use mathlib.Core.Logic.{_⊎_, inl, inr}
-use mathlib.Core.Bool.{Bool, true, false, cond}
-use mathlib.Core.List.{List, [], _∷_}
+use mathlib.Core.Bool.{Bool, true, false, cond, _||_}
+use mathlib.Core.List.{List, [], _∷_, _++_}
 use Prim.Native.Nat.{ℕ, _<_, _≤_}
 use native.Mathlib.Omega.{arith}
 use native.Mathlib.Decide.{ℕ-discrete, decLt}
 use lib.Dec.{eqb, ltb}
 use lib.ListN.{length, getD, take, replicate}
 use lib.Seq.{getD-take}
-use borrow.Author.Tests.{eq-eqb, ne-eqb, le-ltb}
+use borrow.Author.Tests.{eq-eqb, ne-eqb, lt-ltb, le-ltb}
+use Rattle.algebra.specs.Search.{some}
 use Rattle.algebra.specs.Laws.Tab.{getD-past}
 use Rattle.contrasts.specs.Factors.{three, ofLevels}
 use Rattle.contrasts.specs.Limits.{mostThree}
 use Rattle.contrasts.specs.Rows.{rowOf}
 use Rattle.contrasts.specs.Laws.Rows.{row-none}
 use Rattle.plan.specs.declared.types.Plan.{Plan}
-use Rattle.plan.specs.Plan.{wordCount, blockWords, numberCount, threeWords, threeWord, wordRow, factorsOf, combinesTo, someCombination, confoundedIn}
-use Rattle.plan.specs.Check.{badDigits, usedRow}
+use Rattle.plan.specs.Plan.{addedWords, addedSigns, runsOf, wordCount, blockWords, numberCount, threeWords, threeWord, wordRow, factorsOf, combinesTo, someCombination, confoundedIn}
+use Rattle.words.specs.Words.{any, repeated}
+use Rattle.plan.specs.Outcome.{Refusal, refusal, lowest}
+use Rattle.plan.specs.Check.{badLevels, badFactors, badCounts, badDigits, badWords, dependent, losesFactor, badRepeats, wordRefusals, planRefused, usedRow}
 use Rattle.plan.specs.Laws.Accepted.{Accepted}
 use Rattle.plan.specs.Laws.Combinations.{no-combination}
 use Rattle.plan.specs.Laws.Digits.{letters-used}
@@ -93,3 +97,54 @@ module _ (p : Plan) where
           other : (b : Bool) → cond b 0 (wordRow p) ≡ wordRow p
           other true = sym (rw (no-number n) (row-none (factorsOf p)))
           other false = refl
+
+-- ---- what is refused at three levels
+
+levels-three : (n : ℕ) → n ≡ 3 → badLevels n ≡ false
+unfolding badLevels
+levels-three n t = rw t refl
+
+factors-at-three : (n k : ℕ) → n ≡ 3 → badFactors n k ≡ (eqb k 0 || ltb 6 k)
+unfolding badFactors mostThree
+factors-at-three n k t = rw t refl
+
+-- "4 for an added factor or a second block word": either is within the limits for two levels or beyond them
+counts-three : (n a b : ℕ) → n ≡ 3 → badCounts n a b ≡ (ltb 0 a || ltb 1 b)
+unfolding badCounts
+counts-three n a b t = rw t (by (ℕ-discrete a 0) (decLt 1 b))
+  where
+    any-way : (c d e : Bool) → (c || (d || (true || e))) ≡ true
+    any-way true d e = refl
+    any-way false true e = refl
+    any-way false false e = refl
+
+    by : Dec (a ≡ 0) → Dec (1 < b) → (ltb 6 a || (ltb 4 b || (ltb 0 a || ltb 1 b))) ≡ (ltb 0 a || ltb 1 b)
+    by (no n) d = rw (lt-ltb 0 a (omega (arith, n))) (any-way (ltb 6 a) (ltb 4 b) (ltb 1 b))
+    by (yes e) (yes h) = rw (e, lt-ltb 1 b h) (any-way false (ltb 4 b) false)
+    by (yes e) (no h) = rw (e, le-ltb 1 b (omega arith), le-ltb 4 b (omega arith)) refl
+
+-- where that does not apply no word is a set of letters, and of the words nothing is refused but for the digits
+words-three : (k a b : ℕ) (words signs numbers : List ℕ) (further : List Refusal)
+    → cond (ltb 0 a || ltb 1 b) 4 (lowest (wordRefusals k (take a words) (take a signs) [] numbers ++ further))
+    ≡ cond (ltb 0 a || ltb 1 b) 4 (cond (any (badDigits k) numbers) 5 (lowest further))
+unfolding badWords repeated dependent losesFactor combinesTo someCombination some any
+words-three k a b words signs numbers further = by (ℕ-discrete a 0)
+  where
+    by : Dec (a ≡ 0)
+        → cond (ltb 0 a || ltb 1 b) 4 (lowest (wordRefusals k (take a words) (take a signs) [] numbers ++ further))
+        ≡ cond (ltb 0 a || ltb 1 b) 4 (cond (any (badDigits k) numbers) 5 (lowest further))
+    by (no n) = rw (lt-ltb 0 a (omega (arith, n))) refl
+    by (yes z) = rw z refl
+
+pub three-refusals : (p : Plan) → p .levels ≡ 3
+    → planRefused p ≡ lowest (
+    refusal 3 (eqb (p .k) 0 || ltb 6 (p .k))
+    ∷ refusal 4 (ltb 0 (p .added) || ltb 1 (p .blocks))
+    ∷ refusal 5 (any (badDigits (p .k)) (threeWords p))
+    ∷ refusal 16 (badRepeats (runsOf p) (p .repeats))
+    ∷ [])
+unfolding planRefused
+three-refusals p e =
+    rw (no-sets p e, levels-three (p .levels) e, factors-at-three (p .levels) (p .k) e, counts-three (p .levels) (p .added) (p .blocks) e)
+    (ap (λ n. cond (eqb (p .k) 0 || ltb 6 (p .k)) 3 n)
+    (words-three (p .k) (p .added) (p .blocks) (p .words) (p .signs) (threeWords p) (refusal 16 (badRepeats (runsOf p) (p .repeats)) ∷ [])))

@@ -1,4 +1,3 @@
-use mathlib.Core.Path.{_∙_}
 use Rattle.anova.proofs.Moved.{runs-ready, blocks-ready, amount-formed, column-kept}
 use Rattle.anova.proofs.amounts.amount_of.Statement.{statement}
 use Rattle.anova.proofs.amounts.amount_of.Tie as tie

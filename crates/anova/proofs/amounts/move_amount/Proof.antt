@@ -1,4 +1,3 @@
-use mathlib.Core.Path.{refl}
 use Rattle.anova.specs.Inner.Figures.{movedFigures}
 use Rattle.anova.proofs.amounts.move_amount.Statement.{statement}
 use Rattle.anova.proofs.amounts.move_amount.Tie as tie

@@ -28,7 +28,7 @@ row-lines-spec =
     let start = c .before .before .before .before .before .before .before in
     record { fits = omega (arith, c .loop-test .taken, few-rows (start .pre) (start .args .marks .now)) })
     (λ c κs. λ e.
-    let used = c .before .before .before .before in
+    let used = c .before .before .before in
     used .word-row .ensures ∙ none-used _ e)
     (λ c.
     let looped = c .before .before .before in
@@ -44,7 +44,7 @@ row-lines-spec =
     (λ c. omega arith)
     (λ c.
     let inv = c .before .before .before .before .before .before .before .loop .inv in
-    let degrees-is = c .before .before .before .before .degrees-left .ensures in
+    let degrees-is = c .before .before .before .before .before .degrees-left .ensures in
     (row-more _ _ _ _ _ degrees-is (inv .0) (c .before .before .row-line .ensures), omega arith))
     (λ c. same-size (c .before .loop .inv .0))
     (λ c.
