@@ -24,10 +24,10 @@ use Rattle.effects.specs.Effects.{effectDivisors}
 use Rattle.rows.specs.Kinds.{wrongRows, kindByMark, kindOf, badMark, badMarks}
 use Rattle.estimates.specs.Quotient.{quotient}
 use Rattle.estimates.specs.Estimate.{printedTotal, meanOf, differenceOf, valueBy, estimateRefused, exponentOf}
-use Rattle.anova.specs.Table.{wrongLengths, tableRefused, sourceOf, totalSource, checksOf, tableFigures, tableTotals, tableRows, rowsOf, joined, withinSource}
+use Rattle.anova.specs.Table.{blockDegrees, blockAmount, blockSource, rowDegrees, rowLeft, wrongLengths, tableRefused, sourceOf, totalSource, checksOf, tableFigures, tableTotals, tableRows, rowsOf, joined, withinSource}
 use Rattle.contrasts.specs.Repeats.{runSums, withinRuns}
 use Rattle.claims.specs.Starred.{Starred}
 
 pub starred : Starred
-unfolding tableRefused tableTotals tableRows tableFigures sourceOf totalSource checksOf rowsOf wrongLengths wrongRows wrongLength anyBeyond isBeyond badMarks badMark kindOf kindByMark withPlan planRefused badLevels badFactors mostTwo mostThree badCounts badWords badWord badSign repeated dependent losesFactor factorWord any among beyond letters combined times someCombination combinesTo some bits Σℕ Σ readingLimit twoReadingLimit threeReadingLimit factorsOf size two three total coef* totalsOf tabFrom divisor* denominator weight* numeratorOf checkWeight round rounds rowOf degreesOf sumAt baseWord signOnes oddSigns turned aliasRefused estimateRefused valueBy meanOf differenceOf printedTotal quotient runCount effectDivisors confoundedAccepted badRepeats isRepeats mostReadings withinSource joined withinRuns runSums runSumsIn squaresOf wrongReadings exponentOf
+unfolding tableRefused tableTotals tableRows tableFigures sourceOf blockSource blockDegrees blockAmount rowDegrees rowLeft totalSource checksOf rowsOf wrongLengths wrongRows wrongLength anyBeyond isBeyond badMarks badMark kindOf kindByMark withPlan planRefused badLevels badFactors mostTwo mostThree badCounts badWords badWord badSign repeated dependent losesFactor factorWord any among beyond letters combined times someCombination combinesTo some bits Σℕ Σ readingLimit twoReadingLimit threeReadingLimit factorsOf size two three total coef* totalsOf tabFrom divisor* denominator weight* numeratorOf checkWeight round rounds rowOf degreesOf sumAt baseWord signOnes oddSigns turned aliasRefused estimateRefused valueBy meanOf differenceOf printedTotal quotient runCount effectDivisors confoundedAccepted badRepeats isRepeats mostReadings withinSource joined withinRuns runSums runSumsIn squaresOf wrongReadings exponentOf
 starred = refl

@@ -17,7 +17,7 @@ use Rattle.algebra.specs.Tab.{tabFrom}
 use Rattle.contrasts.specs.Columns.{read, passOf, totalsOf, runSumsIn, squaresOf}
 use Rattle.contrasts.specs.Limits.{twoReadingLimit, threeReadingLimit, valueLimit, mostTwo, mostThree, isRepeats, mostReadings}
 use Rattle.contrasts.specs.Repeats.{runSums, withinRuns}
-use Rattle.contrasts.specs.Rows.{degreesOf}
+use Rattle.contrasts.specs.Rows.{rowOf, degreesOf}
 use Rattle.contrasts.specs.Factors.{two, three}
 use Rattle.contrasts.specs.Codings.{neg}
 use Rattle.contrasts.specs.Totals.{size, coef*, total, denominator, squared}
@@ -38,7 +38,7 @@ use Rattle.yates.specs.Calls.{passRefused, passColumn, totalsColumn}
 use Rattle.yates.specs.Laws.Admitted.{pass-admits}
 use Rattle.estimates.specs.Estimate.{Value, mean, difference, lost, differenceOf, valueBy, estimateRefused, estimateValue, exponentOf}
 use Rattle.anova.specs.declared.types.Figures.{Figures}
-use Rattle.anova.specs.Table.{wrongLengths, tableRefused, sourceOf, totalSource, checksOf, tableFigures, tableTotals, joined, withinSource}
+use Rattle.anova.specs.Table.{blockDegrees, rowDegrees, wrongLengths, tableRefused, sourceOf, totalSource, checksOf, tableFigures, tableTotals, joined, withinSource}
 use Rattle.numerals.specs.Numbers.{big, twos}
 use Rattle.fields.specs.Fields.{parse, fieldsOf, bodies, bodyAt}
 use Rattle.fields.specs.Tags.{badFrom, badFields}
@@ -102,7 +102,7 @@ unfolding tableFigures totalSource factorsOf size two denominator squared Σℕ 
 total-numerators = (refl, refl)
 
 kept-degrees : (tableFigures four readings allKept .kept .degrees ≡ 3) × (tableFigures four readings pooled .kept .degrees ≡ 2)
-unfolding tableFigures sourceOf kindOf kindByMark combinesTo someCombination some combined times bits Σℕ factorsOf size two degreesOf withinSource joined withinRuns runSums runSumsIn squaresOf
+unfolding tableFigures sourceOf rowDegrees rowOf blockDegrees kindOf kindByMark combinesTo someCombination some combined times bits Σℕ factorsOf size two degreesOf withinSource joined withinRuns runSums runSumsIn squaresOf
 kept-degrees = (refl, refl)
 
 -- one three-level factor: one row is kept, and it has 2 degrees
@@ -111,7 +111,7 @@ unfolding tableRefused wrongLengths wrongRows wrongLength anyBeyond isBeyond bad
 three-made = refl
 
 two-degrees : (rowsOfKind threeLevels (0 ∷ 0 ∷ []) keptRow ≡ 1) × (tableFigures threeLevels threeReadings (0 ∷ 0 ∷ []) .kept .degrees ≡ 2)
-unfolding tableFigures sourceOf kindOf kindByMark combinesTo someCombination some combined times bits Σℕ factorsOf size two three degreesOf withinSource joined withinRuns runSums runSumsIn squaresOf
+unfolding tableFigures sourceOf rowDegrees rowOf blockDegrees kindOf kindByMark combinesTo someCombination some combined times bits Σℕ factorsOf size two three degreesOf withinSource joined withinRuns runSums runSumsIn squaresOf
 two-degrees = (refl, refl)
 
 check-numbers : (tableFigures four readings allKept .checks .readings ≡ pos 12) × (tableFigures four zeros allKept .checks .readings ≡ pos 0)
