@@ -25,7 +25,7 @@
 #   TOP              the limit of a reading, by levels; LEVELS_NAMED, SIDES: level counts and the two limits in words
 #   named            levels and repeats of a plan in words
 #   about_limit      readings with one of a size, either way, at the first, a middle and the last place
-#   ACCEPTED         accepted inputs of the table call: readings at the limits or, at two levels, beyond those of three
+#   ACCEPTED         accepted inputs of the table call: readings at the limits or, at two levels, beyond those of three; repeats, three blocks
 #   REFUSALS         refused inputs of the table call: every refusal of the rules, and inputs to which several apply
 #   ESTIMATES        inputs of the estimate call: a plan, an effect and a total
 #   ALIASES          inputs of the alias call: a plan and an effect of all factors

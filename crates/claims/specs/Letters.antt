@@ -1,6 +1,7 @@
 -- What coefficients, added factors, blocks and aliases mean in letters, at two levels, with the report's signs, low minus high, which totals
 -- and numerators keep. A run's letters are those that the run call gives as high, base and added factors alike, and its block is that call's;
--- an effect's base word is the alias call's. That call's turn is for the signs that journals print: `HighMinusLow.antt`.
+-- an effect's base word is the alias call's. That call's turn is for the signs that journals print: `HighMinusLow.antt`. Runs and blocks of three-level
+-- plans: `ThreeBlocks.antt`.
 --
 --   TwoLevels p            the plan is accepted and has two levels
 --   high p r, block p r    the letters that are high in run r, and its block

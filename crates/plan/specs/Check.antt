@@ -56,7 +56,7 @@ unfoldable pub usedDigits : ℕ → ℕ → ℕ
 usedDigits zero w = 0
 usedDigits (suc k) w = cond (eqb (w % 3) 0) 0 1 + usedDigits k (w / 3)
 
--- the lowest of them that is not zero, and 0 where all are
+-- the first of them, from A's on, that is not zero, and 0 where all are
 unfoldable pub lowestDigit : ℕ → ℕ → ℕ
 lowestDigit zero w = 0
 lowestDigit (suc k) w = cond (eqb (w % 3) 0) (lowestDigit k (w / 3)) (w % 3)

@@ -33,7 +33,7 @@ fn used_digits(word: u16, k: usize) -> usize
     used
 }
 
-// The lowest of these that is not zero, and 0 where all are.
+// The first of these, from A's on, that is not zero, and 0 where all are.
 fn lowest_digit(word: u16, k: usize) -> u16
     ensures { λ r. ⌜ r ≡ lowestDigit k word ⌝ }
 {

@@ -57,7 +57,7 @@ pub record Printed : Type 0 where
 abbrev pub promisedCheck : Plan → Outcome Unit
 promisedCheck p = outcome (planRefused p) tt
 
--- R7 to R9: the letters that are high, and the block
+-- R7 to R9, R11, R12: the letters that are high, and the block
 abbrev pub promisedRun : Plan → ℕ → Outcome (ℕ × ℕ)
 promisedRun p r = outcome (runRefused p r) (runValues p r)
 

@@ -43,7 +43,7 @@ pub data Kind : Type 0 where
 unfoldable pub kindByMark : ℕ → Kind
 kindByMark m = cond (eqb m 1) errorRow keptRow
 
--- V6, V7: "Row 0 is the mean. Confounded rows are blocks."
+-- V6, V7: "Row 0 is the mean. Confounded rows are blocks." At three levels no effect is confounded (V19)
 unfoldable pub kindOf : Plan → List ℕ → ℕ → Kind
 kindOf p marks w = cond (eqb w 0) meanRow (cond (confoundedIn p w) blocksRow (kindByMark (getD marks w 0)))
 

@@ -3,6 +3,7 @@
 --   digits-none, block-none    without a word every run is in block 0
 --   digits-turn                a loop that adds up digit times level from the lowest digit on: its next turn
 --   digits-bound               how large that sum is
+--   higher, lowest             what is left of a number without its lowest digits, and without none
 --   digits-are                 it is the sum, over the positions, of digit times level
 --   block-lt                   there are three blocks
 --   by-block, all-blocks       sums over the runs, block by block
@@ -82,6 +83,13 @@ digits-bound (suc k) u v = omega (arith, mul-le-mul (two u) (two v), digits-boun
     two : (n : ℕ) → n % 3 ≤ 2
     two n = omega arith
 
+-- what is left of a number without its lowest digits
+pub higher : (n i : ℕ) → n / 3 / 3 ^ i ≡ n / 3 ^ suc i
+higher n i = div-div-eq-div-mul n 3 (3 ^ i) ∙ ap (λ m. n / m) (mul-comm 3 (3 ^ i) ∙ sym (pow-suc 3 i))
+
+pub lowest : (n : ℕ) → n ≡ n / 3 ^ 0
+lowest n = sym (rw (pow-zero 3) (div-one n))
+
 -- R11: "the sum of digit times level"
 pub digits-are : (k w r : ℕ) → digitSum (replicate k three) w r ≡ Σℕ k (λ i. (w / 3 ^ i % 3) * (r / 3 ^ i % 3))
 unfolding digitSum three Σℕ
@@ -90,12 +98,6 @@ digits-are (suc k) w r =
     ap (λ n. (w % 3) * (r % 3) + n) (digits-are k (w / 3) (r / 3) ∙ Σℕ-cong k (λ i _. ap₂ (λ (a b : ℕ). (a % 3) * (b % 3)) (higher w i) (higher r i)))
     ∙ ap (λ n. n + Σℕ k (λ i. (w / 3 ^ suc i % 3) * (r / 3 ^ suc i % 3))) (ap₂ (λ (a b : ℕ). (a % 3) * (b % 3)) (lowest w) (lowest r))
     ∙ sym (Σℕ-first k (λ i. (w / 3 ^ i % 3) * (r / 3 ^ i % 3)))
-  where
-    higher : (n i : ℕ) → n / 3 / 3 ^ i ≡ n / 3 ^ suc i
-    higher n i = div-div-eq-div-mul n 3 (3 ^ i) ∙ ap (λ m. n / m) (mul-comm 3 (3 ^ i) ∙ sym (pow-suc 3 i))
-
-    lowest : (n : ℕ) → n ≡ n / 3 ^ 0
-    lowest n = sym (rw (pow-zero 3) (div-one n))
 
 pub block-lt : (Fs : List Factor) (w r : ℕ) → blockOf Fs w r < 3
 block-lt Fs w r = mod-lt (digitSum Fs w r) (lit< tt)

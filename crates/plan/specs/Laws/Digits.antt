@@ -8,21 +8,25 @@
 --   product-few                                         each product is small
 --   digits-known                                        what the digit rule says of a word that keeps it
 --   too-large, too-few, by-lowest                       how code comes to it
+--   used-sum, lowest-place, place-lowest, digits-right  the rule by the digits' places, and back
 --   letters-used                                        such a word uses letters: its row is not row 0
-use mathlib.Core.Path.{_≡_, refl, sym, _∙_, ap}
+use mathlib.Core.Path.{_≡_, refl, sym, _∙_, ap, ap₂}
 use mathlib.Core.Bool.{Bool, true, false, cond, not, _||_}
 use Prim.Native.Nat.{ℕ, zero, suc, _+_, _*_, _-_, _/_, _%_, _^_, _<_, _≤_}
 use native.Mathlib.Nat.{sub-zero, add-zero, zero-add, mul-zero, mul-one, one-mul, mul-comm, mul-le-mul, mul-le-mul-left, pow-le-pow-right, pow-zero, pow-suc}
 use native.Mathlib.Numerals.{add-one}
+use native.Mathlib.Decide.{ℕ-discrete}
 use native.Mathlib.Omega.{arith}
 use lib.Dec.{eqb, leb, ltb}
 use lib.ListN.{replicate}
 use borrow.Author.Tests.{le-leb, lt-leb, lt-ltb, le-ltb, eq-eqb, ne-eqb, eqb-true, leb-false, ltb-false, not-false}
+use Rattle.algebra.specs.Naturals.{Σℕ}
+use Rattle.algebra.specs.Laws.Naturals.{Σℕ-cong, Σℕ-first}
 use Rattle.algebra.specs.Laws.Tests.{neither}
 use Rattle.contrasts.specs.Factors.{three}
 use Rattle.contrasts.specs.Rows.{rowOf}
 use Rattle.contrasts.specs.Blocks.{digitSum, blockOf}
-use Rattle.contrasts.specs.Laws.Blocks.{digits-turn}
+use Rattle.contrasts.specs.Laws.Blocks.{digits-turn, higher, lowest}
 use Rattle.contrasts.specs.Laws.ThreeLevels.{row-turn-three}
 use Rattle.plan.specs.Check.{usedDigits, lowestDigit, badDigits}
 
@@ -164,6 +168,53 @@ digits-known k w e =
     let a = neither (leb (3 ^ k) w) (ltb (usedDigits k w) 2 || not (eqb (lowestDigit k w) 1)) e in
     let b = neither (ltb (usedDigits k w) 2) (not (eqb (lowestDigit k w) 1)) (a .1) in
     (leb-false (3 ^ k) w (a .0), ltb-false (usedDigits k w) 2 (b .0), eqb-true (lowestDigit k w) 1 (not-false (eqb (lowestDigit k w) 1) (b .1)))
+
+pub digits-right : (k w : ℕ) → w < 3 ^ k → 2 ≤ usedDigits k w → lowestDigit k w ≡ 1 → badDigits k w ≡ false
+unfolding badDigits
+digits-right k w h l e = rw (lt-leb (3 ^ k) w h, le-ltb (usedDigits k w) 2 l, e) refl
+
+-- ---- by the digits' places
+
+pub used-sum : (k w : ℕ) → usedDigits k w ≡ Σℕ k (λ i. cond (eqb (w / 3 ^ i % 3) 0) 0 1)
+unfolding usedDigits Σℕ
+used-sum zero w = refl
+used-sum (suc k) w =
+    ap₂ _+_ (ap one (lowest w)) (used-sum k (w / 3) ∙ Σℕ-cong k (λ i _. ap one (higher w i)))
+    ∙ sym (Σℕ-first k (λ i. cond (eqb (w / 3 ^ i % 3) 0) 0 1))
+  where
+    one : ℕ → ℕ
+    one n = cond (eqb (n % 3) 0) 0 1
+
+-- the lowest digit is 0, and so are those above it up to a place
+zero-below : (w i : ℕ) → w % 3 ≡ 0 → ((j : ℕ) → j < i → w / 3 / 3 ^ j % 3 ≡ 0) → (j : ℕ) → j < suc i → w / 3 ^ j % 3 ≡ 0
+zero-below w i z below zero l = ap (λ n. n % 3) (sym (lowest w)) ∙ z
+zero-below w i z below (suc j) l = ap (λ n. n % 3) (sym (higher w j)) ∙ below j (omega arith)
+
+pub lowest-place : (k w : ℕ) → lowestDigit k w ≡ 1 → (i : ℕ) × (i < k) × (w / 3 ^ i % 3 ≡ 1) × ((j : ℕ) → j < i → w / 3 ^ j % 3 ≡ 0)
+unfolding lowestDigit
+lowest-place zero w e = absurd (omega (arith, e))
+lowest-place (suc k) w e = by (ℕ-discrete (w % 3) 0) (lowest-place k (w / 3))
+  where
+    by : Dec (w % 3 ≡ 0)
+        → (lowestDigit k (w / 3) ≡ 1 → (i : ℕ) × (i < k) × (w / 3 / 3 ^ i % 3 ≡ 1) × ((j : ℕ) → j < i → w / 3 / 3 ^ j % 3 ≡ 0))
+        → (i : ℕ) × (i < suc k) × (w / 3 ^ i % 3 ≡ 1) × ((j : ℕ) → j < i → w / 3 ^ j % 3 ≡ 0)
+    by (yes z) r =
+        let found = r (rw (eq-eqb (w % 3) 0 z) at e) in
+        (suc (found .0), omega (arith, found .1), ap (λ n. n % 3) (sym (higher w (found .0))) ∙ found .2, zero-below w (found .0) z (found .3))
+    by (no n) r = (0, omega arith, ap (λ m. m % 3) (sym (lowest w)) ∙ (rw (ne-eqb (w % 3) 0 n) at e), λ j l. absurd (omega (arith, l)))
+
+pub place-lowest : (k w i : ℕ) → i < k → w / 3 ^ i % 3 ≡ 1 → ((j : ℕ) → j < i → w / 3 ^ j % 3 ≡ 0) → lowestDigit k w ≡ 1
+unfolding lowestDigit
+place-lowest zero w i h e below = absurd (omega (arith, h))
+place-lowest (suc k) w zero h e below =
+    let one : w % 3 ≡ 1 = ap (λ n. n % 3) (lowest w) ∙ e in
+    rw (ne-eqb (w % 3) 0 (λ z. omega (arith, one, z))) one
+place-lowest (suc k) w (suc i) h e below =
+    let z : w % 3 ≡ 0 = ap (λ n. n % 3) (lowest w) ∙ below 0 (omega arith) in
+    rw (eq-eqb (w % 3) 0 z)
+    (place-lowest k (w / 3) i (omega arith) (ap (λ n. n % 3) (higher w i) ∙ e) (λ j l. ap (λ n. n % 3) (higher w j) ∙ below (suc j) (omega arith)))
+
+-- ---- how code comes to the rule
 
 module _ (k w : ℕ) {n : ℕ} (power : n ≡ 3 ^ k) where
   pub too-large : n ≤ w → true ≡ badDigits k w

@@ -5,12 +5,13 @@
 --   no-number                  but at three levels there is no number
 --   counts-few                 either count is at most the plan's own
 --   three-levels, keeps-rule   an accepted plan with a number has three levels, and the number keeps the digit rule
+--   no-word                    without block words there is no number
+--   first-is, the-word         with one it stands at the first of their places, and is not 0
 --   uses-letters               so it uses letters: its row is not row 0
 --   row-of-digits              that row is one of three-level factors, whatever the levels
 --   three-refusals             what is refused at three levels: 3, 4, 5 and 16, and no more
 --   used-row                   what the code gives as that row
 use mathlib.Core.Path.{_≡_, refl, sym, _∙_, ap}
-use mathlib.Core.Logic.{_⊎_, inl, inr}
 use mathlib.Core.Bool.{Bool, true, false, cond, _||_}
 use mathlib.Core.List.{List, [], _∷_, _++_}
 use Prim.Native.Nat.{ℕ, _<_, _≤_}
@@ -18,16 +19,16 @@ use native.Mathlib.Omega.{arith}
 use native.Mathlib.Decide.{ℕ-discrete, decLt}
 use lib.Dec.{eqb, ltb}
 use lib.ListN.{length, getD, take, replicate}
-use lib.Seq.{getD-take}
+use lib.Seq.{getD-take, length-take-le}
 use borrow.Author.Tests.{eq-eqb, ne-eqb, lt-ltb, le-ltb}
 use Rattle.algebra.specs.Search.{some}
 use Rattle.algebra.specs.Laws.Tab.{getD-past}
-use Rattle.contrasts.specs.Factors.{three, ofLevels}
+use Rattle.contrasts.specs.Factors.{three}
 use Rattle.contrasts.specs.Limits.{mostThree}
 use Rattle.contrasts.specs.Rows.{rowOf}
 use Rattle.contrasts.specs.Laws.Rows.{row-none}
 use Rattle.plan.specs.declared.types.Plan.{Plan}
-use Rattle.plan.specs.Plan.{addedWords, addedSigns, runsOf, wordCount, blockWords, numberCount, threeWords, threeWord, wordRow, factorsOf, combinesTo, someCombination, confoundedIn}
+use Rattle.plan.specs.Plan.{runsOf, wordCount, blockWords, numberCount, threeWords, threeWord, wordRow, factorsOf, combinesTo, someCombination, confoundedIn}
 use Rattle.words.specs.Words.{any, repeated}
 use Rattle.plan.specs.Outcome.{Refusal, refusal, lowest}
 use Rattle.plan.specs.Check.{badLevels, badFactors, badCounts, badDigits, badWords, dependent, losesFactor, badRepeats, wordRefusals, planRefused, usedRow}
@@ -78,6 +79,26 @@ module _ (p : Plan) where
 
     pub uses-letters : wordRow p ≡ 0 → ⊥
     uses-letters z = letters-used (p .k) (threeWord p) keeps-rule ((rw (factors-three p (three-levels some)) refl) ∙ z)
+
+  pub no-word : p .blocks ≡ 0 → threeWord p ≡ 0
+  no-word e = ap (λ (n : ℕ). getD (take n (p .blockwords)) 0 0) (by (eqb (p .levels) 3))
+    where
+      by : (b : Bool) → cond b (p .blocks) 0 ≡ 0
+      by true = e
+      by false = refl
+
+  module _ (a : Accepted p) (t : p .levels ≡ 3) (one : p .blocks ≡ 1) (placed : 0 < length (p .blockwords)) where
+    count : numberCount p ≡ 1
+    count = rw (eq-eqb (p .levels) 3 t) one
+
+    pub first-is : threeWord p ≡ getD (p .blockwords) 0 0
+    first-is = sym (the-first (numberCount p) (p .blockwords) (λ z. omega (arith, z, count)))
+
+    pub the-word : threeWord p ≡ 0 → ⊥
+    the-word z =
+        let long : length (threeWords p) ≡ 1 = length-take-le (numberCount p) (p .blockwords) (omega (arith, count, placed)) ∙ count in
+        let rule = a .digits 0 (omega (arith, long)) in
+        letters-used (p .k) (threeWord p) rule (ap (rowOf (replicate (p .k) three)) z ∙ row-none (replicate (p .k) three))
 
   pub row-of-digits : rowOf (replicate (p .k) three) (threeWord p) ≡ wordRow p
   row-of-digits = by (ℕ-discrete (p .levels) 3)

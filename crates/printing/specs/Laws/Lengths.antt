@@ -15,7 +15,7 @@ use lib.Dec.{ltb}
 use lib.ListN.{length, getD, drop, length-append}
 use Rattle.plan.specs.declared.types.Plan.{Plan}
 use Rattle.plan.specs.Check.{planRefused}
-use Rattle.plan.specs.Plan.{factorsOf, runSumsOf}
+use Rattle.plan.specs.Plan.{runSumsOf}
 use Rattle.rows.specs.Kinds.{rowsIn, kindOf}
 use Rattle.rows.specs.Laws.Rows.{rows-few}
 use Rattle.fields.specs.Fields.{fieldsOf}

@@ -18,11 +18,10 @@ use lib.Seq.{length-take-le}
 use lib.Signed.{mag}
 use Rattle.algebra.specs.Laws.Machine.{wrap, kept}
 use Rattle.algebra.specs.Laws.Tab.{length-tab}
-use Rattle.contrasts.specs.Columns.{read}
 use Rattle.plan.specs.declared.types.Plan.{Plan}
 use Rattle.plan.specs.Outcome.{outcome}
 use Rattle.plan.specs.Check.{runCount, readingCount}
-use Rattle.plan.specs.Plan.{factorsOf, runsOf, allReadings, runSumsOf}
+use Rattle.plan.specs.Plan.{runsOf, allReadings, runSumsOf}
 use Rattle.plan.specs.Laws.Answers.{written-new, given-is, refused-is}
 use Rattle.plan.specs.Laws.Sizes.{run-count, reading-count, runs-few, readings-few}
 use Rattle.rows.specs.Kinds.{rowsIn, rowCount}

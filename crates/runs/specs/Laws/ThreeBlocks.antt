@@ -12,11 +12,11 @@ use lib.ListN.{replicate}
 use borrow.Author.Tests.{eq-eqb}
 use Rattle.algebra.specs.Naturals.{Σℕ}
 use Rattle.algebra.specs.Laws.Naturals.{Σℕ-cong}
-use Rattle.contrasts.specs.Blocks.{blockOf, blockRuns}
+use Rattle.contrasts.specs.Blocks.{blockOf}
 use Rattle.contrasts.specs.Factors.{three}
 use Rattle.contrasts.specs.Laws.Blocks.{block-none, block-lt, block-runs}
 use Rattle.plan.specs.declared.types.Plan.{Plan}
-use Rattle.plan.specs.Plan.{threeWord, wordRow, factorsOf, runsOf}
+use Rattle.plan.specs.Plan.{threeWord, wordRow, runsOf}
 use Rattle.plan.specs.Check.{planRefused}
 use Rattle.plan.specs.Laws.Accepted.{accepted}
 use Rattle.plan.specs.Laws.Answers.{after-plan}

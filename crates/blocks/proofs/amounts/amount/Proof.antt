@@ -1,9 +1,7 @@
-use mathlib.Core.Path.{_≡_, refl, _∙_}
-use Prim.Native.Nat.{_+_, _*_, _^_, _<_, _≤_}
+use mathlib.Core.Path.{refl}
+use Prim.Native.Nat.{_+_, _≤_}
 use native.Mathlib.Omega.{arith}
-use lib.IntN.{_-ℤ_}
 use Rattle.algebra.specs.Laws.Gathered.{one-shifted}
-use Rattle.algebra.specs.Laws.Size.{sq}
 use Rattle.blocks.proofs.Apart.{small-held, differences-held, times-few}
 use Rattle.blocks.proofs.amounts.amount.Statement.{statement}
 use Rattle.blocks.proofs.amounts.amount.Tie as tie

@@ -1,6 +1,5 @@
 use mathlib.Core.Path.{_≡_, refl}
 use mathlib.Core.Bool.{false}
-use native.Mathlib.Omega.{arith}
 use borrow.Author.Needs.{needs}
 use Rattle.plan.specs.Check.{badLevels, badFactors, badCounts}
 use Rattle.plan.specs.Laws.Accepted.{factors-known, counts-known, at-most-ten}

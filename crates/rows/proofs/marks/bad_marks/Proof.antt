@@ -1,5 +1,4 @@
 use mathlib.Core.Path.{_∙_}
-use borrow.Author.Needs.{needs}
 use Rattle.algebra.specs.Laws.Tests.{is}
 use Rattle.rows.proofs.Judging.{over-bad, mean-bad, blocks-or-none}
 use Rattle.rows.proofs.marks.bad_marks.Statement.{statement}
