@@ -14,16 +14,16 @@ use mir.Val.{SFits}
 use Rattle.algebra.specs.Laws.Machine.{fits, wrap, back}
 use Rattle.algebra.specs.Laws.Size.{sq, natAbs-sub}
 use Rattle.walks.specs.Ready.{Squarable}
-use Rattle.blocks.specs.Ready.{Small}
+use Rattle.blocks.specs.Ready.{BlockSized}
 
-pub small-held : {a : ℤ} → Small a → Small (wrap a)
+pub small-held : {a : ℤ} → BlockSized a → BlockSized (wrap a)
 small-held {a} s = rw (back a (omega (arith, s .small))) s
 
 -- 2 to the power k times three squares
 pub times-few : {k n : ℕ} → k ≤ 6 → n ≤ 125_829_120_000_000_000 → 2 ^ k * n < 2 ^ 64
 times-few {k} {n} h l = omega (arith, mul-le-mul (pow-le-pow-right {n = 2} (omega arith) {i = k} {j = 6} h) l)
 
-module _ {a b : ℤ} (one : Small a) (other : Small b) where
+module _ {a b : ℤ} (one : BlockSized a) (other : BlockSized b) where
   difference-small : natAbs (a -ℤ b) ≤ 204_800_000
   difference-small = omega (arith, natAbs-sub a b, one .small, other .small)
 

@@ -5,6 +5,7 @@
 --   digits-bound               how large that sum is
 --   higher, lowest             what is left of a number without its lowest digits, and without none
 --   digits-are                 it is the sum, over the positions, of digit times level
+--   block-set                  the blocks of three runs that differ in the level of A alone
 --   block-lt                   there are three blocks
 --   by-block, all-blocks       sums over the runs, block by block
 --   block-sum-within           how large a block sum is
@@ -98,6 +99,14 @@ digits-are (suc k) w r =
     ap (λ n. (w % 3) * (r % 3) + n) (digits-are k (w / 3) (r / 3) ∙ Σℕ-cong k (λ i _. ap₂ (λ (a b : ℕ). (a % 3) * (b % 3)) (higher w i) (higher r i)))
     ∙ ap (λ n. n + Σℕ k (λ i. (w / 3 ^ suc i % 3) * (r / 3 ^ suc i % 3))) (ap₂ (λ (a b : ℕ). (a % 3) * (b % 3)) (lowest w) (lowest r))
     ∙ sym (Σℕ-first k (λ i. (w / 3 ^ i % 3) * (r / 3 ^ i % 3)))
+
+-- runs that differ in the level of A alone
+pub block-set : (k w q j : ℕ) → j < 3 → blockOf (replicate (suc k) three) w (q * 3 + j) ≡ ((w % 3) * j + blockOf (replicate k three) (w / 3) q) % 3
+unfolding digitSum three
+block-set k w q j l = rw (digits-mod q l, digits-div q l) (sums ((w % 3) * j) (digitSum (replicate k three) (w / 3) q))
+  where
+    sums : (a b : ℕ) → (a + b) % 3 ≡ (a + b % 3) % 3
+    sums a b = omega arith
 
 pub block-lt : (Fs : List Factor) (w r : ℕ) → blockOf Fs w r < 3
 block-lt Fs w r = mod-lt (digitSum Fs w r) (lit< tt)
@@ -281,13 +290,7 @@ unfolding three digitSum
 first-digit k w e h =
     total-cons three (replicate k three) (λ r. h (blockOf (replicate (suc k) three) w r)) e
     ∙ sym (total-Σ (replicate k three) 3 (three .coef (e % 3)) (λ j q. h (blockOf (replicate (suc k) three) w (q * 3 + j))) (e / 3))
-    ∙ total-cong (replicate k three) _ _ (e / 3) (λ q _. Σ-cong 3 (λ j l. ap (λ t. three .coef (e % 3) j *ℤ h t) (at q j l)))
-  where
-    sums : (a b : ℕ) → (a + b) % 3 ≡ (a + b % 3) % 3
-    sums a b = omega arith
-
-    at : (q j : ℕ) → j < 3 → blockOf (replicate (suc k) three) w (q * 3 + j) ≡ ((w % 3) * j + blockOf (replicate k three) (w / 3) q) % 3
-    at q j l = rw (digits-mod q l, digits-div q l) (sums ((w % 3) * j) (digitSum (replicate k three) (w / 3) q))
+    ∙ total-cong (replicate k three) _ _ (e / 3) (λ q _. Σ-cong 3 (λ j l. ap (λ t. three .coef (e % 3) j *ℤ h t) (block-set k w q j l)))
 
 no-total : (Fs : List Factor) (e : ℕ) → total Fs (λ r. pos 0) e ≡ pos 0
 unfolding total
