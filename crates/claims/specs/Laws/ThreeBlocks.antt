@@ -9,6 +9,7 @@ use mathlib.Core.Bool.{Bool, true, false, cond, true≢false}
 use mathlib.Core.List.{List}
 use Prim.Native.Nat.{ℕ, _+_, _*_, _%_}
 use native.Mathlib.Nat.{zero-add, add-zero}
+use native.Mathlib.Omega.{arith}
 use lib.Dec.{eqb}
 use lib.IntN.{ℤ, pos, _+ℤ_}
 use lib.ListN.{getD, replicate}
@@ -53,7 +54,7 @@ lawful-word k w = (keeps, kept)
         let first = lowest-place k w (known .2) in
         record {
           digits = known .0;
-          two = rw (← (used-sum k w)) (known .1);
+          two = omega (arith, known .1, used-sum k w);
           place = first .0;
           inside = first .1;
           one = first .2;
@@ -61,7 +62,7 @@ lawful-word k w = (keeps, kept)
         }
 
     kept : Lawful k w → badDigits k w ≡ false
-    kept l = digits-right k w (l .digits) (rw (used-sum k w) (l .two)) (place-lowest k w (l .place) (l .inside) (l .one) (l .none-below))
+    kept l = digits-right k w (l .digits) (omega (arith, l .two, used-sum k w)) (place-lowest k w (l .place) (l .inside) (l .one) (l .none-below))
 
 -- ---- runs and blocks
 

@@ -1,4 +1,4 @@
-use mathlib.Core.Path.{_≡_, refl, _∙_}
+use mathlib.Core.Path.{_≡_, refl, _∙_, ap}
 use Prim.Native.Nat.{_+_, _%_}
 use native.Mathlib.Omega.{arith}
 use borrow.Author.Needs.{needs}
@@ -10,7 +10,7 @@ use Rattle.blocks.proofs.amounts.add_set.Tie as tie
 
 -- the blocks of the second and the third run
 last-is : (c : tie.After-next-block2) → let args = c .before .before .args in c .next-block2 .result ≡ ((args .block + args .digit) % 3 + args .digit) % 3
-last-is c = c .next-block2 .ensures ∙ rw (c .before .next-block .ensures) refl
+last-is c = c .next-block2 .ensures ∙ ap (λ n. (n + c .before .before .args .digit) % 3) (c .before .next-block .ensures)
 
 -- the sums after the first value, and after the second
 once-is : (c : tie.After-add)
