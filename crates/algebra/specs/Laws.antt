@@ -13,6 +13,9 @@
 --   Machine     what fits a machine's integer
 --   Signs       the size of a signed value, as code forms it
 --   Tab         the list of a function's first n values
+--   Joined      values one after the other, and lists joined
+--   Those       the entries that pass a test
+--   Among       what is among the entries of a list, and entries in an order
 --
 -- Of loops:
 --
@@ -23,6 +26,7 @@
 --   Fill        a list that is written place by place
 --   Sorted      terms added to places by their keys
 --   Parts       a list that is worked part by part
+--   Collected   those that pass a test, counted, and written one after the other
 pub mod Ring
 pub mod Solve
 pub mod Tests
@@ -36,6 +40,9 @@ pub mod Size
 pub mod Machine
 pub mod Signs
 pub mod Tab
+pub mod Joined
+pub mod Those
+pub mod Among
 pub mod Searching
 pub mod Gathered
 pub mod Turns
@@ -43,3 +50,4 @@ pub mod Spread
 pub mod Fill
 pub mod Sorted
 pub mod Parts
+pub mod Collected

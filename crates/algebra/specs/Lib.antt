@@ -8,6 +8,7 @@
 --   Bits        sets as the binary digits of a number
 --   Tab         the list of a function's first n values
 --   Sorted      terms sorted by a key, and added up
+--   Those       the entries of a list that pass a test
 --   Laws        the laws
 pub mod Tests
 pub mod Search
@@ -17,4 +18,5 @@ pub mod Fractions
 pub mod Bits
 pub mod Tab
 pub mod Sorted
+pub mod Those
 pub mod Laws

@@ -1,0 +1,78 @@
+-- Values one after the other, and lists joined.
+--
+--   tab-none, tab-first, tab-more, tab-plus    the values of a function: none; by the first, by the last, by the first m and the rest
+--   map-tab                    a function of each value
+--   flat-append, flat-one      lists of lists joined: of two of them, and of one list
+--   tab-parts                  n lists of m values each, joined
+use mathlib.Core.Path.{_≡_, refl, sym, ap, _∙_}
+use mathlib.Core.List.{List, [], _∷_, _++_, append-assoc, append-nil, map, flatten}
+use Prim.Native.Nat.{ℕ, zero, suc, _+_, _*_, _/_, _%_, _<_}
+use native.Mathlib.Nat.{add-zero, suc-add, zero-add, zero-mul, div-eq-of-lt, mul-add-mod-self-right, mul-add-div-right, mod-eq-of-lt}
+use native.Mathlib.Numerals.{add-one}
+use native.Mathlib.Omega.{arith}
+use Rattle.algebra.specs.Tab.{tab, tabFrom}
+use Rattle.algebra.specs.Laws.Tab.{tab-cong}
+
+-- ---- values one after the other
+
+module _ {A : Type 0} where
+  shift : (s n : ℕ) (f : ℕ → A) → tabFrom (suc s) n f ≡ tabFrom s n (λ i. f (suc i))
+  unfolding tabFrom
+  shift s zero f = refl
+  shift s (suc n) f = ap (λ xs. f (suc s) ∷ xs) (shift (suc s) n f)
+
+  pub tab-none : (f : ℕ → A) → tab 0 f ≡ []
+  unfolding tabFrom
+  tab-none f = refl
+
+  pub tab-first : (n : ℕ) (f : ℕ → A) → tab (suc n) f ≡ f 0 ∷ tab n (λ i. f (suc i))
+  unfolding tabFrom
+  tab-first n f = ap (λ xs. f 0 ∷ xs) (shift 0 n f)
+
+  pub tab-plus : (m n : ℕ) (f : ℕ → A) → tab (m + n) f ≡ tab m f ++ tab n (λ i. f (m + i))
+  tab-plus zero n f = rw (tab-none f, zero-add n) (simp zero-add)
+  tab-plus (suc m) n f =
+      rw (suc-add m n, tab-first (m + n) f, tab-plus m n (λ i. f (suc i)), tab-first m f) (simp suc-add)
+
+  pub tab-more : (n : ℕ) (f : ℕ → A) → tab (n + 1) f ≡ tab n f ++ (f n ∷ [])
+  unfolding tabFrom
+  tab-more n f = tab-plus n 1 f ∙ simp add-zero
+
+  from-map : {B : Type 0} (g : A → B) (s n : ℕ) (f : ℕ → A) → map g (tabFrom s n f) ≡ tabFrom s n (λ i. g (f i))
+  unfolding tabFrom
+  from-map g s zero f = refl
+  from-map g s (suc n) f = ap (λ xs. g (f s) ∷ xs) (from-map g (suc s) n f)
+
+  pub map-tab : {B : Type 0} (g : A → B) (n : ℕ) (f : ℕ → A) → map g (tab n f) ≡ tab n (λ i. g (f i))
+  map-tab g n f = from-map g 0 n f
+
+-- ---- lists joined
+
+module _ {A : Type 0} where
+  pub flat-append : (xs ys : List (List A)) → flatten (xs ++ ys) ≡ flatten xs ++ flatten ys
+  unfolding flatten
+  flat-append [] ys = refl
+  flat-append (x ∷ xs) ys = rw (flat-append xs ys, append-assoc) refl
+
+  pub flat-one : (x : List A) → flatten (x ∷ []) ≡ x
+  unfolding flatten
+  flat-one x = append-nil x
+
+  -- the number i of n lists of m values has the list as its higher digit to the base m, and the place in it as its lower one
+  pub tab-parts : (z : A) (n m : ℕ) (f : ℕ → ℕ → A) → flatten (tab n (λ q. tab m (f q))) ≡ tab (n * m) (λ i. f (i / m) (i % m))
+  unfolding flatten
+  tab-parts z zero m f = rw (zero-mul m, tab-none {A = List A} (λ q. tab m (f q)), tab-none (λ i. f (i / m) (i % m))) refl
+  tab-parts z (suc n) m f =
+      rw (← (add-one n))
+      (ap flatten (tab-more n (λ q. tab m (f q)))
+      ∙ flat-append (tab n (λ q. tab m (f q))) (tab m (f n) ∷ [])
+      ∙ rw (append-nil (tab m (f n)), tab-parts z n m f) (ap (λ xs. tab (n * m) g ++ xs) (tab-cong z m (f n) (λ i. g (n * m + i)) digits))
+      ∙ sym (tab-plus (n * m) m g)
+      ∙ (let e : n * m + m ≡ (n + 1) * m = omega arith in ap (λ (l : ℕ). tab l g) e))
+    where
+      g : ℕ → A
+      g i = f (i / m) (i % m)
+
+      digits : (i : ℕ) → i < m → f n i ≡ f ((n * m + i) / m) ((n * m + i) % m)
+      digits i h =
+          rw (mul-add-div-right {m = m} (omega arith) n i, div-eq-of-lt h, add-zero, mul-add-mod-self-right n m i, mod-eq-of-lt h) refl

@@ -1,0 +1,82 @@
+-- Which lists are written: all lists of strictly rising words that the plan check accepts, and no other.
+--
+--   only     a list that is written has so many words as were asked for, they rise, and the plan check accepts them
+--   every    a list of so many 16-bit words is written if and only if they rise and the plan check accepts them
+use mathlib.Core.Path.{_≡_, refl, sym, ap, _∙_}
+use mathlib.Core.Bool.{Bool, true, false, _&&_}
+use mathlib.Core.List.{List, [], _∷_, map, List·Memᴰ, List·Memᴰ·head, List·Memᴰ·eq-of-singleton, Memᴰ·map, Memᴰ·of-map}
+use mathlib.Core.Logic.{_↔_}
+use Prim.Native.Nat.{ℕ, zero, suc, _-_, _^_, _<_}
+use native.Mathlib.Omega.{arith}
+use borrow.Author.Tests.{eq-eqb, eqb-true}
+use lib.Dec.{eqb}
+use lib.ListN.{length, getD, replicate}
+use lib.Seq.{take-append-seam}
+use Rattle.algebra.specs.Tab.{tab}
+use Rattle.words.specs.Laws.Letters.{within}
+use Rattle.plan.specs.Check.{planRefused}
+use Rattle.plan.specs.Plan.{blockWords}
+use Rattle.plan.specs.Laws.Accepted.{accepted}
+use Rattle.algebra.specs.Laws.Among.{those-in, those-of, flat-in, flat-of, tab-in, tab-of}
+use Rattle.blockings.specs.Blockings.{listsOf, strictlyRising, blockedPlan, isBlocking, blockingsOf}
+
+-- ---- all lists
+
+as-long : (k b : ℕ) {ws : List ℕ} → List·Memᴰ ws (listsOf k b) → length ws ≡ b
+unfolding listsOf
+as-long k zero m = ap length (List·Memᴰ·eq-of-singleton m)
+as-long k (suc b) {ws} m =
+    let l = flat-of (tab (2 ^ k) (λ w. map (λ vs. w ∷ vs) (listsOf k b))) m in
+    let w = tab-of (2 ^ k) (λ w. map (λ vs. w ∷ vs) (listsOf k b)) (l .1) in
+    let v = Memᴰ·of-map (λ vs. w .0 ∷ vs) (listsOf k b) (rw (w .2) at (l .2)) in
+    ap length (sym (v .2)) ∙ ap suc (as-long k b (v .1))
+
+all-there : (k : ℕ) (ws : List ℕ) → ((j : ℕ) → j < length ws → getD ws j 0 < 2 ^ k) → List·Memᴰ ws (listsOf k (length ws))
+unfolding listsOf
+all-there k [] h = List·Memᴰ·head refl
+all-there k (w ∷ ws) h =
+    flat-in (tab (2 ^ k) (λ v. map (λ vs. v ∷ vs) (listsOf k (length ws))))
+    (tab-in (2 ^ k) (λ v. map (λ vs. v ∷ vs) (listsOf k (length ws))) w (h 0 (omega arith)))
+    (Memᴰ·map (λ vs. w ∷ vs) (all-there k ws (λ j l. h (suc j) (omega arith))))
+
+-- ---- those that are written
+
+both : (a b : Bool) → (a && b) ≡ true → (a ≡ true) × (b ≡ true)
+both true true e = (refl, refl)
+both true false e = absurd (let z : _≡_ {A = ℕ} 0 1 = cc in omega arith)
+both false b e = absurd (let z : _≡_ {A = ℕ} 0 1 = cc in omega arith)
+
+module _ (k : ℕ) (ws : List ℕ) where
+  blocking-is : isBlocking k ws ≡ true → (strictlyRising ws ≡ true) × (planRefused (blockedPlan k ws) ≡ 0)
+  unfolding isBlocking
+  blocking-is e =
+      let t = both (strictlyRising ws) (eqb (planRefused (blockedPlan k ws)) 0) e in
+      (t .0, eqb-true (planRefused (blockedPlan k ws)) 0 (t .1))
+
+  blocking-of : strictlyRising ws ≡ true → planRefused (blockedPlan k ws) ≡ 0 → isBlocking k ws ≡ true
+  unfolding isBlocking
+  blocking-of e f = rw (e, eq-eqb (planRefused (blockedPlan k ws)) 0 f) refl
+
+  -- the block words of the plan are the list
+  its-words : blockWords (blockedPlan k ws) ≡ ws
+  its-words = take-append-seam ws (replicate (4 - length ws) 0)
+
+  -- so where the plan is accepted, none has a letter beyond k
+  words-within : planRefused (blockedPlan k ws) ≡ 0 → ((j : ℕ) → j < length ws → getD ws j 0 < 2 ^ 16) → (j : ℕ) → j < length ws → getD ws j 0 < 2 ^ k
+  words-within e h j l = within k (getD ws j 0) (h j l) (rw its-words at (accepted (blockedPlan k ws) e .blocks) j l .0)
+
+pub only : (k b : ℕ) {ws : List ℕ} → List·Memᴰ ws (blockingsOf k b)
+    → (length ws ≡ b) × (strictlyRising ws ≡ true) × (planRefused (blockedPlan k ws) ≡ 0)
+unfolding blockingsOf
+only k b {ws} m =
+    let t = those-of (isBlocking k) (listsOf k b) m in
+    let s = blocking-is k ws (t .1) in
+    (as-long k b (t .0), s .0, s .1)
+
+pub every : (k b : ℕ) (ws : List ℕ) → length ws ≡ b → ((j : ℕ) → j < length ws → getD ws j 0 < 2 ^ 16)
+    → List·Memᴰ ws (blockingsOf k b) ↔ ((strictlyRising ws ≡ true) × (planRefused (blockedPlan k ws) ≡ 0))
+unfolding blockingsOf
+every k b ws l h = (
+  λ m. blocking-is k ws (those-of (isBlocking k) (listsOf k b) m .1),
+  λ e. rw (← l) (those-in (isBlocking k) (listsOf k (length ws)) (all-there k ws (words-within k ws (e .1) h)) (blocking-of k ws (e .0) (e .1))),
+)
