@@ -5,7 +5,8 @@
 #                                 published/amcp.py, published/yates.py
 #   crates/worked_totals/stdout   steps, totals and passes of the published examples, at the limits and with repeats:
 #                                 published/examples.py
-#   crates/worked_answers/stdout  refused and accepted tables, estimates, aliases, effects and runs: cases/answers.py
+#   crates/worked_answers/stdout  refused and accepted tables, estimates, aliases, effects, runs and blockings:
+#                                 cases/answers.py
 #   crates/worked_answers/stdin   the records of these, which that program reads
 #   crates/worked_sheets/stdout   answers of the two calls that take a sheet: cases/sheet_cases.py
 #   crates/worked_sheets/stdin    the sheets, which that program reads
@@ -13,10 +14,12 @@
 #   crates/worked_texts/stdin     the records of the sheets, which that program reads
 #   crates/factab/stdout          the text that the rules print: cases/text_cases.py
 #   crates/factab/stdin           the sheet of that text, which that program reads
+#   crates/blockwords/stdout      the lists of block words for the two numbers in crates/blockwords/args: rules/blockings.py
 #
 # Each of these files also checks what it lists against rules/. Beside them published/analyses.py compares published
-# analyses of variance with rules/table.py, published/daniel.py published aliases with rules/totals.py, and
-# cases/csv_cases.py tries tools/csv_sheet.py and compares the sheets of examples/ with the lines that they are made from.
+# analyses of variance with rules/table.py, published/daniel.py published aliases with rules/totals.py, rules/blockings.py
+# its lists of block words with the plan check of rules/totals.py, and cases/csv_cases.py tries tools/csv_sheet.py and
+# compares the sheets of examples/ with the lines that they are made from.
 #
 # Defined here:
 #   PROGRAMS, INPUTS, OTHERS   which file makes and checks what
@@ -30,6 +33,7 @@ sys.path.insert(0, str(ROOT))
 
 from reference.cases import answers, csv_cases, sheet_cases, text_cases
 from reference.published import amcp, analyses, daniel, examples, yates
+from reference.rules import blockings
 
 # Each program with the reference files that make what it must write, one after the other.
 PROGRAMS = [
@@ -48,7 +52,7 @@ INPUTS = [
 ]
 
 # Reference files beside these that have something to check.
-OTHERS = [analyses, daniel, csv_cases]
+OTHERS = [analyses, daniel, blockings, csv_cases]
 
 
 def path_of(module):
@@ -69,6 +73,14 @@ def differs(crate, name, modules, meant):
     return ["crates/%s/%s differs: made by %s" % (crate, name, ", ".join(path_of(module) for module in modules))]
 
 
+def words_differ():
+    """Complaints about the program blockwords: its stored arguments are no two numbers, or its output is not theirs."""
+    stored = ROOT / "crates" / "blockwords" / "args"
+    text, error = blockings.output(stored.read_bytes().splitlines() if stored.exists() else [])
+    return (["crates/blockwords/args: not two numbers, one to a line"] if error else []) + differs(
+        "blockwords", "stdout", [blockings], text)
+
+
 def bytes_of(text):
     """The bytes of what a program must write, which some reference files make as bytes."""
     return text if isinstance(text, bytes) else text.encode()
@@ -87,7 +99,7 @@ def complaints():
         found += differs(crate, "stdin", [module], inputs())
     found += differs("factab", "stdout", [text_cases], text_cases.RULES_TEXT)
     found += differs("factab", "stdin", [text_cases], text_cases.RULES_SHEET)
-    return found
+    return found + words_differ()
 
 
 if __name__ == "__main__":

@@ -1,23 +1,31 @@
-# A stage of the gate: runs the program factab as it was linked, beside reference/rules/text.py: which bytes it reads and
-# writes by way of the system, no contract can say. As a command:
+# A stage of the gate: runs the programs factab and blockwords as they were linked, beside reference/rules/text.py and
+# reference/rules/blockings.py: which bytes they read and write by way of the system, no contract can say. As a command:
 #
-#   python3 .ci/program.py PROGRAM
+#   python3 .ci/program.py FACTAB BLOCKWORDS
 #
-# PROGRAM is the path of the program. Of each run the text must be that of rules/text.py; on standard error there must be
-# nothing, or the line that tells that a read or a write failed; and the run must end within a time limit and not by a
-# signal. Every difference is printed; the last line says how many there are, and the exit is 1 if there is one.
+# FACTAB and BLOCKWORDS are the paths of the programs. Of each run the text must be that of rules/text.py or of
+# rules/blockings.py; on standard error there must be nothing, or the line that tells that a read or a write failed, or which
+# arguments are wanted; and the run must end within a time limit and not by a signal. Every difference is printed; the last
+# two lines say how many there are, one line for each program, and the exit is 1 if there is one.
 #
-# The runs: sheets of no byte to a megabyte, most of about 5,187; the sheets of examples/; sheets with readings at the
-# limits and beyond them, of two and of three levels, with repeats and in three blocks too; inputs that come in parts or
+# The runs of factab: sheets of no byte to a megabyte, most of about 5,187; the sheets of examples/; sheets with readings at
+# the limits and beyond them, of two and of three levels, with repeats and in three blocks too; inputs that come in parts or
 # late; inputs and outputs that are closed or fail; and 500 sheets of cases/compare.py from a seed that is always the same.
+#
+# The runs of blockwords: factors from 0 to 7 and far more, each with words from 0 to 4 and far more; numbers with zeros
+# before them, numbers whose last bytes are lawful ones, and numbers of as many digits as an argument may have; arguments that
+# are too few, too many or no numbers; and inputs and outputs that are closed or fail.
 #
 # Defined here:
 #   Run                              a run: its name, what the program is given, and what must be seen
-#   sized, stored, limited           the runs, by what is tried: sizes, stored sheets, readings about the limits
+#   sized, stored, limited           the runs of factab, by what is tried: sizes, stored sheets, readings about the limits
 #   parted, failing                  inputs in parts, and inputs and outputs that fail
+#   counted, spelled, faulty         the runs of blockwords: factors and words, ways to write a number, faulty arguments
+#   words_failing                    its inputs and outputs that are closed or fail
 #   seen, complaints_of              what is seen of a run, and how it differs from what is meant
 #   part_taken                       the same of a run whose output takes a part of the text
-#   tried                            makes all runs and prints the differences
+#   factab_runs, blockwords_runs     all runs of a program: name and complaints of each
+#   tried, all_tried                 makes the runs of a program, or of both, and prints the differences
 
 import fcntl
 import os
@@ -39,6 +47,7 @@ from reference.cases.csv_cases import EXAMPLES, FOLDER
 from reference.cases.sheet_cases import Numbers
 from reference.cases.text_cases import RULES_SHEET, RULES_TEXT
 from reference.published.analyses import MOST_REPEATED, THREE_BLOCKED
+from reference.rules import blockings as blocking_rules
 from reference.rules import sheet_bytes
 from reference.rules import text as text_rules
 from reference.rules.table import row_count
@@ -55,16 +64,23 @@ SHORT, LATE = 0.002, 0.2
 # The size of the smallest pipe, and the request of Linux that sets it.
 PIPE, SET_PIPE_SIZE = 4096, 1031
 
-# What the program says on standard error.
+# What the programs say on standard error; rules/blockings.py has what blockwords says of its arguments.
 NOT_READ = b"factab: the input cannot be read\n"
 NOT_WRITTEN = b"factab: the text cannot be written\n"
+WORDS_NOT_WRITTEN = b"blockwords: the text cannot be written\n"
+
+# Factors and words that blockwords is given, each with each.
+FACTORS_TRIED, WORDS_TRIED = (*range(8), 255, 256, 1000), (*range(5), 256)
+
+# The lengths of long arguments: about those of usual buffers, and the most that Linux lets an argument have.
+LONG = (4_095, 4_096, 4_097, 65_535, 65_536, 65_537, 131_071)
 
 # parts are what comes to the input in turn, bytes and seconds of waiting; how is what the shell redirects; text and
-# error are what must be on standard output and standard error.
-Run = namedtuple("Run", "name parts how text error")
+# error are what must be on standard output and standard error; arguments are those of the program.
+Run = namedtuple("Run", "name parts how text error arguments", defaults=((),))
 
 
-# ---- the runs ----
+# ---- the runs of factab ----
 
 def in_parts(name, parts):
     """A run whose input comes in parts."""
@@ -159,6 +175,76 @@ def failing():
     ]
 
 
+# ---- the runs of blockwords ----
+
+def of_arguments(name, *arguments):
+    """A run on arguments."""
+    return Run("blockwords, " + name, [], "", *blocking_rules.output(arguments), arguments)
+
+
+def shown(*arguments):
+    """A run on arguments that are short enough to be its name."""
+    return of_arguments("arguments %r" % list(arguments), *arguments)
+
+
+def counted():
+    """Runs on factors and words, each with each."""
+    return [shown(b"%d" % k, b"%d" % count) for k in FACTORS_TRIED for count in WORDS_TRIED]
+
+
+def spelled():
+    """Runs on numbers with zeros before them; on numbers whose last byte is 3 or 2, and so are their last two, four or eight;
+    and on long ones, which are 3 or 2 after zeros, or nines."""
+    runs = [shown(*own.split()) for own in (b"03 2", b"3 02", b"003 0002", b"000 1", b"3 000", b"0255 1", b"3 0256")]
+    for above in (256, 65_536, 2 ** 32, 2 ** 64):
+        runs += [shown(b"%d" % (above + 3), b"2"), shown(b"3", b"%d" % (above + 2))]
+    for length in LONG:
+        runs += [of_arguments("3 in %d digits" % length, b"3".rjust(length, b"0"), b"2"),
+                 of_arguments("2 in %d digits" % length, b"3", b"2".rjust(length, b"0")),
+                 of_arguments("factors of %d digits" % length, b"9" * length, b"2"),
+                 of_arguments("words of %d digits" % length, b"3", b"9" * length)]
+    return runs
+
+
+# Arguments that are no whole number: nothing; letters, signs, spaces, ends of lines and other bytes, alone, before, after and
+# between digits; the two bytes beside the digits; the digits four and two of other scripts.
+NO_NUMBERS = [
+    b"", b"four", b"a", b"4a", b"a4", b"4a4", b"+4", b"-4", b"4+", b"4-", b"-", b"--", b"-0", b" ", b" 4", b"4 ", b"4 2", b"\t4",
+    b"4\n", b"4\r", b"4/", b"/4", b"4:", b":4", b"4,", b"4.0", b"0x4", b"4_0", b"4;", b"\x01", b"\x7f", b"4\x80", b"\xb4",
+    b"\xff", "\u0664".encode(), "\uff14".encode(), "\u00b2".encode(),
+]
+
+
+def faulty():
+    """Runs on arguments that are not two whole numbers."""
+    runs = [shown(*own.split()) for own in (b"", b"4", b"7", b"4 2 1", b"4 2 1 1", b"7 2 1", b"4 9 1", b"--help", b"4 2 x")]
+    runs += [shown(b"4", b"2", b""), shown(b"", b"4", b"2"), shown(b"", b"")]
+    runs += [shown(b"x", b"9"), shown(b"9", b"x"), shown(b"x", b"y")]
+    for wrong in NO_NUMBERS:
+        runs += [shown(wrong, b"2"), shown(b"4", wrong)]
+    for length in LONG:
+        runs += [of_arguments("a letter after %d digits" % (length - 1), b"0" * (length - 1) + b"x", b"2"),
+                 of_arguments("a letter before %d digits" % (length - 1), b"4", b"x" + b"2" * (length - 1))]
+    return runs
+
+
+# Arguments of which there is a text, a long one, the line of a refusal with 3 and with 17, and no text.
+FAILING = (b"4", b"2"), (b"5", b"3"), (b"6", b"2"), (b"4", b"0"), (b"4", b"x"), (b"4",)
+
+
+def words_failing():
+    """Runs with an input that is closed or holds something, of which nothing is read; with an output that is closed or full;
+    with standard error closed or full; and with both."""
+    runs = [shown(b"4", b"2")._replace(parts=[RULES_SHEET])]
+    for own in (shown(*arguments) for arguments in FAILING):
+        unwritten = own._replace(text=b"", error=own.error or WORDS_NOT_WRITTEN)
+        runs += [own._replace(how=how) for how in ("<&-", "</", "</dev/null")]
+        runs += [unwritten._replace(how=how) for how in (">&-", ">/dev/full", "<&- >&-")]
+        runs += [own._replace(how=how, error=b"") for how in ("2>&-", "2>/dev/full", "<&- 2>&-")]
+        runs += [unwritten._replace(how=how, error=b"") for how in (">&- 2>&-", ">/dev/full 2>/dev/full", "<&- >&- 2>&-")]
+    return [run._replace(name="%s, %s" % (run.name, run.how or "an input")) for run in runs]
+
+
 # ---- what is seen ----
 
 def feed(process, parts, text):
@@ -190,7 +276,7 @@ def seen(program, run):
     """What a program writes in a run to standard output and standard error, and complaints about how it went."""
     with tempfile.TemporaryFile() as text, tempfile.TemporaryFile() as error:
         began = time.monotonic()
-        process = subprocess.Popen(["sh", "-c", 'exec "$0" ' + run.how, program], bufsize=0,
+        process = subprocess.Popen(["sh", "-c", 'exec "$0" "$@" ' + run.how, program, *run.arguments], bufsize=0,
                                    stdin=subprocess.PIPE, stdout=text, stderr=error)
         limit = Timer(TIME_LIMIT, process.kill)
         limit.start()
@@ -211,28 +297,31 @@ def complaints_of(program, run):
     return [complaint for complaint in complaints if complaint]
 
 
-def part_taken(program, own_sheet):
-    """How a run differs whose output takes 4,096 bytes of a longer text: these must be there, and the line."""
+def part_taken(program, run, least):
+    """How a run differs whose output takes 4,096 bytes of a longer text: the beginning of the text must be there, so many bytes
+    of it or more, and the run's line on standard error."""
     out, end = os.pipe()
     fcntl.fcntl(end, SET_PIPE_SIZE, PIPE)
     os.set_blocking(end, False)
     with open(out, "rb") as output:
         try:
-            found = subprocess.run([program], input=own_sheet, stdout=end, stderr=subprocess.PIPE, timeout=TIME_LIMIT)
+            found = subprocess.run([program, *run.arguments], input=b"".join(run.parts), stdout=end, stderr=subprocess.PIPE,
+                                   timeout=TIME_LIMIT)
         except subprocess.TimeoutExpired:
             return [ending(0, TIME_LIMIT)]
         finally:
             os.close(end)
-        complaints = [difference(text_rules.text(own_sheet)[:PIPE], output.read()), ending(found.returncode, 0)]
-    if found.stderr != NOT_WRITTEN:
-        complaints.append("standard error: meant %r, found %r" % (NOT_WRITTEN, found.stderr))
+        taken = output.read()
+    complaints = [difference(run.text[:max(least, len(taken))], taken), ending(found.returncode, 0)]
+    if found.stderr != run.error:
+        complaints.append("standard error: meant %r, found %r" % (run.error, found.stderr))
     return [complaint for complaint in complaints if complaint]
 
 
 # ---- the command ----
 
-def all_runs(program):
-    """All runs but those of cases/compare.py: name and complaints of each."""
+def factab_runs(program):
+    """All runs of factab but those of cases/compare.py: name and complaints of each."""
     numbers = Numbers(SEED)
     contents = compare.longest(numbers)
     longest = sheet_bytes.write(*contents)
@@ -243,27 +332,46 @@ def all_runs(program):
     about_limits = [run for plan in plans for run in limited(plan)]
     for run in sized(contents) + stored() + about_limits + parted(numbers, longest) + failing():
         yield run.name, complaints_of(program, run)
-    yield "an output that takes a part", part_taken(program, longest)
+    whole = of_sheet("the longest", longest)._replace(error=NOT_WRITTEN)
+    yield "an output that takes a part", part_taken(program, whole, PIPE)
 
 
-def tried(program):
-    """The number of all runs, and of those that differ from what is meant, each of which is printed."""
+def blockwords_runs(program):
+    """All runs of blockwords: name and complaints of each. Where its output takes a part, the line that does not fit may lack
+    as a whole."""
+    for run in counted() + spelled() + faulty() + words_failing():
+        yield run.name, complaints_of(program, run)
+    whole = shown(b"5", b"3")._replace(error=WORDS_NOT_WRITTEN)
+    longest = max(len(line) for line in whole.text.splitlines(True))
+    yield whole.name + ", an output that takes a part", part_taken(program, whole, PIPE - longest + 1)
+
+
+def tried(runs):
+    """The number of runs, and of those that differ from what is meant, each of which is printed."""
     count, wrong = 0, 0
-    for name, complaints in all_runs(program):
+    for name, complaints in runs:
         count += 1
         if complaints:
             wrong += 1
             print("%s: %s" % (name, "; ".join(complaints)), flush=True)
-    differences, _ = compare.compare(program, COUNT, SEED)
-    return count + COUNT, wrong + differences
+    return count, wrong
+
+
+def all_tried(factab, blockwords):
+    """Makes all runs of both programs, and says of each how many there were and how many differ; whether any does."""
+    count, wrong = tried(factab_runs(factab))
+    differences, _ = compare.compare(factab, COUNT, SEED)
+    words_count, words_wrong = tried(blockwords_runs(blockwords))
+    print("factab: %d runs, %d differences" % (count + COUNT, wrong + differences))
+    print("blockwords: %d runs, %d differences" % (words_count, words_wrong))
+    return bool(wrong or differences or words_wrong)
 
 
 if __name__ == "__main__":
-    if len(sys.argv) != 2:
-        sys.exit("program.py PROGRAM")
+    if len(sys.argv) != 3:
+        sys.exit("program.py FACTAB BLOCKWORDS")
     try:
-        count, wrong = tried(sys.argv[1])
+        wrong = all_tried(*sys.argv[1:])
     except OSError as why:
         sys.exit(str(why))
-    print("program: %d runs, %d differences" % (count, wrong))
     sys.exit(1 if wrong else 0)

@@ -1,14 +1,16 @@
 # Inputs of the table call that are refused, or accepted with readings about the limits or in three blocks; and inputs of the
-# estimate, of the alias and of the run call with their outcomes. Each is listed with the answer that the rules give; check()
-# compares it with what rules/table.py and rules/totals.py answer. Plans whose effects are tried, by what the same files say
-# of rows, divisors and weights. And the input and the expected text of the program worked_answers, which tries them all.
+# estimate, of the alias, of the run and of the blocking call with their outcomes. Each is listed with the answer that the
+# rules give; check() compares it with what rules/table.py, rules/totals.py and rules/blockings.py answer. Plans whose effects
+# are tried, by what the same files say of rows, divisors and weights. And the input and the expected text of the program
+# worked_answers, which tries them all.
 #
 # The program reads records, one for each table, refused or accepted, then one for each estimate, for each alias, for each
-# plan whose effects are tried, and for each run: length, a byte, and so many bytes. These are a sheet, which has readings
-# and marks for a table alone, and a field 9: the call, a byte, 1 for the table, 2 for the estimate, 3 for the alias, 4 for
-# the effects, 5 for the run, and what else the call takes. For a table it is how many totals and rows are lent, a byte
-# each; for an estimate the effect, two bytes, and its total, eight bytes in two's complement; for an alias the effect, two
-# bytes; for a run its number, two bytes; all big-endian; for effects nothing.
+# plan whose effects are tried, for each run and for each blocking: length, a byte, and so many bytes. These are a sheet,
+# which has readings and marks for a table alone, and a field 9: the call, a byte, 1 for the table, 2 for the estimate, 3 for
+# the alias, 4 for the effects, 5 for the run, 6 for the blocking, and what else the call takes. For a table it is how many
+# totals and rows are lent, a byte each; for an estimate the effect, two bytes, and its total, eight bytes in two's
+# complement; for an alias the effect, two bytes; for a run its number, two bytes; for a blocking, which has no sheet, k and
+# the number of words, a byte each, and how many places are lent, two bytes; all big-endian; for effects nothing.
 #
 # The program writes a line for each record. Of a table it is `refused` with the number, or `made`; then `unchanged` where
 # all totals and rows hold what they held before the call, else `changed`. Of an estimate it is the outcome, a double as the
@@ -16,7 +18,13 @@
 # `refused` with the number. Of a run it is `high` with the set of letters as a number, then `block` with its number; or
 # `refused` with the number. Of effects it is `effects` with how many there are, and more lines follow, each with three
 # numbers, row, divisor and weight: one line for each effect, in order, and one for the first place after them, if there is
-# such a place. A plan that is refused with 2 or 3 has no effects.
+# such a place. A plan that is refused with 2 or 3 has no effects. Of a blocking it is `written` with the number of lists, or
+# `refused` with the number; then `kept` with how many places hold what they held before the call, which is 65,535 less the
+# place and no word; then `checksum` with that of the column; and, of a column of up to 100 places, `column` with the number
+# at each place.
+#
+# Checksum: it begins as 0 and becomes, for each place in order, 17 times itself plus the number at the place, modulo the prime
+# 65,521. Where two different words change places it is another one, since no power of 17 that matters is 1.
 #
 # Signs: differences and aliases are high minus low, as AMCP and Daniel print them. The report prints low minus high, so its
 # differences have the other sign where the effect has an odd number of letters; totals are the report's.
@@ -31,6 +39,7 @@
 #   ALIASES          inputs of the alias call: a plan and an effect of all factors
 #   EFFECTS          plans whose effects are tried
 #   RUNS             inputs of the run call: a plan and a run number
+#   BLOCKINGS        inputs of the blocking call: factors, words and places
 #   check            list of complaints, empty if all is well
 #   expected_text    the expected text
 #   inputs           the input of the program (answers.py inputs)
@@ -45,6 +54,7 @@ sys.path.insert(0, dirname(dirname(dirname(abspath(__file__)))))
 
 from reference.published import daniel, examples
 from reference.published.analyses import TEN, TEN_ADDED, TEN_BLOCKED
+from reference.rules import blockings as blocking_rules
 from reference.rules import sheet_bytes
 from reference.rules import table as table_rules
 from reference.rules import totals as totals_rules
@@ -63,14 +73,17 @@ Alias = namedtuple("Alias", "plan effect outcome")
 # outcome: "high", the letters, "block" and its number, or "refused" and the number.
 Run = namedtuple("Run", "plan number outcome")
 
+# outcome: "written" and the number of lists, or "refused" and the number.
+Blocking = namedtuple("Blocking", "k words places outcome")
+
 # What is tried of an effect of a plan.
 Effect = namedtuple("Effect", "row divisor weight")
 
-# The most readings, and the most totals and rows, that the program can lend; the tag of the field that names the call, and
-# the calls.
-MOST_READINGS_LENT, MOST_LENT = 32, 9
+# The most readings, the most totals and rows, and the most places of a blocking, that the program can lend; the tag of the
+# field that names the call, and the calls.
+MOST_READINGS_LENT, MOST_LENT, MOST_PLACES_LENT = 32, 9, 3363
 REST = 9
-TABLE, ESTIMATE, ALIAS, EFFECT, RUN = 1, 2, 3, 4, 5
+TABLE, ESTIMATE, ALIAS, EFFECT, RUN, BLOCKING = 1, 2, 3, 4, 5, 6
 
 # The limit of a reading, by levels.
 TOP = totals_rules.MOST_READING
@@ -636,7 +649,76 @@ RUNS = runs_of(Plan(2, 3, ((ABC, 0),)), "(1) 0, AD 0, BD 0, AB 0, CD 0, AC 0, BC
 ]
 
 
+# ---- blockings ----
+
+# Factors and words that the call does not take.
+OTHER_FACTORS, OTHER_WORDS = (0, 1, 6, 7, 255), (0, 4, 255)
+
+# How many places the most words take, and how many more than enough are tried.
+MOST_WORDS, MORE = blocking_rules.MOST_PLACES, 3
+
+
+def blockings_of(k, words, count):
+    """Inputs of the blocking call for factors and words of which there are so many lists: places enough, and three more. Where
+    there is a list: one place fewer, a place for each list where that is not enough, one place, none."""
+    enough = count * words
+    few = sorted({0, 1, count, enough - 1} - {enough}, reverse=True) if count else []
+    return ([Blocking(k, words, places, "written %d" % count) for places in (enough, enough + MORE)]
+            + [Blocking(k, words, places, "refused 18") for places in few])
+
+
+# The places up to which the program writes every place of the column.
+FEW_PLACES = 100
+
+# The counts are those of rules/blockings.py, which are listed there. Then 3 and 17, alone and together with what comes later:
+# without a place, and with places for all words that there are.
+BLOCKINGS = [own for (k, words), count in blocking_rules.COUNTS.items() for own in blockings_of(k, words, count)] + [
+    Blocking(k, words, places, "refused 3")
+    for k in OTHER_FACTORS for words in (*blocking_rules.WORD_COUNTS, *OTHER_WORDS) for places in (0, MOST_WORDS)
+] + [
+    Blocking(k, words, places, "refused 17")
+    for k in blocking_rules.FACTORS for words in OTHER_WORDS for places in (0, MOST_WORDS)
+]
+
+
+def column_before(places):
+    """The column that the program lends: no place has the number of another, and none a word."""
+    return [65_535 - place for place in range(places)]
+
+
+# The prime of the checksum, and the number with which it is multiplied.
+PRIME, FACTOR = 65_521, 17
+
+
+def checksum(column):
+    """The checksum of a column."""
+    found = 0
+    for number in column:
+        found = (FACTOR * found + number) % PRIME
+    return found
+
+
 # ---- checks ----
+
+def blocked_of(own):
+    """The outcome of a blocking in words."""
+    refused = blocking_rules.blocking_answer(own.k, own.words, own.places)
+    return "refused %d" % refused if refused else "written %d" % len(blocking_rules.lists(own.k, own.words))
+
+
+def check_blockings():
+    """The outcome of every blocking is the one that the rules give, none is tried twice, and the program can lend the places.
+    The checksum tells an exchange of two words, and lists in the order of the last word first."""
+    complaints = ["blocking, %d factors, %d words, %d places: %s, listed %s" % (*own[:3], blocked_of(own), own.outcome)
+                  for own in BLOCKINGS if blocked_of(own) != own.outcome or own.places > MOST_PLACES_LENT]
+    if len({own[:3] for own in BLOCKINGS}) != len(BLOCKINGS):
+        complaints.append("blocking: one is tried twice")
+    turned = sorted(blocking_rules.lists(5, 3), key=lambda words: words[::-1])
+    if (any(pow(FACTOR, apart, PRIME) == 1 for apart in range(1, MOST_PLACES_LENT))
+            or checksum(blocking_rules.words_of(5, 3)) == checksum([word for words in turned for word in words])):
+        complaints.append("blocking: the checksum does not tell another order")
+    return complaints
+
 
 def check_runs():
     """The outcome of every run is the one that the rules give."""
@@ -786,9 +868,9 @@ def check_lent():
 
 
 def check():
-    """List of all complaints about tables, estimates, aliases, effects and runs."""
+    """List of all complaints about tables, estimates, aliases, effects, runs and blockings."""
     return (check_tables() + check_estimates() + check_report() + check_amcp() + check_zeros() + check_aliases()
-            + check_effects() + check_runs() + check_lent())
+            + check_effects() + check_runs() + check_lent() + check_blockings())
 
 
 # ---- expected text ----
@@ -826,24 +908,38 @@ def ran_text(own):
     return "high %d, block %s" % (0 if letters == "(1)," else row_number(letters.strip(",")), block)
 
 
+def blocked_text(own):
+    """What the program writes of a blocking: the outcome, how many places are kept, the checksum, and few places."""
+    before = column_before(own.places)
+    after = blocking_rules.column_after(own.k, own.words, before)
+    kept = sum(number == old for number, old in zip(after, before))
+    column = ", column" + examples.values_text(after) if len(after) <= FEW_PLACES else ""
+    return "%s, kept %d, checksum %d%s" % (own.outcome, kept, checksum(after), column)
+
+
 def numbered(texts):
     """The texts, each with its number before it and on lines of its own."""
     return "".join("%d: %s\n" % pair for pair in enumerate(texts, 1))
 
 
 def expected_text():
-    """What the program that tries tables, estimates, aliases, effects and runs must write."""
+    """What the program that tries tables, estimates, aliases, effects, runs and blockings must write."""
     return numbered([table_text(own) for own in REFUSALS + ACCEPTED] + [estimate_text(own) for own in ESTIMATES]
                     + [reduced_text(own) for own in ALIASES] + [effects_text(plan) for plan in EFFECTS]
-                    + [ran_text(own) for own in RUNS])
+                    + [ran_text(own) for own in RUNS] + [blocked_text(own) for own in BLOCKINGS])
 
 
 # ---- input ----
 
-def record(plan, readings, marks, call, rest):
+def with_call(sheet, call, rest):
     """A record: length, sheet and field 9."""
-    fields = sheet_bytes.write(plan, readings, marks) + sheet_bytes.field(REST, bytes([call]) + rest)
+    fields = sheet + sheet_bytes.field(REST, bytes([call]) + rest)
     return bytes([len(fields)]) + fields
+
+
+def record(plan, readings, marks, call, rest):
+    """A record with the sheet of a plan."""
+    return with_call(sheet_bytes.write(plan, readings, marks), call, rest)
 
 
 def table_record(own):
@@ -871,11 +967,16 @@ def run_record(own):
     return record(own.plan, [], [], RUN, own.number.to_bytes(2, "big"))
 
 
+def blocking_record(own):
+    """The record of a blocking, without a sheet."""
+    return with_call(b"", BLOCKING, bytes([own.k, own.words]) + own.places.to_bytes(2, "big"))
+
+
 def inputs():
-    """The input of the program: the records of all tables, estimates, aliases, effects and runs."""
+    """The input of the program: the records of all tables, estimates, aliases, effects, runs and blockings."""
     return b"".join([table_record(own) for own in REFUSALS + ACCEPTED] + [estimate_record(own) for own in ESTIMATES]
                     + [alias_record(own) for own in ALIASES] + [effects_record(plan) for plan in EFFECTS]
-                    + [run_record(own) for own in RUNS])
+                    + [run_record(own) for own in RUNS] + [blocking_record(own) for own in BLOCKINGS])
 
 
 def plan_text(plan):
@@ -886,12 +987,14 @@ def plan_text(plan):
 
 def list_text():
     """A line for each record: of a table why it is refused, or what it has about the limits; of an estimate plan, effect and
-    total; of an alias plan and effect; of effects the plan; of a run plan and number."""
+    total; of an alias plan and effect; of effects the plan; of a run plan and number; of a blocking factors, words and
+    places."""
     return numbered(["refusal, " + own.why for own in REFUSALS] + ["table, " + own.why for own in ACCEPTED]
                     + ["estimate, %s, effect %d, total %d" % (plan_text(own.plan), *own[1:3]) for own in ESTIMATES]
                     + ["alias, %s, effect %d" % (plan_text(own.plan), own.effect) for own in ALIASES]
                     + ["effects, " + plan_text(plan) for plan in EFFECTS]
-                    + ["run, %s, number %d" % (plan_text(own.plan), own.number) for own in RUNS])
+                    + ["run, %s, number %d" % (plan_text(own.plan), own.number) for own in RUNS]
+                    + ["blocking, factors %d, words %d, places %d" % own[:3] for own in BLOCKINGS])
 
 
 if __name__ == "__main__":

@@ -7,7 +7,8 @@
 # that the scan shows wrongly left as they stand. The expected text is made from these entries and from the
 # mends alone; only the words of the added factors of Table 12-4 are read off the runs. Blocks, confounded effects
 # and aliases are computed in the checks and nowhere else. The checks also compare runs and aliases of Table 12-4, those
-# of every effect of all letters, with rules/totals.py.
+# of every effect of all letters, with rules/totals.py; and find the plans of Table 12-3 that have up to five factors among
+# the lists of block words of rules/blockings.py.
 #
 # Damage: whether a wrong entry is in the print or only in the scan is not decided here. Each wrong entry has one
 # mend, with what is printed, what is meant and the reason. A mend is used only if the undamaged entries of the
@@ -28,6 +29,7 @@
 #   BLOCKED_PLANS, FRACTIONAL_PLANS   the tables as printed
 #   MENDS                             the damaged entries
 #   ORDER_DEPARTURES                  the blocks that are right as sets but not in the usual order of the print
+#   LISTS                             how many lists of block words confound the effects of a plan of Table 12-3
 #   mended_effects, mended_blocks     Table 12-3 after mending
 #   mended_rows                       Table 12-4 after mending
 #   check                             list of complaints about tables and mends, empty if all is well
@@ -40,6 +42,7 @@ from os.path import abspath, dirname
 
 sys.path.insert(0, dirname(dirname(dirname(abspath(__file__)))))
 
+from reference.rules import blockings
 from reference.rules import totals as totals_rules
 
 BlockedPlan = namedtuple("BlockedPlan", "factors label effects blocks")
@@ -342,6 +345,9 @@ MENDS = [
 # Seven factors (ii), block 3: ceg is printed last; in the order of the first block it would be entry 27.
 ORDER_DEPARTURES = [((7, "ii"), 3)]
 
+# By plan, of up to five factors: the printed effects are those of so many lists, of one word, of two and of three.
+LISTS = {(3, "i"): 1, (4, "i"): 1, (4, "ii"): 3, (5, "i"): 1, (5, "ii"): 3, (5, "iii"): 28}
+
 
 def mends_of(table, plan, part):
     """The mends of one list of entries, in rising order of position."""
@@ -514,6 +520,35 @@ def check_blocked_plan(plan):
             + check_settled_effects(name, plan, effects))
 
 
+def lists_of(plan):
+    """The lists of block words that confound exactly the printed effects; two blocks want one word, four two, eight three."""
+    effects = tuple(sorted(number_of(effect) for effect in mended_effects(plan)))
+    count = len(plan.blocks).bit_length() - 1
+    return [words for words in blockings.lists(plan.factors, count) if blockings.confounded(words) == effects]
+
+
+def blocks_of(factors, words):
+    """The blocks that a list of block words makes, as sets of runs."""
+    own, blocks = totals_rules.Plan(2, factors, (), words), {}
+    for run in range(2 ** factors):
+        blocks.setdefault(totals_rules.block_of(own, run), set()).add(run)
+    return {frozenset(block) for block in blocks.values()}
+
+
+def check_lists():
+    """The plans of up to five factors are among the lists of block words, each as often as a group has lists; and each of
+    these lists makes the printed blocks."""
+    found = {plan[:2]: lists_of(plan) for plan in BLOCKED_PLANS if plan.factors in blockings.FACTORS}
+    complaints = []
+    if {name: len(own) for name, own in found.items()} != LISTS:
+        complaints.append("table 12-3: the lists of block words are %r" % {name: len(own) for name, own in found.items()})
+    for plan in BLOCKED_PLANS:
+        printed = {frozenset(number_of(run) for run in block) for block in mended_blocks(plan)}
+        complaints += ["table 12-3, %d factors (%s): %s makes other blocks" % (*plan[:2], blockings.labels(words))
+                       for words in found.get(plan[:2], []) if blocks_of(plan.factors, words) != printed]
+    return complaints
+
+
 def base_count(plan):
     """Number of base letters k, where the plan has 2^k rows."""
     return len(plan.rows).bit_length() - 1
@@ -593,7 +628,7 @@ def check_fractional_plan(plan):
 
 def check():
     """List of all complaints about the two tables and the mends."""
-    complaints = check_mends()
+    complaints = check_mends() + check_lists()
     for plan in BLOCKED_PLANS:
         complaints += check_blocked_plan(plan)
     for plan in FRACTIONAL_PLANS:

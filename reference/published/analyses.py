@@ -23,8 +23,12 @@
 # word (yates.py has their sets). The first replication was laid out in the sets of Y, the second in those of Z. His readings
 # are also worked with the words of the other pairs, whose sums he prints, as if they had been laid out so.
 #
+# Lists: the block words of the two-level tables in blocks, of those with two to five factors and none added, are found among
+# the lists of rules/blockings.py; the two effects that are lost in Yates's squares are no list.
+#
 # Defined here:
 #   TABLES                 the worked tables, numbered from 1 in this order
+#   IN_BLOCKS              those of two levels and two to five factors, none added, that are in blocks
 #   FOUR_BLOCKS, SIX_ADDED, TEN, TEN_BLOCKED, TEN_ADDED, SIX
 #                          words and plans of ten factors, and the plan of six at three levels
 #   MOST_REPEATED          plans with repeats that have the most readings, by levels
@@ -47,6 +51,7 @@ from itertools import combinations, product
 
 from reference.published import examples
 from reference.published.yates import WORDS
+from reference.rules import blockings
 from reference.rules import table as table_rules
 from reference.rules import totals as totals_rules
 from reference.rules.table import row_number
@@ -617,6 +622,8 @@ TABLES = (
     + EXTREMES_IN_THREE
 )
 
+IN_BLOCKS = [AMCP_BLOCKED, YATES_BEANS, INTERLACED, DANIEL_MANGOLDS, RULES_BLOCKS, POTATO_BLOCKED]
+
 
 # ---- damaged figures, and figures that are off ----
 
@@ -1121,6 +1128,22 @@ def check_pounds():
     return complaints
 
 
+def is_small(plan):
+    """Whether a plan is of those whose lists of block words rules/blockings.py has, and in blocks."""
+    return (plan.levels == 2 and plan.k in blockings.FACTORS and not plan.added
+            and len(plan.blocks) in blockings.WORD_COUNTS)
+
+
+def check_block_words():
+    """The block words of the small tables in blocks are a list; P K and N P K, which the squares of Table 29 lose to rows and
+    columns, are none."""
+    complaints = [] if [own for own in TABLES if is_small(own.plan)] == IN_BLOCKS else ["tables in blocks"]
+    complaints += [own.title + ": the block words are no list" for own in IN_BLOCKS if not blockings.is_listed(own.plan)]
+    if blockings.is_listed(YATES_SUGAR_BEET.plan._replace(blocks=YATES_SUGAR_BEET.marked)):
+        complaints.append("Yates, Table 29: what the squares lose is a list")
+    return complaints
+
+
 def check_half():
     """The readings of half of the beans are the yields less 59, rounded."""
     complaints = []
@@ -1155,7 +1178,7 @@ def check_arrangement():
 def check():
     """List of all complaints about tables."""
     complaints = (check_lists() + check_pooled() + check_together() + check_sums() + check_pounds() + check_half()
-                  + check_arrangement())
+                  + check_arrangement() + check_block_words())
     for own in TABLES:
         complaints += check_worked(own)
     return complaints

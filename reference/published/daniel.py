@@ -11,8 +11,12 @@
 # Damage: a term that the scan shows wrongly stands as printed, an arrow and as meant. There is one, and the row of I settles
 # it. Whether the print has it wrong or only the scan is not decided here.
 #
+# Blocks: the first two plans are the two blocks of one plan of three factors. The effect that is not told apart from the mean
+# in them is its block word, which is found among the lists of rules/blockings.py.
+#
 # Defined here:
 #   PRINTED_PLANS    the plans with the rows as printed
+#   TWO_BLOCKS       those that are the blocks of one plan, block 0 first
 #   Published        a published alias: where it stands, plan, effect, base word, and whether their signs differ
 #   published        all of them
 #   check            list of complaints, empty if all is well
@@ -20,6 +24,7 @@
 import re
 from collections import namedtuple
 
+from reference.rules import blockings
 from reference.rules import totals as totals_rules
 from reference.rules.table import row_number
 from reference.rules.totals import Plan
@@ -43,6 +48,8 @@ PRINTED_PLANS = [
     PrintedPlan("Section 12.3.1 and Table 12.5", Plan(2, 3, ((AC, 0), (AB, 1))), "ABCDE",
                 "I + ABE - ACD - BCDE, A + BC>BE - CD, B + AE, AB + E, C - AD, AC - D, BC - DE, ABC + CE - BD"),
 ]
+
+TWO_BLOCKS = PRINTED_PLANS[:2]
 
 
 # ---- rows ----
@@ -111,9 +118,21 @@ def check_plan(own):
     return ["Daniel, %s: %s" % (own.where, complaint) for complaint in complaints]
 
 
+def check_blocks():
+    """The two blocks have one word beside the mean, which is a list of one word; and its blocks are their runs."""
+    words = {tuple(effect for effect, _ in rows_of(own)[0] if effect) for own in TWO_BLOCKS}
+    whole = Plan(2, len(TWO_BLOCKS[0].letters), (), words.pop())
+    if words or not blockings.is_listed(whole):
+        return ["Daniel, Section 11.4: the block word is no list"]
+    runs = range(totals_rules.run_count(whole.levels, whole.k))
+    meant = [[run for run in runs if totals_rules.block_of(whole, run) == number] for number in range(2)]
+    found = [sorted(totals_rules.high_letters(own.plan, run) for run in range(2 ** own.plan.k)) for own in TWO_BLOCKS]
+    return [] if found == meant else ["Daniel, Section 11.4: the block word makes other blocks"]
+
+
 def check():
     """List of all complaints about plans and rows; and aliases that are not those of rules/totals.py."""
-    complaints = [complaint for own in PRINTED_PLANS for complaint in check_plan(own)]
+    complaints = check_blocks() + [complaint for own in PRINTED_PLANS for complaint in check_plan(own)]
     for own in published():
         if totals_rules.alias(own.plan, own.effect) != (own.word, own.turned):
             complaints.append("%s, effect %d: not the alias of the rules" % (own.where, own.effect))

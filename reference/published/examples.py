@@ -33,8 +33,12 @@
 # passes are those of the run sums, and what is said above of readings holds for the run sums. The single readings are
 # compared with sums of a block or of a replication, where these are printed.
 #
+# Blocks: the block words of the two-level examples in blocks are found among the lists of rules/blockings.py, and so are the
+# effects that Yates's Table 23 has in its line of blocks.
+#
 # Defined here:
 #   EXAMPLES               the examples, numbered from 1 in this order
+#   IN_BLOCKS              the two-level ones in blocks
 #   MENDS                  the damaged figures
 #   whole_readings         the readings of an example as whole numbers, in standard order of the runs
 #   sums_of                the sum of the readings of each run
@@ -52,6 +56,7 @@ from os.path import abspath, dirname
 
 sys.path.insert(0, dirname(dirname(dirname(abspath(__file__)))))
 
+from reference.rules import blockings
 from reference.rules import totals as totals_rules
 
 # places: decimals of the readings. turned: differences last minus first. plots: how many plots one reading adds up.
@@ -486,6 +491,8 @@ EXAMPLES = (
     + [POTATO_PLOTS, SUGAR_BEET_SINGLE, BEET_PLOTS, DANIEL_BUDS]
 )
 
+IN_BLOCKS = [YATES_BEANS, DANIEL_MANGOLDS, RULES_BLOCKS]
+
 
 # ---- mends ----
 
@@ -777,6 +784,21 @@ def check_beet_blocks():
     return complaints
 
 
+def check_lists():
+    """The block words of every two-level example in blocks are a list, and as many lists confound the same effects as a group
+    has. Those of the beans confound the effects that Table 23 has in its line of blocks."""
+    complaints = [] if [own for own in EXAMPLES if own.levels == 2 and own.blocks] == IN_BLOCKS else ["examples in blocks"]
+    for example in IN_BLOCKS:
+        k, words = example.k, tuple(sorted(example.blocks))
+        size = blockings.groups(k, len(words))[blockings.confounded(words)]
+        if not blockings.is_listed(plan(example)) or size != blockings.GROUP_SIZES[len(words)]:
+            complaints.append(example.title + ": the block words are no list")
+    printed = next(printed for printed in YATES_BEANS.printed if printed.label == "Table 23, blocks")
+    if tuple(sorted(printed.effects)) != blockings.confounded(YATES_BEANS.blocks):
+        complaints.append("Yates, Table 23: confounded effects")
+    return complaints
+
+
 def check_mends():
     """Complaints about mends given twice or of no printed column."""
     labels = {(example.title, printed.label) for example in EXAMPLES for printed in example.printed}
@@ -796,7 +818,7 @@ def check_example(example):
 
 def check():
     """List of all complaints about the examples and the mends."""
-    complaints = check_mends() + check_doubtful() + check_labels() + check_beet_blocks()
+    complaints = check_mends() + check_doubtful() + check_labels() + check_beet_blocks() + check_lists()
     for example in EXAMPLES:
         complaints += check_example(example)
     return complaints

@@ -1,6 +1,6 @@
 -- The proofs of the claims: a file for each, by the claim's name.
 --
---   LowestNumber, Refusals, Letters, HighMinusLow, CheckNumbers, AnyOrder, Steps, SumOfSquares, TableAddsUp, OneWalk, ThreeBlocks, Starred, WrongPrograms
+--   LowestNumber, Refusals, Letters, HighMinusLow, CheckNumbers, AnyOrder, Steps, SumOfSquares, TableAddsUp, OneWalk, ThreeBlocks, EveryBlocking, Starred, WrongPrograms
 pub mod LowestNumber
 pub mod Refusals
 pub mod Letters
@@ -12,5 +12,6 @@ pub mod SumOfSquares
 pub mod TableAddsUp
 pub mod OneWalk
 pub mod ThreeBlocks
+pub mod EveryBlocking
 pub mod Starred
 pub mod WrongPrograms

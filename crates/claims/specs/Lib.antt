@@ -11,6 +11,7 @@
 --   TableAddsUp    demand 3: mean, kept, blocks and error
 --   OneWalk        rows and sums after every total
 --   ThreeBlocks    demand 2: three-level plans in three blocks
+--   EveryBlocking  every way to block a small plan
 --   Starred        the starred runs, as one fact
 --   WrongPrograms  the programs that have to break their statements
 --   Examples       worked examples
@@ -26,6 +27,7 @@ pub mod SumOfSquares
 pub mod TableAddsUp
 pub mod OneWalk
 pub mod ThreeBlocks
+pub mod EveryBlocking
 pub mod Starred
 pub mod WrongPrograms
 pub mod Examples

@@ -21,6 +21,7 @@ use Rattle.columns.specs.Refusals.{anyBeyond}
 use Rattle.rows.specs.Kinds.{badMarks}
 use Rattle.runs.specs.Run.{runRefusals, runRefused}
 use Rattle.aliases.specs.Alias.{aliasRefusals, aliasRefused}
+use Rattle.blockings.specs.Blockings.{blockingsRefusals, blockingsRefused}
 use Rattle.estimates.specs.Estimate.{estimateRefusals, estimateRefused}
 use Rattle.yates.specs.Calls.{passRefusals, passRefused, totalsRefusals, totalsRefused}
 use Rattle.steps.specs.Step.{stepRefusals, stepRefused}
@@ -59,6 +60,8 @@ pub record LowestNumber : Type 0 where
   pub alias : (p : Plan) (e : ℕ) → Lowest (aliasRefused p e) (onPlan p (aliasRefusals p e))
   -- L8: "the estimate 9, 10, 12"
   pub estimate : (p : Plan) (e : ℕ) (t : ℤ) → Lowest (estimateRefused p e t) (onPlan p (estimateRefusals p e t))
+  -- L13: "3, k outside this range; 17, word count outside it; then 18"
+  pub blockings : (k b room : ℕ) → Lowest (blockingsRefused k b room) (blockingsRefusals k b room)
   -- L9: "the pass 10, 11, 12"
   pub pass : (p : Plan) (f : ℕ) (column : List ℤ) → Lowest (passRefused p f column) (onPlan p (passRefusals p f column))
   -- L10: "the step 11, 12"

@@ -4,6 +4,7 @@
 --   theNumbers                 the thirteen numbers, and those that have joined them
 --   OneOfTheNumbers n          a number that refuses, and so is not 0, has a place among these
 --   OnPlan p                   THE CLAIM on the calls that take a plan: check, run, alias, estimate, pass, step, totals, table
+--   OnBlockings k b column     on the blocking call
 --   OnSheet sheet              on those that take a sheet: reader, marks, print
 --   ForC                       on the table call for C; the others for C have the numbers and columns of the first
 use mathlib.Core.Path.{_≡_}
@@ -16,6 +17,7 @@ use Rattle.plan.specs.Check.{planRefused}
 use Rattle.plan.specs.Outcome.{place}
 use Rattle.runs.specs.Run.{runRefused}
 use Rattle.aliases.specs.Alias.{aliasRefused}
+use Rattle.blockings.specs.Blockings.{blockingsRefused, blockingsColumn}
 use Rattle.estimates.specs.Estimate.{estimateRefused}
 use Rattle.yates.specs.Calls.{passRefused, passColumn, totalsRefused, totalsColumn}
 use Rattle.steps.specs.Step.{stepRefused, stepColumn}
@@ -24,9 +26,9 @@ use Rattle.sheet.specs.Sheet.{readRefused, readColumn, marksRefused, marksOf}
 use Rattle.printing.specs.Printed.{printRefused}
 use Rattle.exported.specs.Handed.{callRefused, callTotals, callRows, callFigures, callChecks}
 
--- D1.6, N16
+-- D1.6, N16 to N18
 abbrev pub theNumbers : List ℕ
-theNumbers = 1 ∷ 2 ∷ 3 ∷ 4 ∷ 5 ∷ 6 ∷ 7 ∷ 8 ∷ 9 ∷ 10 ∷ 11 ∷ 12 ∷ 13 ∷ 16 ∷ []
+theNumbers = 1 ∷ 2 ∷ 3 ∷ 4 ∷ 5 ∷ 6 ∷ 7 ∷ 8 ∷ 9 ∷ 10 ∷ 11 ∷ 12 ∷ 13 ∷ 16 ∷ 17 ∷ 18 ∷ []
 
 abbrev pub OneOfTheNumbers : ℕ → Type 0
 OneOfTheNumbers n = (n ≡ 0 → ⊥) → place theNumbers n ≤ length theNumbers
@@ -49,6 +51,12 @@ pub record OnPlan (p : Plan) : Type 0 where
   pub table-unwritten : (readings : List ℤ) (marks : List ℕ) (column : List ℤ) (rows : List ℕ)
       → (tableRefused p readings marks column rows ≡ 0 → ⊥)
       → (tableTotals p readings marks column rows ≡ column) × (tableRows p readings marks column rows ≡ rows)
+
+-- ---- the blocking call, which takes k and a number of words
+
+pub record OnBlockings (k b : ℕ) (column : List ℕ) : Type 0 where
+  pub number : OneOfTheNumbers (blockingsRefused k b (length column))
+  pub unwritten : (blockingsRefused k b (length column) ≡ 0 → ⊥) → blockingsColumn k b column ≡ column
 
 -- ---- calls that take a sheet
 

@@ -1,9 +1,11 @@
 -- What each call promises, whole: its answer, and every slice that it was lent to write, at exit. So a program keeps the call's promise
 -- where it comes to the same for every input. That these are the calls' own promises is proved by the functions of src/, each being a call.
 --
---   Left, Read, Tabled, Printed       what a call leaves: an answer and a column; a plan too; a table with totals and rows; a text and its length
+--   Left, Listed, Read, Tabled, Printed    what a call leaves: an answer and a column; lists of words; a plan too; a table with totals and rows; a
+--                                     text and its length
 --   promisedCheck p                   the plan check
 --   promisedRun, promisedAlias        the run and the alias call
+--   promisedBlockings                 the blocking call
 --   promisedPass, promisedStep        the pass, and the step
 --   promisedTotals                    the totals of all effects
 --   promisedTable                     the table
@@ -21,6 +23,7 @@ use Rattle.plan.specs.Check.{planRefused}
 use Rattle.plan.specs.Outcome.{Outcome, outcome}
 use Rattle.runs.specs.Run.{runRefused, runValues}
 use Rattle.aliases.specs.Alias.{aliasRefused, aliasValues}
+use Rattle.blockings.specs.Blockings.{blockingsOf, blockingsRefused, blockingsColumn}
 use Rattle.steps.specs.Step.{stepRefused, stepColumn}
 use Rattle.yates.specs.Calls.{passRefused, passColumn, totalsRefused, totalsColumn}
 use Rattle.estimates.specs.Estimate.{Value, estimateRefused, estimateValue}
@@ -35,6 +38,11 @@ use Rattle.printing.specs.Printed.{textOf}
 pub record Left : Type 0 where
   pub answer : Outcome Unit
   pub column : List ℤ
+
+-- how many lists, and the column that begins with their words
+pub record Listed : Type 0 where
+  pub answer : Outcome ℕ
+  pub column : List ℕ
 
 pub record Read : Type 0 where
   pub answer : Outcome Unit
@@ -64,6 +72,13 @@ promisedRun p r = outcome (runRefused p r) (runValues p r)
 -- E8: the base word, and whether the sign turns
 abbrev pub promisedAlias : Plan → ℕ → Outcome (ℕ × Bool)
 promisedAlias p e = outcome (aliasRefused p e) (aliasValues p e)
+
+-- R13 to R17
+abbrev pub promisedBlockings : ℕ → ℕ → List ℕ → Listed
+promisedBlockings k b column = record {
+  answer = outcome (blockingsRefused k b (length column)) (length (blockingsOf k b));
+  column = blockingsColumn k b column;
+}
 
 -- T13, T14
 abbrev pub promisedPass : Plan → ℕ → List ℤ → Left

@@ -4,6 +4,7 @@ ghost use mathlib.Core.Path.{_≡_};
 use aliases::Alias;
 use anova::Estimate;
 use anova::Table;
+use blockings::Blockings;
 use plan::Check;
 use plan::Plan;
 use printing::TEXT;
@@ -13,10 +14,11 @@ use yates::Answer;
 ghost use Rattle.plan.specs.Check.{checkOutcome};
 ghost use Rattle.runs.specs.Run.{runOutcome};
 ghost use Rattle.aliases.specs.Alias.{aliasOutcome};
+ghost use Rattle.blockings.specs.Blockings.{blockingsOutcome};
 ghost use Rattle.columns.specs.Refusals.{answerOutcome};
 ghost use Rattle.anova.specs.Table.{tableOutcome};
 ghost use Rattle.estimates.specs.Estimate.{estimateOutcome};
-ghost use Rattle.promises.specs.Promised.{promisedCheck, promisedRun, promisedAlias, promisedPass, promisedStep, promisedTotals, promisedTable, promisedEstimate};
+ghost use Rattle.promises.specs.Promised.{promisedCheck, promisedRun, promisedAlias, promisedBlockings, promisedPass, promisedStep, promisedTotals, promisedTable, promisedEstimate};
 ghost use Rattle.promises.specs.Promised.{promisedRead, promisedMarks, promisedPrint};
 
 fn check(p: Plan) -> Check
@@ -35,6 +37,13 @@ fn alias(p: Plan, effect: u16) -> Alias
     ensures { λ r. ⌜ aliasOutcome r ≡ promisedAlias p effect ⌝ }
 {
     aliases::alias(p, effect)
+}
+
+fn blockings(k: u8, words: u8, column: &mut [u16]) -> Blockings
+    ensures { λ r. ⌜ blockingsOutcome r ≡ promisedBlockings k words (now (column .entry)) .answer ⌝ }
+    ensures { λ _. ⌜ now (column .exit) ≡ promisedBlockings k words (now (column .entry)) .column ⌝ }
+{
+    blockings::blockings(k, words, column)
 }
 
 fn pass(p: Plan, factor: usize, column: &mut [i64]) -> Answer

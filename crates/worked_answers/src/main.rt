@@ -1,7 +1,8 @@
-// Tries the table call on plans, readings and marks that it refuses and on large readings that it accepts, the estimate, the alias and the run
-// call, and the rows, divisors and weights of effects, by the records of its input. `reference/cases/answers.py` makes the input and the text that
-// this program must write, and says how both are laid out.
+// Tries the table call on plans, readings and marks that it refuses and on large readings that it accepts, the estimate, the alias, the run and
+// the blocking call, and the rows, divisors and weights of effects, by the records of its input. `reference/cases/answers.py` makes the input and
+// the text that this program must write, and says how both are laid out.
 mod estimated;
+mod listed;
 mod placed;
 mod reduced;
 mod tabled;
@@ -11,6 +12,7 @@ mod weighed;
 use contents::plan_in;
 use estimated::try_estimate;
 use fields::body;
+use listed::try_blocking;
 use numerals::byte;
 use placed::try_run;
 use reduced::try_alias;
@@ -18,7 +20,7 @@ use tabled::try_table;
 use text::print;
 use weighed::try_effects;
 
-// Field 9 is the call, a byte, and what else it takes: 1 is the table, 2 the estimate, 3 the alias, 4 the effects, 5 the run.
+// Field 9 is the call, a byte, and what else it takes: 1 is the table, 2 the estimate, 3 the alias, 4 the effects, 5 the run, 6 the blocking.
 fn work(number: u64, record: &[u8]) {
     io::print_decimal(1, number);
     print(b":");
@@ -33,8 +35,10 @@ fn work(number: u64, record: &[u8]) {
         try_alias(p, rest);
     } else if call == 4 {
         try_effects(p);
-    } else {
+    } else if call == 5 {
         try_run(p, rest);
+    } else {
+        try_blocking(rest);
     }
 }
 

@@ -3,7 +3,7 @@
 --   those-in, those-of     what is among those that pass a test: it passes, and is among all
 --   flat-in, flat-of       what is among lists joined: it is among one of them
 --   tab-in, tab-of         what is among the values of a function
---   in-at                  what stands at a place
+--   in-at, at-of           what stands at a place is among the entries, and each of them stands at one
 --   Ordered R xs           each entry of xs stands in the relation R to all that come after it
 --   ordered-append, ordered-map, ordered-those, ordered-flat    of lists joined, of a function of each entry, of those that pass, of many lists joined
 --   ordered-at             so do the entries at any two places
@@ -102,6 +102,15 @@ module _ {A : Type 0} where
   in-at z [] j h = absurd (omega arith)
   in-at z (x ∷ xs) zero h = List·Memᴰ·head refl
   in-at z (x ∷ xs) (suc j) h = List·Memᴰ·tail (in-at z xs j (omega arith))
+
+  pub at-of : (z : A) (xs : List A) {x : A} → List·Memᴰ x xs → (i : ℕ) × (i < length xs) × (x ≡ getD xs i z)
+  at-of z [] m = absurd (List·Memᴰ·not-nil m)
+  at-of z (y ∷ ys) {x} m = by (List·Memᴰ·cases-cons m) (λ r. at-of z ys r)
+    where
+      by : (x ≡ y) ⊎ List·Memᴰ x ys → (List·Memᴰ x ys → (i : ℕ) × (i < length ys) × (x ≡ getD ys i z))
+          → (i : ℕ) × (i < length (y ∷ ys)) × (x ≡ getD (y ∷ ys) i z)
+      by (inl d) r = (0, omega arith, d)
+      by (inr p) r = let s = r p in (suc (s .0), omega (arith, s .1), s .2)
 
 -- ---- order
 

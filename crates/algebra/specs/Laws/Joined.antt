@@ -4,12 +4,15 @@
 --   map-tab                    a function of each value
 --   flat-append, flat-one      lists of lists joined: of two of them, and of one list
 --   tab-parts                  n lists of m values each, joined
+--   flat-wide, flat-at         lists of w entries each, joined: their length, and an entry
 use mathlib.Core.Path.{_≡_, refl, sym, ap, _∙_}
 use mathlib.Core.List.{List, [], _∷_, _++_, append-assoc, append-nil, map, flatten}
 use Prim.Native.Nat.{ℕ, zero, suc, _+_, _*_, _/_, _%_, _<_}
-use native.Mathlib.Nat.{add-zero, suc-add, zero-add, zero-mul, div-eq-of-lt, mul-add-mod-self-right, mul-add-div-right, mod-eq-of-lt}
+use native.Mathlib.Nat.{add-zero, suc-add, zero-add, zero-mul, suc-mul, div-eq-of-lt, mul-add-mod-self-right, mul-add-div-right, mod-eq-of-lt}
 use native.Mathlib.Numerals.{add-one}
 use native.Mathlib.Omega.{arith}
+use lib.ListN.{length, getD, length-append, List·getD-append}
+use lib.Seq.{getD-drop, drop-at}
 use Rattle.algebra.specs.Tab.{tab, tabFrom}
 use Rattle.algebra.specs.Laws.Tab.{tab-cong}
 
@@ -76,3 +79,24 @@ module _ {A : Type 0} where
       digits : (i : ℕ) → i < m → f n i ≡ f ((n * m + i) / m) ((n * m + i) % m)
       digits i h =
           rw (mul-add-div-right {m = m} (omega arith) n i, div-eq-of-lt h, add-zero, mul-add-mod-self-right n m i, mod-eq-of-lt h) refl
+
+  module _ (w : ℕ) where
+    pub flat-wide : (ls : List (List A)) → ((i : ℕ) → i < length ls → length (getD ls i []) ≡ w) → length (flatten ls) ≡ length ls * w
+    unfolding flatten
+    flat-wide [] wide = sym (zero-mul w)
+    flat-wide (x ∷ xs) wide =
+        let rest : length (flatten xs) ≡ length xs * w = flat-wide xs (λ i h. wide (suc i) (omega arith)) in
+        rw (length-append x (flatten xs), suc-mul (length xs) w) (omega (arith, rest, wide 0 (omega arith)))
+
+    pub flat-at : (z : A) (ls : List (List A)) → ((i : ℕ) → i < length ls → length (getD ls i []) ≡ w)
+        → (i j : ℕ) → i < length ls → j < w → getD (flatten ls) (i * w + j) z ≡ getD (getD ls i []) j z
+    unfolding flatten
+    flat-at z [] wide i j h l = absurd (omega arith)
+    flat-at z (x ∷ xs) wide zero j h l =
+        let long : length x ≡ w = wide 0 (omega arith) in
+        rw (zero-mul w, zero-add j) (List·getD-append x (flatten xs) z j (omega (arith, long)))
+    flat-at z (x ∷ xs) wide (suc i) j h l =
+        let long : length x ≡ w = wide 0 (omega arith) in
+        let from : suc i * w + j ≡ w + (i * w + j) = omega (arith, suc-mul i w) in
+        rw (from, ← (getD-drop w (x ++ flatten xs) (i * w + j) z), drop-at x (flatten xs) w long)
+        (flat-at z xs (λ m k. wide (suc m) (omega arith)) i j (omega arith) l)

@@ -4,17 +4,16 @@
 --   those-pass, those-skip   of one value more, which passes or does not
 --   those-fewer              of fewer values there are not more
 --   flat-long                how long lists of w entries each are, joined, of those that pass
-use mathlib.Core.Path.{_≡_, refl, sym, _∙_}
+use mathlib.Core.Path.{_≡_, refl, ap, _∙_}
 use mathlib.Core.Bool.{Bool, true, false, cond}
 use mathlib.Core.List.{List, [], _∷_, _++_, append-nil, flatten}
-use Prim.Native.Nat.{ℕ, zero, suc, _+_, _*_, _-_, _≤_}
-use native.Mathlib.Nat.{zero-mul}
-use native.Mathlib.Numerals.{add-one}
+use Prim.Native.Nat.{ℕ, _+_, _*_, _-_, _<_, _≤_}
 use native.Mathlib.Omega.{arith}
-use lib.ListN.{length, length-append}
+use lib.ListN.{length, getD, length-append}
 use Rattle.algebra.specs.Tab.{tab}
 use Rattle.algebra.specs.Those.{those}
-use Rattle.algebra.specs.Laws.Joined.{tab-none, tab-plus, tab-more, flat-append, flat-one}
+use Rattle.algebra.specs.Laws.Among.{those-of, tab-of, in-at}
+use Rattle.algebra.specs.Laws.Joined.{tab-plus, tab-more, flat-wide}
 
 module _ {A : Type 0} (test : A → Bool) where
   pub those-append : (xs ys : List A) → those test (xs ++ ys) ≡ those test xs ++ those test ys
@@ -43,13 +42,9 @@ module _ {A : Type 0} (test : A → Bool) where
 
 pub flat-long : {A : Type 0} (test : List A → Bool) (f : ℕ → List A) (w : ℕ) → ((i : ℕ) → length (f i) ≡ w)
     → (n : ℕ) → length (flatten (those test (tab n f))) ≡ length (those test (tab n f)) * w
-unfolding those flatten
-flat-long test f w wide zero = rw (tab-none f) (sym (zero-mul w))
-flat-long test f w wide (suc n) = rw (← (add-one n)) (by (test (f n)) refl (flat-long test f w wide n))
+flat-long test f w wide n = flat-wide w (those test (tab n f)) each
   where
-    by : (b : Bool) → test (f n) ≡ b → length (flatten (those test (tab n f))) ≡ length (those test (tab n f)) * w
-        → length (flatten (those test (tab (n + 1) f))) ≡ length (those test (tab (n + 1) f)) * w
-    by true e h =
-        rw (those-pass test f n e, flat-append, flat-one, length-append (flatten (those test (tab n f))) (f n), length-append (those test (tab n f)) (f n ∷ []), wide n, h)
-        (omega arith)
-    by false e h = rw (those-skip test f n e) h
+    each : (i : ℕ) → i < length (those test (tab n f)) → length (getD (those test (tab n f)) i []) ≡ w
+    each i h =
+        let t = tab-of n f (those-of test (tab n f) (in-at [] (those test (tab n f)) i h) .0) in
+        ap length (t .2) ∙ wide (t .0)

@@ -18,6 +18,7 @@ use Rattle.columns.specs.Refusals.{anyBeyond, columnsRefused, readingsRefused}
 use Rattle.rows.specs.Kinds.{badMarks}
 use Rattle.runs.specs.Run.{runRefusals, runRefused}
 use Rattle.aliases.specs.Alias.{aliasRefusals, aliasRefused}
+use Rattle.blockings.specs.Blockings.{blockingsRefusals, blockingsRefused}
 use Rattle.estimates.specs.Estimate.{estimateRefusals, estimateRefused}
 use Rattle.yates.specs.Calls.{passRefusals, passRefused, totalsRefusals}
 use Rattle.steps.specs.Step.{stepRefusals}
@@ -63,13 +64,14 @@ of-table p readings marks column rows figures checks = by (wrongRoom (length fig
     by false = refl
 
 pub lowest-number : LowestNumber
-unfolding planRefused runRefused aliasRefused estimateRefused passRefused columnsRefused readingsRefused tableRefused readRefused marksRefused rank
+unfolding planRefused runRefused aliasRefused estimateRefused blockingsRefused passRefused columnsRefused readingsRefused tableRefused readRefused marksRefused rank
 lowest-number =
     record {
       check = λ p. is-lowest (planRefusals p) tt;
       run = λ p r. lowest-with-plan p (runRefusals p r) tt;
       alias = λ p e. lowest-with-plan p (aliasRefusals p e) tt;
       estimate = λ p e t. lowest-with-plan p (estimateRefusals p e t) tt;
+      blockings = λ k b room. is-lowest (blockingsRefusals k b room) tt;
       pass = λ p f column. lowest-with-plan p (passRefusals p f column) tt;
       step = λ p from to. lowest-with-plan p (stepRefusals p from to) tt;
       totals = λ p readings column. lowest-with-plan p (totalsRefusals p readings column) tt;

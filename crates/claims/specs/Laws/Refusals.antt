@@ -1,7 +1,7 @@
 -- That the claims of `Refusals.antt` hold.
 --
 --   known refusals                      each number of these refusals is one of the numbers
---   on-any-plan, on-any-sheet, for-C    the proofs
+--   on-any-plan, on-any-blockings, on-any-sheet, for-C    the proofs
 use mathlib.Core.Path.{_≡_, refl, sym}
 use mathlib.Core.Bool.{Bool, true, false, cond, _&&_}
 use mathlib.Core.List.{List, [], _∷_}
@@ -19,6 +19,7 @@ use Rattle.plan.specs.Laws.Answers.{unwritten, after-plan, plan-first}
 use Rattle.columns.specs.Refusals.{columnsRefused, readingsRefused}
 use Rattle.runs.specs.Run.{runRefusals, runRefused}
 use Rattle.aliases.specs.Alias.{aliasRefusals, aliasRefused}
+use Rattle.blockings.specs.Blockings.{blockingsRefusals, blockingsRefused, blockingsColumn}
 use Rattle.estimates.specs.Estimate.{estimateRefusals, estimateRefused}
 use Rattle.yates.specs.Calls.{passRefusals, passRefused, passColumn, totalsRefusals, totalsColumn}
 use Rattle.steps.specs.Step.{stepRefusals, stepColumn}
@@ -29,7 +30,7 @@ use Rattle.contents.specs.Contents.{planIn}
 use Rattle.sheet.specs.Sheet.{sheetRefusals, refusedWith, readRefused, readColumn, marksRefused, marksOf}
 use Rattle.printing.specs.Printed.{longestSheet, printRefused}
 use Rattle.exported.specs.Handed.{wrongRoom, roomRefused, callRefused, callTotals, callRows, callFigures, callChecks}
-use Rattle.claims.specs.Refusals.{theNumbers, OneOfTheNumbers, OnPlan, OnSheet, ForC}
+use Rattle.claims.specs.Refusals.{theNumbers, OneOfTheNumbers, OnPlan, OnBlockings, OnSheet, ForC}
 
 -- ---- the numbers
 
@@ -69,6 +70,14 @@ on-any-plan p =
       step-unwritten = λ from to n. sym (unwritten _ _ to n);
       totals-unwritten = λ readings column n. sym (unwritten _ _ column n);
       table-unwritten = λ readings marks column rows n. (sym (unwritten _ _ column n), sym (unwritten _ _ rows n));
+    }
+
+pub on-any-blockings : (k b : ℕ) (column : List ℕ) → OnBlockings k b column
+unfolding blockingsRefused blockingsColumn known
+on-any-blockings k b column =
+    record {
+      number = lowest-known (blockingsRefusals k b (length column)) tt;
+      unwritten = λ n. sym (unwritten _ _ column n);
     }
 
 of-sheet : (fs : Fields) (narrow : Bool) → OneOfTheNumbers (refusedWith fs (planIn fs) narrow)

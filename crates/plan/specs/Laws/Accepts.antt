@@ -1,11 +1,12 @@
 -- What is known of an accepted plan is all that acceptance asks: the check refuses no plan of which it holds.
 --
 --   accepts                        a plan of which `Accepted` holds gets no number
+--   again r p, made-again          a plan with its runs made r times, and that it is accepted while its readings are not too many
 --   levels-right, factors-right    refusals 2 and 3 do not apply to it
 use mathlib.Core.Path.{_≡_, refl, sym, _∙_}
 use mathlib.Core.Logic.{_⊎_, inl, inr}
 use mathlib.Core.Bool.{true, false, cond, not, _||_}
-use Prim.Native.Nat.{ℕ, _^_, _<_}
+use Prim.Native.Nat.{ℕ, _*_, _^_, _<_, _≤_}
 use native.Mathlib.Omega.{arith}
 use lib.Dec.{eqb, ltb}
 use lib.ListN.{length, getD, take}
@@ -13,10 +14,10 @@ use lib.Seq.{length-take-le, getD-take}
 use borrow.Author.Tests.{eq-eqb, ne-eqb, le-ltb}
 use Rattle.algebra.specs.Laws.Tests.{none}
 use Rattle.algebra.specs.Laws.Search.{some-false}
-use Rattle.contrasts.specs.Limits.{mostTwo, mostThree, mostReadings}
+use Rattle.contrasts.specs.Limits.{mostTwo, mostThree, isRepeats, mostReadings}
 use Rattle.words.specs.Words.{letters, any, among, repeated, combined}
 use Rattle.plan.specs.declared.types.Plan.{Plan}
-use Rattle.plan.specs.Plan.{addedWords, addedSigns, blockWords, threeWords, combinesTo, confoundedIn, runsOf, allReadings}
+use Rattle.plan.specs.Plan.{addedWords, addedSigns, blockWords, threeWords, combinesTo, factorsOf, confoundedIn, runsOf, allReadings}
 use Rattle.plan.specs.Check.{badLevels, badFactors, badCounts, badWord, badSign, badWords, dependent, factorWord, losesFactor, badRepeats, planRefused}
 use Rattle.plan.specs.Laws.Combinations.{combination, no-combination}
 use Rattle.plan.specs.Laws.Accepted.{Accepted}
@@ -89,3 +90,30 @@ pub accepts : (p : Plan) → Accepted p → planRefused p ≡ 0
 unfolding planRefused
 accepts p a =
     rw (levels-right a, factors-right a, counts-right a, words-right a, apart-right a, independent-right a, clear-right a, repeats-right a) refl
+
+abbrev pub again : ℕ → Plan → Plan
+again r p = record {
+  levels = p .levels;
+  k = p .k;
+  added = p .added;
+  words = p .words;
+  signs = p .signs;
+  blocks = p .blocks;
+  blockwords = p .blockwords;
+  repeats = r;
+}
+
+pub made-again : (p : Plan) (r : ℕ) → isRepeats r ≡ true → runsOf p * r ≤ mostReadings → Accepted p → Accepted (again r p)
+unfolding factorsOf
+made-again p r h l a = record {
+  levels = a .levels;
+  factors = a .factors;
+  counts = a .counts;
+  words = a .words;
+  signs = a .signs;
+  blocks = a .blocks;
+  digits = a .digits;
+  apart = a .apart;
+  lost = a .lost;
+  repeats = (h, l);
+}
