@@ -1,7 +1,7 @@
 -- What is refused of the call, as the code judges it.
 --
 --   flat-count         so many lists of so many words are so many words
---   small              where neither 3 nor 17 applies, k and the count of words are in their ranges
+--   in-range           where neither 3 nor 17 applies, k and the count of words are in their ranges
 --   by-factors, by-count, by-room, nothing    the number, refusal by refusal
 --   admitted           what holds where there is no number
 --   answered           the answer there, and the column
@@ -18,27 +18,27 @@ use Rattle.algebra.specs.Laws.Tests.{neither}
 use Rattle.algebra.specs.Laws.Those.{flat-long}
 use Rattle.plan.specs.Outcome.{given, outcome}
 use Rattle.plan.specs.Laws.Answers.{passed, completed}
-use Rattle.blockings.specs.Blockings.{isBlocking, blockingsOf, blockingWords, notSmall, badWordCount, blockingsRefused, blockingsColumn}
+use Rattle.blockings.specs.Blockings.{isBlocking, blockingsOf, blockingWords, badFactorCount, badWordCount, blockingsRefused, blockingsColumn}
 use Rattle.blockings.specs.Inner.Numbered.{wordAt, wordsAt, blockings-tab}
-use Rattle.blockings.specs.Inner.Ready.{Small}
+use Rattle.blockings.specs.Inner.Ready.{InRange}
 
 pub flat-count : (k b : ℕ) → length (blockingWords k b) ≡ length (blockingsOf k b) * b
 flat-count k b = rw (blockings-tab k b) (flat-long (isBlocking k) (wordsAt k b) b (λ i. length-tab b (wordAt k b i)) (2 ^ (k * b)))
 
 module _ (k b : ℕ) where
-  pub small : notSmall k ≡ false → badWordCount b ≡ false → Small k b
-  unfolding notSmall badWordCount
-  small e f =
+  pub in-range : badFactorCount k ≡ false → badWordCount b ≡ false → InRange k b
+  unfolding badFactorCount badWordCount
+  in-range e f =
       let x = neither (ltb k 2) (ltb 5 k) e in
       let y = neither (ltb b 1) (ltb 3 b) f in
       record { factors = (ltb-false k 2 (x .0), ltb-false 5 k (x .1)); words = (ltb-false b 1 (y .0), ltb-false 3 b (y .1)) }
 
   module _ (room : ℕ) where
-    pub by-factors : notSmall k ≡ true → 3 ≡ blockingsRefused k b room
+    pub by-factors : badFactorCount k ≡ true → 3 ≡ blockingsRefused k b room
     unfolding blockingsRefused
     by-factors e = rw e refl
 
-    module _ (fine : notSmall k ≡ false) where
+    module _ (fine : badFactorCount k ≡ false) where
       pub by-count : badWordCount b ≡ true → 17 ≡ blockingsRefused k b room
       unfolding blockingsRefused
       by-count e = rw (fine, e) refl
@@ -55,13 +55,13 @@ module _ (k b : ℕ) where
         unfolding blockingsRefused
         nothing h = rw (fine, few, ← words, le-ltb room (n * b) h) refl
 
-    pub admitted : blockingsRefused k b room ≡ 0 → Small k b × (length (blockingWords k b) ≤ room)
+    pub admitted : blockingsRefused k b room ≡ 0 → InRange k b × (length (blockingWords k b) ≤ room)
     unfolding blockingsRefused
     admitted e =
-        let x = passed (notSmall k) 3 _ (omega arith) e in
+        let x = passed (badFactorCount k) 3 _ (omega arith) e in
         let y = passed (badWordCount b) 17 _ (omega arith) (x .1) in
         let z = passed (ltb room (length (blockingWords k b))) 18 _ (omega arith) (y .1) in
-        (small (x .0) (y .0), ltb-false room (length (blockingWords k b)) (z .0))
+        (in-range (x .0) (y .0), ltb-false room (length (blockingWords k b)) (z .0))
 
 pub answered : (k b : ℕ) (old : List ℕ) → blockingsRefused k b (length old) ≡ 0
     → {n : ℕ} → n ≡ length (blockingsOf k b) → {new : List ℕ} → new ≡ blockingWords k b ++ drop (length (blockingWords k b)) old

@@ -1,12 +1,12 @@
 -- Every way to block a small plan.
 --
---   listsOf k b            all lists of b words of k letters, in rising order of first, second and third word
+--   listsOf k b            all lists of b words of the first k letters, the empty word too, in rising order of first, second and third word
 --   strictlyRising ws      each word is below the next
 --   blockedPlan k ws       the plan of two levels with no added factor that has the block words ws
 --   isBlocking k ws        the words rise, and the plan check accepts that plan
 --   blockingsOf k b        the lists of b words of which that holds
 --   blockingWords k b      their words, one after the other
---   notSmall, badWordCount                  refusals 3 and 17
+--   badFactorCount, badWordCount                  refusals 3 and 17
 --   blockingsRefusals k b room              the refusals of the call
 --   blockingsRefused, blockingsColumn       the first number that applies, 0 where the lists are written, and the column at exit
 --   blockingsOutcome       the cases of the call's answer
@@ -65,8 +65,8 @@ blockingWords k b = flatten (blockingsOf k b)
 -- ---- what is refused
 
 -- N3: "k outside this range"; R13: "k from 2 to 5"
-unfoldable pub notSmall : ℕ → Bool
-notSmall k = ltb k 2 || ltb 5 k
+unfoldable pub badFactorCount : ℕ → Bool
+badFactorCount k = ltb k 2 || ltb 5 k
 
 -- N17: "word count outside it"; R13: "one to three block words"
 unfoldable pub badWordCount : ℕ → Bool
@@ -75,7 +75,7 @@ badWordCount b = ltb b 1 || ltb 3 b
 -- L13: "3, k outside this range; 17, word count outside it; then 18, fewer places in the lent column than words to write"
 abbrev pub blockingsRefusals : ℕ → ℕ → ℕ → List Refusal
 blockingsRefusals k b room =
-    refusal 3 (notSmall k) ∷ refusal 17 (badWordCount b) ∷ refusal 18 (ltb room (length (blockingWords k b))) ∷ []
+    refusal 3 (badFactorCount k) ∷ refusal 17 (badWordCount b) ∷ refusal 18 (ltb room (length (blockingWords k b))) ∷ []
 
 unfoldable pub blockingsRefused : ℕ → ℕ → ℕ → ℕ
 blockingsRefused k b room = lowest (blockingsRefusals k b room)

@@ -12,7 +12,7 @@ ghost use Rattle.algebra.specs.Laws.Collected.{placed};
 ghost use Rattle.plan.specs.Outcome.{outcome};
 ghost use Rattle.blockings.specs.Blockings.{blockingsOf, blockingWords, blockingsRefused, blockingsColumn, blockingsOutcome};
 ghost use Rattle.blockings.specs.Inner.Numbered.{wordsAt};
-ghost use Rattle.blockings.specs.Inner.Ready.{Small};
+ghost use Rattle.blockings.specs.Inner.Ready.{InRange};
 
 // The list with the number i is put into the column from a place on.
 fn put_at(k: u8, words: u8, i: usize, at: usize, column: &mut [u16])
@@ -25,7 +25,7 @@ fn put_at(k: u8, words: u8, i: usize, at: usize, column: &mut [u16])
 
 // Writes the lists one after the other, and counts them.
 fn write(k: u8, words: u8, column: &mut [u16]) -> usize
-    requires { ⌜ Small k words × (length (blockingWords k words) ≤ length (now column)) ⌝ }
+    requires { ⌜ InRange k words × (length (blockingWords k words) ≤ length (now column)) ⌝ }
     ensures { λ r. ⌜ r ≡ length (blockingsOf k words) ⌝ }
     ensures { λ _. ⌜ now (column .exit) ≡ blockingWords k words ++ drop (length (blockingWords k words)) (now (column .entry)) ⌝ }
 {
@@ -42,8 +42,9 @@ fn write(k: u8, words: u8, column: &mut [u16]) -> usize
     n
 }
 
-// Every list of strictly rising words that the plan check accepts as the block words of a plan of k factors at two levels with no added
-// factor, a place for each word. All that is refused is judged before a place is written.
+// Writes every list of so many strictly rising words that the plan check accepts as the block words of a plan of k factors at two levels with
+// no added factor: in rising order, a place for each word, later places kept. It answers how many lists there are, which may be 0. Refused with
+// 3 for a k that is not 2 to 5, 17 for other than one to three words, 18 for fewer places than words; then no place changes.
 pub fn blockings(k: u8, words: u8, column: &mut [u16]) -> Blockings
     ensures { λ r. ⌜ blockingsOutcome r ≡ outcome (blockingsRefused k words (length (now (column .entry)))) (length (blockingsOf k words)) ⌝ }
     ensures { λ _. ⌜ now (column .exit) ≡ blockingsColumn k words (now (column .entry)) ⌝ }

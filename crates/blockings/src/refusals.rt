@@ -4,12 +4,12 @@ ghost use Prim.Native.Nat.{_≤_};
 ghost use lib.ListN.{length};
 use super::lists::all_lists;
 use super::lists::is_listed;
-ghost use Rattle.blockings.specs.Blockings.{blockingsOf, notSmall, badWordCount, blockingsRefused};
-ghost use Rattle.blockings.specs.Inner.Ready.{Small};
+ghost use Rattle.blockings.specs.Blockings.{blockingsOf, badFactorCount, badWordCount, blockingsRefused};
+ghost use Rattle.blockings.specs.Inner.Ready.{InRange};
 
 // Refusal 3.
-fn not_small(k: u8) -> bool
-    ensures { λ r. ⌜ r ≡ notSmall k ⌝ }
+fn bad_factor_count(k: u8) -> bool
+    ensures { λ r. ⌜ r ≡ badFactorCount k ⌝ }
 {
     if k < 2 {
         return true;
@@ -29,7 +29,7 @@ fn bad_word_count(words: u8) -> bool
 
 // How many lists block a plan.
 fn count(k: u8, words: u8) -> usize
-    requires { ⌜ Small k words ⌝ }
+    requires { ⌜ InRange k words ⌝ }
     ensures { λ r. ⌜ (r ≡ length (blockingsOf k words)) × (r ≤ 32768) ⌝ }
 {
     let all = all_lists(k, words);
@@ -48,12 +48,12 @@ fn count(k: u8, words: u8) -> usize
 pub fn blockings_refused(k: u8, words: u8, room: usize) -> u8
     ensures { λ r. ⌜ r ≡ blockingsRefused k words room ⌝ }
 {
-    let large = not_small(k);
-    let many = bad_word_count(words);
-    if large {
+    let bad_factors = bad_factor_count(k);
+    let bad_words = bad_word_count(words);
+    if bad_factors {
         return 3;
     }
-    if many {
+    if bad_words {
         return 17;
     }
     if room < count(k, words) * words as usize {

@@ -4,10 +4,10 @@
 --
 --   blockWord p j            block word j of a plan
 --   Blocked k b p            a two-level plan of k factors with no added factor and b block words
---   word lists i j           word j of list i
+--   listWord lists i j       word j of list i
 --   HasList b lists i p      the block words of the plan are list i
 --   TheLists k b lists       which lists these are, and in which order
---   place k b column m       what the call leaves at place m of a column
+--   leftAt k b column m      what the call leaves at place m of a column
 --   Writes k b lists         what the call answers and leaves where k and b are in their ranges
 --   EveryBlocking            THE CLAIM
 --   OutOfRange               CLAIM: what it answers and leaves where one of them is not
@@ -33,22 +33,24 @@ pub record Blocked (k b : ℕ) (p : Plan) : Type 0 where
   pub two : p .levels ≡ 2
   pub factors : p .k ≡ k
   pub none-added : p .added ≡ 0
-  pub words : p .blocks ≡ b
+  pub blocks : p .blocks ≡ b
   pub placed : b ≤ length (p .blockwords)
   pub bits : (j : ℕ) → j < b → blockWord p j < 2 ^ 16
   pub repeats : isRepeats (p .repeats) ≡ true
 
 -- ---- the lists
 
-abbrev pub word : List (List ℕ) → ℕ → ℕ → ℕ
-word lists i j = getD (getD lists i []) j 0
+abbrev pub listWord : List (List ℕ) → ℕ → ℕ → ℕ
+listWord lists i j = getD (getD lists i []) j 0
 
 abbrev pub HasList : ℕ → List (List ℕ) → ℕ → Plan → Type 0
-HasList b lists i p = (j : ℕ) → j < b → blockWord p j ≡ word lists i j
+HasList b lists i p = (j : ℕ) → j < b → blockWord p j ≡ listWord lists i j
 
 pub record TheLists (k b : ℕ) (lists : List (List ℕ)) : Type 0 where
+  -- each word is one of k letters, so that there is a plan with these block words
+  pub within : (i j : ℕ) → i < length lists → j < b → listWord lists i j < 2 ^ k
   -- R14: "lists of strictly rising words"
-  pub rising : (i j : ℕ) → i < length lists → j + 1 < b → word lists i j < word lists i (j + 1)
+  pub rising : (i j : ℕ) → i < length lists → j + 1 < b → listWord lists i j < listWord lists i (j + 1)
   -- R14: "that the plan check accepts": it accepts every plan whose block words are one of the lists ..
   pub accepted : (i : ℕ) → i < length lists → (p : Plan) → Blocked k b p → HasList b lists i p → promisedCheck p ≡ given tt
   -- R14: "all": .. and where it accepts a plan whose block words rise, they are one of the lists
@@ -56,23 +58,24 @@ pub record TheLists (k b : ℕ) (lists : List (List ℕ)) : Type 0 where
       → (i : ℕ) × (i < length lists) × HasList b lists i p
   -- R15: "in rising order of first, second and third word": at the first place m where two lists differ, the former has the lower word
   pub in-order : (i j : ℕ) → i < j → j < length lists
-      → (m : ℕ) × (m < b) × ((l : ℕ) → l < m → word lists i l ≡ word lists j l) × (word lists i m < word lists j m)
+      → (m : ℕ) × (m < b) × ((l : ℕ) → l < m → listWord lists i l ≡ listWord lists j l) × (listWord lists i m < listWord lists j m)
   -- R15: "each once"
-  pub once : (i j : ℕ) → i < j → j < length lists → ((m : ℕ) → m < b → word lists i m ≡ word lists j m) → ⊥
+  pub once : (i j : ℕ) → i < j → j < length lists → ((m : ℕ) → m < b → listWord lists i m ≡ listWord lists j m) → ⊥
 
 -- ---- the call
 
-abbrev pub place : ℕ → ℕ → List ℕ → ℕ → ℕ
-place k b column m = getD (promisedBlockings k b column .column) m 0
+abbrev pub leftAt : ℕ → ℕ → List ℕ → ℕ → ℕ
+leftAt k b column m = getD (promisedBlockings k b column .column) m 0
 
 pub record Writes (k b : ℕ) (lists : List (List ℕ)) : Type 0 where
   -- R17: "The number of lists is returned"
   pub answered : (column : List ℕ) → length lists * b ≤ length column → promisedBlockings k b column .answer ≡ given (length lists)
   -- R16: "one place per word"
   pub words : (column : List ℕ) → length lists * b ≤ length column
-      → (i j : ℕ) → i < length lists → j < b → place k b column (i * b + j) ≡ word lists i j
+      → (i j : ℕ) → i < length lists → j < b → leftAt k b column (i * b + j) ≡ listWord lists i j
   -- R16: "places beyond the last word are untouched"
-  pub untouched : (column : List ℕ) → (m : ℕ) → length lists * b ≤ m → place k b column m ≡ getD column m 0
+  pub untouched : (column : List ℕ) → (m : ℕ) → length lists * b ≤ m → leftAt k b column m ≡ getD column m 0
+  -- the column has as many places as before
   pub as-long : (column : List ℕ) → length (promisedBlockings k b column .column) ≡ length column
   -- N18: "18, fewer places in the lent column than words to write"; L2: nothing is written then
   pub refused-18 : (column : List ℕ) → length column < length lists * b

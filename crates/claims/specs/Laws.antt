@@ -1,6 +1,7 @@
 -- The proofs of the claims: a file for each, by the claim's name.
 --
---   LowestNumber, Refusals, Letters, HighMinusLow, CheckNumbers, AnyOrder, Steps, SumOfSquares, TableAddsUp, OneWalk, ThreeBlocks, EveryBlocking, Starred, WrongPrograms
+--   LowestNumber, Refusals, Letters, HighMinusLow, CheckNumbers, AnyOrder, Steps, SumOfSquares, TableAddsUp, OneWalk, ThreeBlocks,
+--   EveryBlocking, Starred, WrongPrograms
 pub mod LowestNumber
 pub mod Refusals
 pub mod Letters

@@ -1,7 +1,7 @@
 -- What every call answers: its values, or the number of its refusal, the first that applies in the order of checks.
 --
 --   Refusal, lowest         a refusal: its number, and whether its condition holds; the number of the first that holds
---   order                   the numbers of all refusals, in the order of checks
+--   order                   the numbers of all refusals, those of requests to come among them, in the order of checks
 --   place numbers n         the place of n among these numbers
 --   rank n                  the place of number n in the order of checks
 --   rising last refusals    the numbers of the refusals stand in the order of checks, at place `last` or after it

@@ -18,7 +18,8 @@ ghost use Rattle.blockings.specs.Blockings.{blockingsOutcome};
 ghost use Rattle.columns.specs.Refusals.{answerOutcome};
 ghost use Rattle.anova.specs.Table.{tableOutcome};
 ghost use Rattle.estimates.specs.Estimate.{estimateOutcome};
-ghost use Rattle.promises.specs.Promised.{promisedCheck, promisedRun, promisedAlias, promisedBlockings, promisedPass, promisedStep, promisedTotals, promisedTable, promisedEstimate};
+ghost use Rattle.promises.specs.Promised.{promisedCheck, promisedRun, promisedAlias, promisedBlockings, promisedPass, promisedStep, promisedTotals};
+ghost use Rattle.promises.specs.Promised.{promisedTable, promisedEstimate};
 ghost use Rattle.promises.specs.Promised.{promisedRead, promisedMarks, promisedPrint};
 
 fn check(p: Plan) -> Check

@@ -5,12 +5,15 @@
 --   tab-in, tab-of         what is among the values of a function
 --   in-at, at-of           what stands at a place is among the entries, and each of them stands at one
 --   Ordered R xs           each entry of xs stands in the relation R to all that come after it
---   ordered-append, ordered-map, ordered-those, ordered-flat    of lists joined, of a function of each entry, of those that pass, of many lists joined
+--   ordered-append, ordered-map, ordered-those, ordered-flat    of lists joined, of a function of each entry, of those that pass, of many lists
+--                          joined
 --   ordered-at             so do the entries at any two places
 use mathlib.Core.Path.{_≡_, refl, sym, ap, _∙_}
 use mathlib.Core.Bool.{Bool, true, false, cond}
 use mathlib.Core.Logic.{_⊎_, inl, inr, ⊎-elim}
-use mathlib.Core.List.{List, [], _∷_, _++_, map, flatten, List·Memᴰ, List·Memᴰ·head, List·Memᴰ·tail, List·Memᴰ·not-nil, List·Memᴰ·cases-cons, List·Memᴰ·append-cases, Memᴰ·append-left, Memᴰ·append-right, Memᴰ·of-map}
+use mathlib.Core.List.{List, [], _∷_, _++_, map, flatten}
+use mathlib.Core.List.{List·Memᴰ, List·Memᴰ·head, List·Memᴰ·tail, List·Memᴰ·not-nil, List·Memᴰ·cases-cons, List·Memᴰ·append-cases}
+use mathlib.Core.List.{Memᴰ·append-left, Memᴰ·append-right, Memᴰ·of-map}
 use Prim.Native.Nat.{ℕ, zero, suc, _+_, _<_, _≤_}
 use native.Mathlib.Omega.{arith}
 use native.Mathlib.Decide.{ℕ-discrete}

@@ -94,7 +94,21 @@ module _ {A : Type 0} {w : ℕ} {test : List A → Bool} {f : ℕ → List A} {n
       pub collected-pass : {zs : List A} → zs ≡ placed (c * w) (f i) ys → Collected w test f n old (i + 1) (c + 1) zs
       collected-pass q =
           let before = flatten (those test (tab i f)) in
+          let rest = drop (c * w) old in
           record {
             counted = counted-pass (d .counted) h e;
-            so = rw (q, r .wide i, ← (drop-drop w (c * w) ys), d .so, take-at before (drop (c * w) old) (c * w) front, drop-at before (drop (c * w) old) (c * w) front, those-pass test f i e, flat-append, flat-one, append-assoc, drop-drop, same) refl;
+            so = rw (
+              q,
+              r .wide i,
+              ← (drop-drop w (c * w) ys),
+              d .so,
+              take-at before rest (c * w) front,
+              drop-at before rest (c * w) front,
+              those-pass test f i e,
+              flat-append,
+              flat-one,
+              append-assoc,
+              drop-drop,
+              same,
+            ) refl;
           }

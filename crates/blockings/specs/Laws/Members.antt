@@ -1,7 +1,7 @@
--- Which lists are written: all lists of strictly rising words that the plan check accepts, and no other.
+-- R14: which lists are among those of b words: "all lists of strictly rising words that the plan check accepts", and no other.
 --
---   only     a list that is written has so many words as were asked for, they rise, and the plan check accepts them
---   every    a list of so many 16-bit words is written if and only if they rise and the plan check accepts them
+--   only     one that is among them has b words of the first k letters, they rise, and the plan check accepts them
+--   every    one of b words of 16 bits is among them if and only if they rise and the plan check accepts them
 use mathlib.Core.Path.{_≡_, refl, sym, ap, _∙_}
 use mathlib.Core.Bool.{Bool, true, false, _&&_}
 use mathlib.Core.List.{List, [], _∷_, map, List·Memᴰ, List·Memᴰ·head, List·Memᴰ·eq-of-singleton, Memᴰ·map, Memᴰ·of-map}
@@ -22,14 +22,19 @@ use Rattle.blockings.specs.Blockings.{listsOf, strictlyRising, blockedPl
 
 -- ---- all lists
 
-as-long : (k b : ℕ) {ws : List ℕ} → List·Memᴰ ws (listsOf k b) → length ws ≡ b
+among-all : (k b : ℕ) {ws : List ℕ} → List·Memᴰ ws (listsOf k b) → (length ws ≡ b) × ((j : ℕ) → j < b → getD ws j 0 < 2 ^ k)
 unfolding listsOf
-as-long k zero m = ap length (List·Memᴰ·eq-of-singleton m)
-as-long k (suc b) {ws} m =
+among-all k zero m = (ap length (List·Memᴰ·eq-of-singleton m), λ j h. absurd (omega arith))
+among-all k (suc b) {ws} m =
     let l = flat-of (tab (2 ^ k) (λ w. map (λ vs. w ∷ vs) (listsOf k b))) m in
     let w = tab-of (2 ^ k) (λ w. map (λ vs. w ∷ vs) (listsOf k b)) (l .1) in
     let v = Memᴰ·of-map (λ vs. w .0 ∷ vs) (listsOf k b) (rw (w .2) at (l .2)) in
-    ap length (sym (v .2)) ∙ ap suc (as-long k b (v .1))
+    let rest = among-all k b (v .1) in
+    (ap length (sym (v .2)) ∙ ap suc (rest .0), λ j h. rw (← (v .2)) (at (w .0) (v .0) (w .1) (rest .1) j h))
+  where
+    at : (w : ℕ) (vs : List ℕ) → w < 2 ^ k → ((j : ℕ) → j < b → getD vs j 0 < 2 ^ k) → (j : ℕ) → j < suc b → getD (w ∷ vs) j 0 < 2 ^ k
+    at w vs h hs zero l = h
+    at w vs h hs (suc j) l = hs j (omega arith)
 
 all-there : (k : ℕ) (ws : List ℕ) → ((j : ℕ) → j < length ws → getD ws j 0 < 2 ^ k) → List·Memᴰ ws (listsOf k (length ws))
 unfolding listsOf
@@ -62,21 +67,25 @@ module _ (k : ℕ) (ws : List ℕ) where
   its-words = take-append-seam ws (replicate (4 - length ws) 0)
 
   -- so where the plan is accepted, none has a letter beyond k
-  words-within : planRefused (blockedPlan k ws) ≡ 0 → ((j : ℕ) → j < length ws → getD ws j 0 < 2 ^ 16) → (j : ℕ) → j < length ws → getD ws j 0 < 2 ^ k
+  words-within : planRefused (blockedPlan k ws) ≡ 0 → ((j : ℕ) → j < length ws → getD ws j 0 < 2 ^ 16)
+      → (j : ℕ) → j < length ws → getD ws j 0 < 2 ^ k
   words-within e h j l = within k (getD ws j 0) (h j l) (rw its-words at (accepted (blockedPlan k ws) e .blocks) j l .0)
 
 pub only : (k b : ℕ) {ws : List ℕ} → List·Memᴰ ws (blockingsOf k b)
-    → (length ws ≡ b) × (strictlyRising ws ≡ true) × (planRefused (blockedPlan k ws) ≡ 0)
+    → (length ws ≡ b) × ((j : ℕ) → j < b → getD ws j 0 < 2 ^ k) × (strictlyRising ws ≡ true) × (planRefused (blockedPlan k ws) ≡ 0)
 unfolding blockingsOf
 only k b {ws} m =
     let t = those-of (isBlocking k) (listsOf k b) m in
+    let a = among-all k b (t .0) in
     let s = blocking-is k ws (t .1) in
-    (as-long k b (t .0), s .0, s .1)
+    (a .0, a .1, s .0, s .1)
 
 pub every : (k b : ℕ) (ws : List ℕ) → length ws ≡ b → ((j : ℕ) → j < length ws → getD ws j 0 < 2 ^ 16)
     → List·Memᴰ ws (blockingsOf k b) ↔ ((strictlyRising ws ≡ true) × (planRefused (blockedPlan k ws) ≡ 0))
 unfolding blockingsOf
 every k b ws l h = (
   λ m. blocking-is k ws (those-of (isBlocking k) (listsOf k b) m .1),
-  λ e. rw (← l) (those-in (isBlocking k) (listsOf k (length ws)) (all-there k ws (words-within k ws (e .1) h)) (blocking-of k ws (e .0) (e .1))),
+  λ e.
+      let there = all-there k ws (words-within k ws (e .1) h) in
+      rw (← l) (those-in (isBlocking k) (listsOf k (length ws)) there (blocking-of k ws (e .0) (e .1))),
 )

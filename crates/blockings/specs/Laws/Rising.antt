@@ -1,4 +1,4 @@
--- What strictly rising words are.
+-- R14: what "strictly rising words" are.
 --
 --   rising    words rise if and only if each is below the next
 use mathlib.Core.Path.{_≡_, refl}

@@ -1,13 +1,13 @@
 -- That the claims of `EveryBlocking.antt` hold, of the lists `blockingsOf k b`.
 --
---   list-at                  a list that is written, at its place: it has b words, they rise, and the plan check accepts them
+--   list-at                  what is known of list i: it has b words of k letters, they rise, and the plan check accepts them
 --   alike                    a plan with the block words of a list is the list's plan, with its runs made so often
 --   any-repeats, once-made   however often runs are made, the same lists are accepted
 --   every-blocking, out-of-range    the proofs
 use mathlib.Core.Path.{_≡_, refl, sym, ap, _∙_}
 use mathlib.Core.Logic.{_⊎_, inl, inr}
 use mathlib.Core.Bool.{Bool, true, false, cond, _||_, or-true}
-use mathlib.Core.List.{List, [], _∷_, _++_}
+use mathlib.Core.List.{List, [], _++_}
 use Prim.Native.Nat.{ℕ, _+_, _*_, _-_, _^_, _<_, _≤_}
 use native.Mathlib.Nat.{mul-le-mul, mul-le-mul-right, suc-mul}
 use native.Mathlib.Decide.{decLt}
@@ -20,24 +20,23 @@ use lib.Seq.{ext-getD, getD-take, getD-drop, drop-at, length-take-le, take-appen
 use Rattle.algebra.specs.Laws.Among.{in-at, at-of}
 use Rattle.algebra.specs.Laws.Joined.{flat-wide, flat-at}
 use Rattle.algebra.specs.Laws.Tab.{getD-past}
-use Rattle.algebra.specs.Laws.Tests.{none}
 use Rattle.contrasts.specs.Limits.{isRepeats, mostReadings}
 use Rattle.contrasts.specs.Laws.Limits.{repeats-few}
 use Rattle.plan.specs.declared.types.Plan.{Plan}
 use Rattle.plan.specs.Check.{planRefused}
-use Rattle.plan.specs.Outcome.{Outcome, given, refused, outcome, written}
+use Rattle.plan.specs.Outcome.{given, refused}
 use Rattle.plan.specs.Plan.{runsOf}
-use Rattle.plan.specs.Laws.Accepted.{Accepted, accepted}
+use Rattle.plan.specs.Laws.Accepted.{accepted}
 use Rattle.plan.specs.Laws.Accepts.{accepts, again, made-again}
 use Rattle.plan.specs.Laws.Alike.{Alike, same-refused}
 use Rattle.plan.specs.Laws.Answers.{refused-with, given-with, unwritten, written-new, given-is}
 use Rattle.plan.specs.Laws.Sizes.{runs-two}
-use Rattle.blockings.specs.Blockings.{strictlyRising, blockedPlan, blockingsOf, blockingWords, notSmall, badWordCount, blockingsRefused, blockingsColumn}
+use Rattle.blockings.specs.Blockings.{strictlyRising, blockedPlan, blockingsOf, blockingWords, badFactorCount, badWordCount, blockingsRefused, blockingsColumn}
 use Rattle.blockings.specs.Laws.Rising.{rising}
 use Rattle.blockings.specs.Laws.Members.{only, every}
 use Rattle.blockings.specs.Laws.Order.{in-order}
 use Rattle.promises.specs.Promised.{promisedCheck, promisedBlockings}
-use Rattle.claims.specs.EveryBlocking.{blockWord, Blocked, word, HasList, TheLists, place, Writes, EveryBlocking, OutOfRange}
+use Rattle.claims.specs.EveryBlocking.{blockWord, Blocked, listWord, HasList, TheLists, leftAt, Writes, EveryBlocking, OutOfRange}
 
 -- ---- plans
 
@@ -65,10 +64,10 @@ module _ {k b : ℕ} {p : Plan} (q : Blocked k b p) (ws : List ℕ) (long : leng
     added = q .none-added;
     words = none-taken (p .added) (p .words) (q .none-added);
     signs = none-taken (p .added) (p .signs) (q .none-added);
-    blocks = q .words ∙ sym long;
+    blocks = q .blocks ∙ sym long;
     blockwords =
         words-two (p .levels) (p .blocks) (p .blockwords) (q .two)
-        ∙ ap (λ (n : ℕ). take n (p .blockwords)) (q .words)
+        ∙ ap (λ (n : ℕ). take n (p .blockwords)) (q .blocks)
         ∙ first-words
         ∙ sym (take-append-seam ws (replicate (4 - length ws) 0));
     numbers = numbers-two (p .levels) (p .blocks) (p .blockwords) (q .two);
@@ -87,8 +86,8 @@ module _ (k : ℕ) (few : k ≤ 5) (ws : List ℕ) where
 
   any-repeats : (r : ℕ) → isRepeats r ≡ true → planRefused (blockedPlan k ws) ≡ 0 → planRefused (again r (blockedPlan k ws)) ≡ 0
   any-repeats r h e =
-      accepts (again r (blockedPlan k ws))
-      (made-again (blockedPlan k ws) r h (within r (runsOf (blockedPlan k ws)) (repeats-few r h .1) (runs-two (blockedPlan k ws) refl)) (accepted (blockedPlan k ws) e))
+      let p = blockedPlan k ws in
+      accepts (again r p) (made-again p r h (within r (runsOf p) (repeats-few r h .1) (runs-two p refl)) (accepted p e))
 
   once-made : (r : ℕ) → planRefused (again r (blockedPlan k ws)) ≡ 0 → planRefused (blockedPlan k ws) ≡ 0
   unfolding isRepeats
@@ -99,24 +98,24 @@ module _ (k : ℕ) (few : k ≤ 5) (ws : List ℕ) where
 -- ---- the lists
 
 module _ (k b : ℕ) (i : ℕ) (h : i < length (blockingsOf k b)) where
-  list-at : (length (getD (blockingsOf k b) i []) ≡ b) × (strictlyRising (getD (blockingsOf k b) i []) ≡ true)
-      × (planRefused (blockedPlan k (getD (blockingsOf k b) i [])) ≡ 0)
+  list-at : (length (getD (blockingsOf k b) i []) ≡ b) × ((j : ℕ) → j < b → listWord (blockingsOf k b) i j < 2 ^ k)
+      × (strictlyRising (getD (blockingsOf k b) i []) ≡ true) × (planRefused (blockedPlan k (getD (blockingsOf k b) i [])) ≡ 0)
   list-at = only k b (in-at [] (blockingsOf k b) i h)
 
 module _ (k b : ℕ) (few : k ≤ 5) where
   the-lists : TheLists k b (blockingsOf k b)
-  the-lists = record { rising = rises; accepted = taken; all = found; in-order = first; once = differ }
+  the-lists = record { within = λ i j h. list-at k b i h .1 j; rising = rises; accepted = taken; all = found; in-order = first; once = differ }
     where
-      rises : (i j : ℕ) → i < length (blockingsOf k b) → j + 1 < b → word (blockingsOf k b) i j < word (blockingsOf k b) i (j + 1)
+      rises : (i j : ℕ) → i < length (blockingsOf k b) → j + 1 < b → listWord (blockingsOf k b) i j < listWord (blockingsOf k b) i (j + 1)
       rises i j h l =
           let s = list-at k b i h in
-          rising (getD (blockingsOf k b) i []) .0 (s .1) j (omega (arith, s .0))
+          rising (getD (blockingsOf k b) i []) .0 (s .2) j (omega (arith, s .0))
 
       taken : (i : ℕ) → i < length (blockingsOf k b) → (p : Plan) → Blocked k b p → HasList b (blockingsOf k b) i p → promisedCheck p ≡ given tt
       taken i h p q same =
           let s = list-at k b i h in
           let ws = getD (blockingsOf k b) i [] in
-          given-with (planRefused p) tt (same-refused (alike q ws (s .0) same) ∙ any-repeats k few ws (p .repeats) (q .repeats) (s .2))
+          given-with (planRefused p) tt (same-refused (alike q ws (s .0) same) ∙ any-repeats k few ws (p .repeats) (q .repeats) (s .3))
 
       found : (p : Plan) → Blocked k b p → ((j : ℕ) → j + 1 < b → blockWord p j < blockWord p (j + 1)) → promisedCheck p ≡ given tt
           → (i : ℕ) × (i < length (blockingsOf k b)) × HasList b (blockingsOf k b) i p
@@ -132,17 +131,17 @@ module _ (k b : ℕ) (few : k ≤ 5) where
           (m .0, m .1, λ j l. at j l ∙ ap (λ (vs : List ℕ). getD vs j 0) (m .2))
 
       first : (i j : ℕ) → i < j → j < length (blockingsOf k b)
-          → (m : ℕ) × (m < b) × ((l : ℕ) → l < m → word (blockingsOf k b) i l ≡ word (blockingsOf k b) j l)
-          × (word (blockingsOf k b) i m < word (blockingsOf k b) j m)
+          → (m : ℕ) × (m < b) × ((l : ℕ) → l < m → listWord (blockingsOf k b) i l ≡ listWord (blockingsOf k b) j l)
+          × (listWord (blockingsOf k b) i m < listWord (blockingsOf k b) j m)
       first i j h l = let d = in-order k b i j h l in (d .place, inside (d .place) (d .lower) (decLt (d .place) b), d .same, d .lower)
         where
-          inside : (m : ℕ) → word (blockingsOf k b) i m < word (blockingsOf k b) j m → Dec (m < b) → m < b
+          inside : (m : ℕ) → listWord (blockingsOf k b) i m < listWord (blockingsOf k b) j m → Dec (m < b) → m < b
           inside m lower (yes d) = d
           inside m lower (no d) =
               absurd (omega (arith, lower, getD-past 0 (getD (blockingsOf k b) j []) m (omega (arith, list-at k b j l .0))))
 
       differ : (i j : ℕ) → i < j → j < length (blockingsOf k b)
-          → ((m : ℕ) → m < b → word (blockingsOf k b) i m ≡ word (blockingsOf k b) j m) → ⊥
+          → ((m : ℕ) → m < b → listWord (blockingsOf k b) i m ≡ listWord (blockingsOf k b) j m) → ⊥
       differ i j h l same = let d = first i j h l in omega (arith, d .3, same (d .0) (d .1))
 
 -- ---- the call
@@ -152,9 +151,7 @@ module _ (k b : ℕ) (column : List ℕ) where
   refuses : (n : ℕ) → (n ≡ 0 → ⊥) → blockingsRefused k b (length column) ≡ n
       → (promisedBlockings k b column .answer ≡ refused n) × (promisedBlockings k b column .column ≡ column)
   unfolding blockingsColumn
-  refuses n h e =
-      let x = promisedBlockings k b column in
-      (rw e (refused-with n (length (blockingsOf k b)) h), rw e (sym (unwritten n _ column h)))
+  refuses n h e = (rw e (refused-with n (length (blockingsOf k b)) h), rw e (sym (unwritten n _ column h)))
 
   made : blockingsRefused k b (length column) ≡ 0
       → promisedBlockings k b column .column ≡ blockingWords k b ++ drop (length (blockingWords k b)) column
@@ -167,7 +164,7 @@ word-count k b = flat-wide b (blockingsOf k b) (λ i h. list-at k b i h .0)
 module _ (k b : ℕ) (small : 2 ≤ k) (few : k ≤ 5) (some : 1 ≤ b) (three : b ≤ 3) (column : List ℕ) where
   -- neither 3 nor 17 applies, so the number goes by the places
   by-room : (t : Bool) → ltb (length column) (length (blockingWords k b)) ≡ t → blockingsRefused k b (length column) ≡ cond t 18 0
-  unfolding blockingsRefused notSmall badWordCount
+  unfolding blockingsRefused badFactorCount badWordCount
   by-room t e = rw (le-ltb k 2 small, le-ltb 5 k few, le-ltb b 1 some, le-ltb 3 b three, e) refl
 
   enough : length (blockingsOf k b) * b ≤ length column → blockingsRefused k b (length column) ≡ 0
@@ -177,7 +174,7 @@ module _ (k b : ℕ) (small : 2 ≤ k) (few : k ≤ 5) (some : 1 ≤ b) (three :
   too-few h = by-room true (lt-ltb (length column) (length (blockingWords k b)) (rw (word-count k b) h))
 
 module _ (k b : ℕ) (column : List ℕ) (e : blockingsRefused k b (length column) ≡ 0) where
-  word-there : (i j : ℕ) → i < length (blockingsOf k b) → j < b → place k b column (i * b + j) ≡ word (blockingsOf k b) i j
+  word-there : (i j : ℕ) → i < length (blockingsOf k b) → j < b → leftAt k b column (i * b + j) ≡ listWord (blockingsOf k b) i j
   word-there i j h l =
       let lists = blockingsOf k b in
       let inside : i * b + j < length (blockingWords k b) = rw (word-count k b) (before i j (length lists) h l) in
@@ -188,7 +185,7 @@ module _ (k b : ℕ) (column : List ℕ) (e : blockingsRefused k b (length colum
       before : (i j n : ℕ) → i < n → j < b → i * b + j < n * b
       before i j n h l = omega (arith, l, mul-le-mul-right b h, suc-mul i b)
 
-  kept : (m : ℕ) → length (blockingsOf k b) * b ≤ m → place k b column m ≡ getD column m 0
+  kept : (m : ℕ) → length (blockingsOf k b) * b ≤ m → leftAt k b column m ≡ getD column m 0
   kept m h =
       let ws = blockingWords k b in
       let n = length ws in
@@ -220,7 +217,7 @@ module _ (k b : ℕ) (small : 2 ≤ k) (few : k ≤ 5) (some : 1 ≤ b) (three :
       stops column h = refuses k b column 18 (λ z. omega (arith, z)) (too-few k b small few some three column h)
 
       untouched : (column : List ℕ) (m : ℕ) → length (blockingsOf k b) * b ≤ m → Dec (length column < length (blockingsOf k b) * b)
-          → place k b column m ≡ getD column m 0
+          → leftAt k b column m ≡ getD column m 0
       untouched column m l (yes h) = ap (λ (xs : List ℕ). getD xs m 0) (stops column h .1)
       untouched column m l (no h) = kept k b column (room column (omega arith)) m l
 
@@ -232,7 +229,7 @@ pub every-blocking : EveryBlocking
 every-blocking k b small few some three = (blockingsOf k b, the-lists k b few, writes k b small few some three)
 
 pub out-of-range : OutOfRange
-unfolding blockingsRefused notSmall badWordCount
+unfolding blockingsRefused badFactorCount badWordCount
 out-of-range = record {
   factors = λ k b column h. refuses k b column 3 (λ z. omega (arith, z)) (rw (outside k 2 5 h) refl);
   words = λ k b column small few h. refuses k b column 17 (λ z. omega (arith, z)) (rw (le-ltb k 2 small, le-ltb 5 k few, outside b 1 3 h) refl);

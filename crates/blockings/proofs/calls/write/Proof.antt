@@ -31,7 +31,8 @@ write-spec =
     (λ c κs.
     let turn = c .before .before .before .before in
     let room = room-for _ _ (turn .before .all-lists .ensures .0) _ (turn .before .before .before .pre .1) in
-    (omega arith, omega arith, collected-room room (turn .loop .inv) (c .before .before .before .loop-test .taken) (is (c .before .before .is-listed .ensures) (c .before .if1 .taken))))
+    let more = c .before .before .before .loop-test .taken in
+    (omega arith, omega arith, collected-room room (turn .loop .inv) more (is (c .before .before .is-listed .ensures) (c .before .if1 .taken))))
     (λ c. omega (arith, c .before .before .before .before .before .before .before .loop .inv .counted .few))
     (λ c. omega arith)
     (λ c. omega arith)

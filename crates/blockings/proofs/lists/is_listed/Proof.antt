@@ -17,4 +17,6 @@ is-listed-spec =
     (λ c. sym (length-take-le {A = ℕ} _ (0 ∷ 0 ∷ 0 ∷ 0 ∷ []) (omega arith)))
     (λ c κs. (omega arith, omega (arith, length-take-le {A = ℕ} (c .before .args .words) (0 ∷ 0 ∷ 0 ∷ 0 ∷ []) (omega arith))))
     (λ c κs. omega arith)
-    (λ c. c .is-blocking .ensures ∙ ap (isBlocking (c .before .before .before .before .args .k)) (the-list _ _ _ (0 ∷ 0 ∷ 0 ∷ 0 ∷ []) (omega arith) (c .before .before .put-list .ensures))))
+    (λ c.
+    let start = c .before .before .before .before .args in
+    c .is-blocking .ensures ∙ ap (isBlocking (start .k)) (the-list _ _ _ (0 ∷ 0 ∷ 0 ∷ 0 ∷ []) (omega arith) (c .before .before .put-list .ensures))))
