@@ -4,15 +4,15 @@
 --   map-tab                    a function of each value
 --   flat-append, flat-one      lists of lists joined: of two of them, and of one list
 --   tab-parts                  n lists of m values each, joined
---   flat-wide, flat-at         lists of w entries each, joined: their length, and an entry
+--   flat-wide, flat-part, flat-at    lists of w entries each, joined: their length, one of the lists, and an entry
 use mathlib.Core.Path.{_≡_, refl, sym, ap, _∙_}
 use mathlib.Core.List.{List, [], _∷_, _++_, append-assoc, append-nil, map, flatten}
 use Prim.Native.Nat.{ℕ, zero, suc, _+_, _*_, _/_, _%_, _<_}
 use native.Mathlib.Nat.{add-zero, suc-add, zero-add, zero-mul, suc-mul, div-eq-of-lt, mul-add-mod-self-right, mul-add-div-right, mod-eq-of-lt}
 use native.Mathlib.Numerals.{add-one}
 use native.Mathlib.Omega.{arith}
-use lib.ListN.{length, getD, length-append, List·getD-append}
-use lib.Seq.{getD-drop, drop-at}
+use lib.ListN.{length, getD, take, drop, length-append}
+use lib.Seq.{getD-take, getD-drop, take-at, drop-append-add}
 use Rattle.algebra.specs.Tab.{tab, tabFrom}
 use Rattle.algebra.specs.Laws.Tab.{tab-cong}
 
@@ -88,15 +88,18 @@ module _ {A : Type 0} where
         let rest : length (flatten xs) ≡ length xs * w = flat-wide xs (λ i h. wide (suc i) (omega arith)) in
         rw (length-append x (flatten xs), suc-mul (length xs) w) (omega (arith, rest, wide 0 (omega arith)))
 
+    -- list i, whatever stands after the lists
+    pub flat-part : (ls : List (List A)) → ((i : ℕ) → i < length ls → length (getD ls i []) ≡ w) → (rest : List A) (i : ℕ) → i < length ls
+        → take w (drop (i * w) (flatten ls ++ rest)) ≡ getD ls i []
+    unfolding flatten
+    flat-part [] wide rest i h = absurd (omega arith)
+    flat-part (x ∷ xs) wide rest zero h = rw (zero-mul w, append-assoc) (take-at x (flatten xs ++ rest) w (wide 0 (omega arith)))
+    flat-part (x ∷ xs) wide rest (suc i) h =
+        let from : suc i * w ≡ length x + i * w = omega (arith, suc-mul i w, wide 0 (omega arith)) in
+        rw (from, append-assoc, drop-append-add) (flat-part xs (λ m k. wide (suc m) (omega arith)) rest i (omega arith))
+
     pub flat-at : (z : A) (ls : List (List A)) → ((i : ℕ) → i < length ls → length (getD ls i []) ≡ w)
         → (i j : ℕ) → i < length ls → j < w → getD (flatten ls) (i * w + j) z ≡ getD (getD ls i []) j z
-    unfolding flatten
-    flat-at z [] wide i j h l = absurd (omega arith)
-    flat-at z (x ∷ xs) wide zero j h l =
-        let long : length x ≡ w = wide 0 (omega arith) in
-        rw (zero-mul w, zero-add j) (List·getD-append x (flatten xs) z j (omega (arith, long)))
-    flat-at z (x ∷ xs) wide (suc i) j h l =
-        let long : length x ≡ w = wide 0 (omega arith) in
-        let from : suc i * w + j ≡ w + (i * w + j) = omega (arith, suc-mul i w) in
-        rw (from, ← (getD-drop w (x ++ flatten xs) (i * w + j) z), drop-at x (flatten xs) w long)
-        (flat-at z xs (λ m k. wide (suc m) (omega arith)) i j (omega arith) l)
+    flat-at z ls wide i j h l =
+        let part : take w (drop (i * w) (flatten ls)) ≡ getD ls i [] = rw (append-nil (flatten ls)) at (flat-part ls wide [] i h) in
+        sym (getD-drop (i * w) (flatten ls) j z) ∙ sym (getD-take w (drop (i * w) (flatten ls)) j z l) ∙ ap (λ xs. getD xs j z) part
