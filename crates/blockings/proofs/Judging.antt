@@ -1,6 +1,5 @@
 -- What is refused of the call, as the code judges it.
 --
---   flat-count         so many lists of so many words are so many words
 --   in-range           where neither 3 nor 17 applies, k and the count of words are in their ranges
 --   by-factors, by-count, by-room, nothing    the number, refusal by refusal
 --   admitted           what holds where there is no number
@@ -8,22 +7,17 @@
 use mathlib.Core.Path.{_≡_, refl}
 use mathlib.Core.Bool.{true, false}
 use mathlib.Core.List.{List, _++_}
-use Prim.Native.Nat.{ℕ, _*_, _^_, _<_, _≤_}
+use Prim.Native.Nat.{ℕ, _*_, _<_, _≤_}
 use native.Mathlib.Omega.{arith}
 use borrow.Author.Tests.{lt-ltb, le-ltb, ltb-false}
 use lib.Dec.{ltb}
 use lib.ListN.{length, drop}
-use Rattle.algebra.specs.Laws.Tab.{length-tab}
 use Rattle.algebra.specs.Laws.Tests.{neither}
-use Rattle.algebra.specs.Laws.Those.{flat-long}
 use Rattle.plan.specs.Outcome.{given, outcome}
 use Rattle.plan.specs.Laws.Answers.{passed, completed}
-use Rattle.blockings.specs.Blockings.{isBlocking, blockingsOf, blockingWords, badFactorCount, badWordCount, blockingsRefused, blockingsColumn}
-use Rattle.blockings.specs.Inner.Numbered.{wordAt, wordsAt, blockings-tab}
+use Rattle.blockings.specs.Blockings.{blockingsOf, blockingWords, badFactorCount, badWordCount, blockingsRefused, blockingsColumn}
 use Rattle.blockings.specs.Inner.Ready.{InRange}
-
-pub flat-count : (k b : ℕ) → length (blockingWords k b) ≡ length (blockingsOf k b) * b
-flat-count k b = rw (blockings-tab k b) (flat-long (isBlocking k) (wordsAt k b) b (λ i. length-tab b (wordAt k b i)) (2 ^ (k * b)))
+use Rattle.blockings.specs.Laws.Members.{word-count}
 
 module _ (k b : ℕ) where
   pub in-range : badFactorCount k ≡ false → badWordCount b ≡ false → InRange k b
@@ -45,7 +39,7 @@ module _ (k b : ℕ) where
 
       module _ (few : badWordCount b ≡ false) {n : ℕ} (all : n ≡ length (blockingsOf k b)) where
         words : n * b ≡ length (blockingWords k b)
-        words = rw (all, flat-count k b) refl
+        words = rw (all, word-count k b) refl
 
         pub by-room : room < n * b → 18 ≡ blockingsRefused k b room
         unfolding blockingsRefused

@@ -6,6 +6,7 @@
 --   either                 what holds in both cases of a test holds by the test
 --   same-test              numbers below i + 1 other than i are those below i
 --   and-left, and-right    both sides of a test a && b pass
+--   both                   the same as equations
 --   neither, none          neither side of a test a || b passes
 --   every-at               a test that passes at each number below n passes at any one of them
 --   eqb-digits             two numbers are equal where their lowest digits are, and the rest
@@ -49,6 +50,10 @@ and-left false b t = t
 pub and-right : (a b : Bool) → T (a && b) → T b
 and-right true b t = t
 and-right false b t = absurd t
+
+pub both : (a b : Bool) → (a && b) ≡ true → (a ≡ true) × (b ≡ true)
+both true b e = (refl, e)
+both false b e = absurd (true≢false (sym e))
 
 pub neither : (a b : Bool) → (a || b) ≡ false → (a ≡ false) × (b ≡ false)
 neither true b e = absurd (true≢false e)

@@ -2,23 +2,26 @@
 --
 --   only     one that is among them has b words of the first k letters, they rise, and the plan check accepts them
 --   every    one of b words of 16 bits is among them if and only if they rise and the plan check accepts them
+--   wide, word-count    the list at each place has b words, so there are b times as many words as lists
 use mathlib.Core.Path.{_≡_, refl, sym, ap, _∙_}
-use mathlib.Core.Bool.{Bool, true, false, _&&_}
+use mathlib.Core.Bool.{true}
 use mathlib.Core.List.{List, [], _∷_, map, List·Memᴰ, List·Memᴰ·head, List·Memᴰ·eq-of-singleton, Memᴰ·map, Memᴰ·of-map}
 use mathlib.Core.Logic.{_↔_}
-use Prim.Native.Nat.{ℕ, zero, suc, _-_, _^_, _<_}
+use Prim.Native.Nat.{ℕ, zero, suc, _*_, _-_, _^_, _<_}
 use native.Mathlib.Omega.{arith}
 use borrow.Author.Tests.{eq-eqb, eqb-true}
 use lib.Dec.{eqb}
 use lib.ListN.{length, getD, replicate}
 use lib.Seq.{take-append-seam}
 use Rattle.algebra.specs.Tab.{tab}
+use Rattle.algebra.specs.Laws.Among.{those-in, those-of, flat-in, flat-of, tab-in, tab-of, in-at}
+use Rattle.algebra.specs.Laws.Joined.{flat-wide}
+use Rattle.algebra.specs.Laws.Tests.{both}
 use Rattle.words.specs.Laws.Letters.{within}
 use Rattle.plan.specs.Check.{planRefused}
 use Rattle.plan.specs.Plan.{blockWords}
 use Rattle.plan.specs.Laws.Accepted.{accepted}
-use Rattle.algebra.specs.Laws.Among.{those-in, those-of, flat-in, flat-of, tab-in, tab-of}
-use Rattle.blockings.specs.Blockings.{listsOf, strictlyRising, blockedPlan, isBlocking, blockingsOf}
+use Rattle.blockings.specs.Blockings.{listsOf, strictlyRising, blockedPlan, isBlocking, blockingsOf, blockingWords}
 
 -- ---- all lists
 
@@ -44,12 +47,7 @@ all-there k (w ∷ ws) h =
     (tab-in (2 ^ k) (λ v. map (λ vs. v ∷ vs) (listsOf k (length ws))) w (h 0 (omega arith)))
     (Memᴰ·map (λ vs. w ∷ vs) (all-there k ws (λ j l. h (suc j) (omega arith))))
 
--- ---- those that are written
-
-both : (a b : Bool) → (a && b) ≡ true → (a ≡ true) × (b ≡ true)
-both true true e = (refl, refl)
-both true false e = absurd (let z : _≡_ {A = ℕ} 0 1 = cc in omega arith)
-both false b e = absurd (let z : _≡_ {A = ℕ} 0 1 = cc in omega arith)
+-- ---- those that block a plan
 
 module _ (k : ℕ) (ws : List ℕ) where
   blocking-is : isBlocking k ws ≡ true → (strictlyRising ws ≡ true) × (planRefused (blockedPlan k ws) ≡ 0)
@@ -89,3 +87,9 @@ every k b ws l h = (
       let there = all-there k ws (words-within k ws (e .1) h) in
       rw (← l) (those-in (isBlocking k) (listsOf k (length ws)) there (blocking-of k ws (e .0) (e .1))),
 )
+
+pub wide : (k b i : ℕ) → i < length (blockingsOf k b) → length (getD (blockingsOf k b) i []) ≡ b
+wide k b i h = only k b (in-at [] (blockingsOf k b) i h) .0
+
+pub word-count : (k b : ℕ) → length (blockingWords k b) ≡ length (blockingsOf k b) * b
+word-count k b = flat-wide b (blockingsOf k b) (wide k b)

@@ -13,29 +13,26 @@ use lib.Dec.{ltb}
 use lib.ListN.{length, take, drop, getD, length-take, take-append-drop}
 use lib.Seq.{take-at}
 use Rattle.algebra.specs.Laws.Among.{in-at}
-use Rattle.algebra.specs.Laws.Joined.{flat-wide, flat-part}
+use Rattle.algebra.specs.Laws.Joined.{flat-part}
 use Rattle.algebra.specs.Laws.Tests.{neither}
 use Rattle.plan.specs.Outcome.{outcome}
 use Rattle.plan.specs.Laws.Answers.{passed, given-is, written-new}
 use Rattle.blockings.specs.declared.types.Blockings.{Blockings}
 use Rattle.blockings.specs.declared.types.Blockings.the-variants.{Written}
 use Rattle.blockings.specs.Blockings.{blockingsOf, blockingWords, badFactorCount, blockingsRefused, blockingsColumn, blockingsOutcome}
-use Rattle.blockings.specs.Laws.Members.{only}
+use Rattle.blockings.specs.Laws.Members.{only, wide, word-count}
 use Rattle.blockwords.specs.Inner.Ready.{Blocked, ListsIn}
 
 -- ---- the column
 
 module _ {k b n : ℕ} {column : List ℕ} (c : ListsIn k b n column) where
-  wide : (i : ℕ) → i < length (blockingsOf k b) → length (getD (blockingsOf k b) i []) ≡ b
-  wide i h = only k b (in-at [] (blockingsOf k b) i h) .0
-
   places : n * b ≤ length column
   places =
       omega (
         arith,
         ap length (c .begins),
         length-take (length (blockingWords k b)) column,
-        flat-wide b (blockingsOf k b) wide,
+        word-count k b,
         ap (λ m. m * b) (c .all),
       )
 
@@ -48,7 +45,7 @@ module _ {k b n : ℕ} {column : List ℕ} (c : ListsIn k b n column) where
         let rest = drop (length (blockingWords k b)) column in
         let parts : column ≡ blockingWords k b ++ rest =
         sym (take-append-drop (length (blockingWords k b)) column) ∙ ap (λ l. l ++ rest) (c .begins) in
-        ap (λ l. take b (drop (i * b) l)) parts ∙ flat-part b (blockingsOf k b) wide rest i (omega (arith, c .all))
+        ap (λ l. take b (drop (i * b) l)) parts ∙ flat-part b (blockingsOf k b) (wide k b) rest i (omega (arith, c .all))
 
     pub list-ready : Blocked k (take (i * b + b - i * b) (drop (i * b) column))
     list-ready =

@@ -5,7 +5,7 @@
 --   no-byte, no-digit, all-digits             what the argument is: without a byte, with one that is no digit, and of digits alone
 --   from-zero                                 a digit is 48 or above
 use mathlib.Core.Path.{_≡_, refl, sym, ap, _∙_}
-use mathlib.Core.Bool.{Bool, true, false, _&&_}
+use mathlib.Core.Bool.{true, false}
 use mathlib.Core.List.{List, [], _∷_}
 use Prim.Native.Nat.{ℕ, suc, _+_, _*_, _-_, min, _<_, _≤_}
 use native.Mathlib.Numerals.{add-one}
@@ -14,6 +14,7 @@ use borrow.Author.Tests.{eq-eqb, ne-eqb, leb-true}
 use lib.Dec.{leb}
 use lib.ListN.{length, drop, getD, drop-of-length-le}
 use lib.Seq.{drop-cons}
+use Rattle.algebra.specs.Laws.Tests.{both}
 use Rattle.text.specs.Laws.Digits.{worth}
 use Rattle.blockwords.specs.Arguments.{isDigit, allDigits, argumentOf}
 use Rattle.blockwords.specs.declared.numbers.Argument.the-variants.{Number, Other}
@@ -29,13 +30,9 @@ alike : (ds : List ℕ) (m n : ℕ) → min 255 m ≡ min 255 n → min 255 (wor
 alike [] m n e = e
 alike (d ∷ ds) m n e = alike ds (m * 10 + (d - 48)) (n * 10 + (d - 48)) (omega (arith, e))
 
-both-hold : (a b : Bool) → (a && b) ≡ true → a ≡ true
-both-hold true b e = refl
-both-hold false b e = e
-
 pub from-zero : (b : ℕ) → isDigit b ≡ true → 48 ≤ b
 unfolding isDigit
-from-zero b e = leb-true 48 b (both-hold (leb 48 b) (leb b 57) e)
+from-zero b e = leb-true 48 b (both (leb 48 b) (leb b 57) e .0)
 
 pub read-none : (bytes : List ℕ) → Read bytes 0 0
 read-none bytes = record { within = omega arith; small = omega arith; digits = refl; number = refl }

@@ -18,7 +18,7 @@ use lib.ListN.{length, getD, take, drop, replicate, length-append, length-drop, 
 use lib.Pow.{pow-mono}
 use lib.Seq.{ext-getD, getD-take, getD-drop, drop-at, length-take-le, take-append-seam}
 use Rattle.algebra.specs.Laws.Among.{in-at, at-of}
-use Rattle.algebra.specs.Laws.Joined.{flat-wide, flat-at}
+use Rattle.algebra.specs.Laws.Joined.{flat-at}
 use Rattle.algebra.specs.Laws.Tab.{getD-past}
 use Rattle.contrasts.specs.Limits.{isRepeats, mostReadings}
 use Rattle.contrasts.specs.Laws.Limits.{repeats-few}
@@ -33,7 +33,7 @@ use Rattle.plan.specs.Laws.Answers.{refused-with, given-with, unwritten, writte
 use Rattle.plan.specs.Laws.Sizes.{runs-two}
 use Rattle.blockings.specs.Blockings.{strictlyRising, blockedPlan, blockingsOf, blockingWords, badFactorCount, badWordCount, blockingsRefused, blockingsColumn}
 use Rattle.blockings.specs.Laws.Rising.{rising}
-use Rattle.blockings.specs.Laws.Members.{only, every}
+use Rattle.blockings.specs.Laws.Members.{only, every, wide, word-count}
 use Rattle.blockings.specs.Laws.Order.{in-order}
 use Rattle.promises.specs.Promised.{promisedCheck, promisedBlockings}
 use Rattle.claims.specs.EveryBlocking.{blockWord, Blocked, listWord, HasList, TheLists, leftAt, Writes, EveryBlocking, OutOfRange}
@@ -158,9 +158,6 @@ module _ (k b : ℕ) (column : List ℕ) where
   unfolding blockingsColumn
   made e = sym (written-new (blockingsRefused k b (length column)) _ column e)
 
-word-count : (k b : ℕ) → length (blockingWords k b) ≡ length (blockingsOf k b) * b
-word-count k b = flat-wide b (blockingsOf k b) (λ i h. list-at k b i h .0)
-
 module _ (k b : ℕ) (small : 2 ≤ k) (few : k ≤ 5) (some : 1 ≤ b) (three : b ≤ 3) (column : List ℕ) where
   -- neither 3 nor 17 applies, so the number goes by the places
   by-room : (t : Bool) → ltb (length column) (length (blockingWords k b)) ≡ t → blockingsRefused k b (length column) ≡ cond t 18 0
@@ -180,7 +177,7 @@ module _ (k b : ℕ) (column : List ℕ) (e : blockingsRefused k b (length colum
       let inside : i * b + j < length (blockingWords k b) = rw (word-count k b) (before i j (length lists) h l) in
       ap (λ (xs : List ℕ). getD xs (i * b + j) 0) (made k b column e)
       ∙ List·getD-append (blockingWords k b) (drop (length (blockingWords k b)) column) 0 (i * b + j) inside
-      ∙ flat-at b 0 lists (λ m d. list-at k b m d .0) i j h l
+      ∙ flat-at b 0 lists (wide k b) i j h l
     where
       before : (i j n : ℕ) → i < n → j < b → i * b + j < n * b
       before i j n h l = omega (arith, l, mul-le-mul-right b h, suc-mul i b)
