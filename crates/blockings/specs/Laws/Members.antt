@@ -25,6 +25,14 @@ use Rattle.blockings.specs.Blockings.{listsOf, strictlyRising, blockedPl
 
 -- ---- all lists
 
+all-there : (k : ℕ) (ws : List ℕ) → ((j : ℕ) → j < length ws → getD ws j 0 < 2 ^ k) → List·Memᴰ ws (listsOf k (length ws))
+unfolding listsOf
+all-there k [] h = List·Memᴰ·head refl
+all-there k (w ∷ ws) h =
+    flat-in (tab (2 ^ k) (λ v. map (λ vs. v ∷ vs) (listsOf k (length ws))))
+    (tab-in (2 ^ k) (λ v. map (λ vs. v ∷ vs) (listsOf k (length ws))) w (h 0 (omega arith)))
+    (Memᴰ·map (λ vs. w ∷ vs) (all-there k ws (λ j l. h (suc j) (omega arith))))
+
 among-all : (k b : ℕ) {ws : List ℕ} → List·Memᴰ ws (listsOf k b) → (length ws ≡ b) × ((j : ℕ) → j < b → getD ws j 0 < 2 ^ k)
 unfolding listsOf
 among-all k zero m = (ap length (List·Memᴰ·eq-of-singleton m), λ j h. absurd (omega arith))
@@ -38,14 +46,6 @@ among-all k (suc b) {ws} m =
     at : (w : ℕ) (vs : List ℕ) → w < 2 ^ k → ((j : ℕ) → j < b → getD vs j 0 < 2 ^ k) → (j : ℕ) → j < suc b → getD (w ∷ vs) j 0 < 2 ^ k
     at w vs h hs zero l = h
     at w vs h hs (suc j) l = hs j (omega arith)
-
-all-there : (k : ℕ) (ws : List ℕ) → ((j : ℕ) → j < length ws → getD ws j 0 < 2 ^ k) → List·Memᴰ ws (listsOf k (length ws))
-unfolding listsOf
-all-there k [] h = List·Memᴰ·head refl
-all-there k (w ∷ ws) h =
-    flat-in (tab (2 ^ k) (λ v. map (λ vs. v ∷ vs) (listsOf k (length ws))))
-    (tab-in (2 ^ k) (λ v. map (λ vs. v ∷ vs) (listsOf k (length ws))) w (h 0 (omega arith)))
-    (Memᴰ·map (λ vs. w ∷ vs) (all-there k ws (λ j l. h (suc j) (omega arith))))
 
 -- ---- those that block a plan
 
