@@ -12,6 +12,7 @@
 --   OneWalk        rows and sums after every total
 --   ThreeBlocks    demand 2: three-level plans in three blocks
 --   EveryBlocking  every way to block a small plan
+--   Screening      the screening profile
 --   Starred        the starred runs, as one fact
 --   WrongPrograms  the programs that have to break their statements
 --   Examples       worked examples
@@ -28,6 +29,7 @@ pub mod TableAddsUp
 pub mod OneWalk
 pub mod ThreeBlocks
 pub mod EveryBlocking
+pub mod Screening
 pub mod Starred
 pub mod WrongPrograms
 pub mod Examples

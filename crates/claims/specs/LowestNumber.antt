@@ -26,6 +26,7 @@ use Rattle.estimates.specs.Estimate.{estimateRefusals, estimateRefused}
 use Rattle.yates.specs.Calls.{passRefusals, passRefused, totalsRefusals, totalsRefused}
 use Rattle.steps.specs.Step.{stepRefusals, stepRefused}
 use Rattle.anova.specs.Table.{wrongLengths, tableRefusals, tableRefused}
+use Rattle.screening.specs.Screening.{screenRefusals, screenRefused}
 use Rattle.fields.specs.Fields.{Fields, fieldsOf}
 use Rattle.fields.specs.Tags.{badFields}
 use Rattle.contents.specs.Contents.{planIn}
@@ -71,6 +72,9 @@ pub record LowestNumber : Type 0 where
   -- L11: "the table 11, 12, 13"
   pub table : (p : Plan) (readings : List ℤ) (marks : List ℕ) (column : List ℤ) (rows : List ℕ)
       → Lowest (tableRefused p readings marks column rows) (onPlan p (tableRefusals p readings marks column rows))
+  -- L14: "9 at three levels; 21, two effects meet as described, after 16; 13 also for a marked main effect"
+  pub screen : (p : Plan) (readings : List ℤ) (marks : List ℕ) (column : List ℤ) (rows : List ℕ)
+      → Lowest (screenRefused p readings marks column rows) (onPlan p (screenRefusals p readings marks column rows))
   -- L5: "the reader gives 1, 11, 12, 13"
   pub reader : (sheet : List ℕ) (room : ℕ) → Lowest (readRefused sheet room) (onSheet (fieldsOf sheet) (ltb room (allReadings (planIn (fieldsOf sheet)))))
   -- L6: "the marks call, each as its empty part, 1, 11 (without the column), 12, 13"

@@ -3,7 +3,7 @@
 --
 --   theNumbers                 the thirteen numbers, and those that have joined them
 --   OneOfTheNumbers n          a number that refuses, and so is not 0, has a place among these
---   OnPlan p                   THE CLAIM on the calls that take a plan: check, run, alias, estimate, pass, step, totals, table
+--   OnPlan p                   THE CLAIM on the calls that take a plan: check, run, alias, estimate, pass, step, totals, table, screen
 --   OnBlockings k b column     on the blocking call
 --   OnSheet sheet              on those that take a sheet: reader, marks, print
 --   ForC                       on the table call for C; the others for C have the numbers and columns of the first
@@ -22,13 +22,14 @@ use Rattle.estimates.specs.Estimate.{estimateRefused}
 use Rattle.yates.specs.Calls.{passRefused, passColumn, totalsRefused, totalsColumn}
 use Rattle.steps.specs.Step.{stepRefused, stepColumn}
 use Rattle.anova.specs.Table.{tableRefused, tableTotals, tableRows}
+use Rattle.screening.specs.Screening.{screenRefused, screenTotals, screenRows}
 use Rattle.sheet.specs.Sheet.{readRefused, readColumn, marksRefused, marksOf}
 use Rattle.printing.specs.Printed.{printRefused}
 use Rattle.exported.specs.Handed.{callRefused, callTotals, callRows, callFigures, callChecks}
 
--- D1.6, N16 to N18
+-- D1.6, N16 to N18, N21
 abbrev pub theNumbers : List ℕ
-theNumbers = 1 ∷ 2 ∷ 3 ∷ 4 ∷ 5 ∷ 6 ∷ 7 ∷ 8 ∷ 9 ∷ 10 ∷ 11 ∷ 12 ∷ 13 ∷ 16 ∷ 17 ∷ 18 ∷ []
+theNumbers = 1 ∷ 2 ∷ 3 ∷ 4 ∷ 5 ∷ 6 ∷ 7 ∷ 8 ∷ 9 ∷ 10 ∷ 11 ∷ 12 ∷ 13 ∷ 16 ∷ 17 ∷ 18 ∷ 21 ∷ []
 
 abbrev pub OneOfTheNumbers : ℕ → Type 0
 OneOfTheNumbers n = (n ≡ 0 → ⊥) → place theNumbers n ≤ length theNumbers
@@ -44,6 +45,7 @@ pub record OnPlan (p : Plan) : Type 0 where
   pub step : (from to : List ℤ) → OneOfTheNumbers (stepRefused p from to)
   pub totals : (readings column : List ℤ) → OneOfTheNumbers (totalsRefused p readings column)
   pub table : (readings : List ℤ) (marks : List ℕ) (column : List ℤ) (rows : List ℕ) → OneOfTheNumbers (tableRefused p readings marks column rows)
+  pub screen : (readings : List ℤ) (marks : List ℕ) (column : List ℤ) (rows : List ℕ) → OneOfTheNumbers (screenRefused p readings marks column rows)
   -- D1.8: "and then writes nothing at all": the slices at exit are those at entry
   pub pass-unwritten : (f : ℕ) (column : List ℤ) → (passRefused p f column ≡ 0 → ⊥) → passColumn p f column ≡ column
   pub step-unwritten : (from to : List ℤ) → (stepRefused p from to ≡ 0 → ⊥) → stepColumn p from to ≡ to
@@ -51,6 +53,9 @@ pub record OnPlan (p : Plan) : Type 0 where
   pub table-unwritten : (readings : List ℤ) (marks : List ℕ) (column : List ℤ) (rows : List ℕ)
       → (tableRefused p readings marks column rows ≡ 0 → ⊥)
       → (tableTotals p readings marks column rows ≡ column) × (tableRows p readings marks column rows ≡ rows)
+  pub screen-unwritten : (readings : List ℤ) (marks : List ℕ) (column : List ℤ) (rows : List ℕ)
+      → (screenRefused p readings marks column rows ≡ 0 → ⊥)
+      → (screenTotals p readings marks column rows ≡ column) × (screenRows p readings marks column rows ≡ rows)
 
 -- ---- the blocking call, which takes k and a number of words
 

@@ -9,6 +9,7 @@
 --   promisedPass, promisedStep        the pass, and the step
 --   promisedTotals                    the totals of all effects
 --   promisedTable                     the table
+--   promisedScreen                    the table of the screening profile
 --   promisedEstimate                  the estimate
 --   promisedRead sheet column         the reader
 --   promisedMarks sheet               the marks call, which answers with a part of the sheet alone
@@ -29,6 +30,7 @@ use Rattle.yates.specs.Calls.{passRefused, passColumn, totalsRefused, totalsCol
 use Rattle.estimates.specs.Estimate.{Value, estimateRefused, estimateValue}
 use Rattle.anova.specs.declared.types.Figures.{Figures}
 use Rattle.anova.specs.Table.{tableRefused, tableFigures, tableTotals, tableRows}
+use Rattle.screening.specs.Screening.{screenRefused, screenTotals, screenRows}
 use Rattle.sheet.specs.Sheet.{readRefused, readPlan, readColumn, marksOf}
 use Rattle.printing.specs.Printed.{textOf}
 
@@ -101,6 +103,14 @@ promisedTable p readings marks totals rows = record {
   answer = outcome (tableRefused p readings marks totals rows) (tableFigures p readings marks);
   totals = tableTotals p readings marks totals rows;
   rows = tableRows p readings marks totals rows;
+}
+
+-- V21 to V23: the figures are the table call's
+abbrev pub promisedScreen : Plan → List ℤ → List ℕ → List ℤ → List ℕ → Tabled
+promisedScreen p readings marks totals rows = record {
+  answer = outcome (screenRefused p readings marks totals rows) (tableFigures p readings marks);
+  totals = screenTotals p readings marks totals rows;
+  rows = screenRows p readings marks totals rows;
 }
 
 -- E1

@@ -19,7 +19,7 @@ ghost use Rattle.columns.specs.Refusals.{answerOutcome};
 ghost use Rattle.anova.specs.Table.{tableOutcome};
 ghost use Rattle.estimates.specs.Estimate.{estimateOutcome};
 ghost use Rattle.promises.specs.Promised.{promisedCheck, promisedRun, promisedAlias, promisedBlockings, promisedPass, promisedStep, promisedTotals};
-ghost use Rattle.promises.specs.Promised.{promisedTable, promisedEstimate};
+ghost use Rattle.promises.specs.Promised.{promisedTable, promisedScreen, promisedEstimate};
 ghost use Rattle.promises.specs.Promised.{promisedRead, promisedMarks, promisedPrint};
 
 fn check(p: Plan) -> Check
@@ -74,6 +74,14 @@ fn table(p: Plan, readings: &[i32], marks: &[u8], column: &mut [i64], rows: &mut
     ensures { λ _. ⌜ now (rows .exit) ≡ promisedTable p (now (readings .entry)) (now (marks .entry)) (now (column .entry)) (now (rows .entry)) .rows ⌝ }
 {
     anova::table(p, readings, marks, column, rows)
+}
+
+fn screen(p: Plan, readings: &[i32], marks: &[u8], column: &mut [i64], rows: &mut [u64]) -> Table
+    ensures { λ r. ⌜ tableOutcome r ≡ promisedScreen p (now (readings .entry)) (now (marks .entry)) (now (column .entry)) (now (rows .entry)) .answer ⌝ }
+    ensures { λ _. ⌜ now (column .exit) ≡ promisedScreen p (now (readings .entry)) (now (marks .entry)) (now (column .entry)) (now (rows .entry)) .totals ⌝ }
+    ensures { λ _. ⌜ now (rows .exit) ≡ promisedScreen p (now (readings .entry)) (now (marks .entry)) (now (column .entry)) (now (rows .entry)) .rows ⌝ }
+{
+    screening::screen(p, readings, marks, column, rows)
 }
 
 fn estimate(p: Plan, effect: u16, total: i64) -> Estimate

@@ -17,8 +17,8 @@ use Rattle.words.specs.Words.{combined}
 use Rattle.plan.specs.declared.types.Plan.{Plan}
 use Rattle.plan.specs.Plan.{blockWords, someCombination, combinesTo, confoundedIn}
 use Rattle.plan.specs.Laws.Combinations.{combination, the-combination, each-fails}
-use Rattle.rows.specs.Kinds.{badMark, badMarks}
-use Rattle.rows.specs.Inner.Written.{marked, anyOver}
+use Rattle.rows.specs.Kinds.{marked, badMark, badMarks}
+use Rattle.rows.specs.Inner.Written.{anyOver}
 
 -- a row that has a mark is one of the rows that the marks are of
 there : (marks : List ℕ) (w : ℕ) → marked marks w ≡ true → w < length marks

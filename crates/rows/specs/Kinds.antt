@@ -3,6 +3,7 @@
 --   rowsIn p, rowCount p         how many rows there are; for any plan, 0 where k is beyond every plan's
 --   wrongRows p n                refusal 11: rows or marks are not R
 --   Kind                         the four kinds of rows
+--   marked marks w               row w has mark 1
 --   kindByMark, kindOf           what a row is, by its mark alone and in a plan
 --   codeOf, kindIn               the number by which code holds a kind, and the kind that a number stands for
 --   same c d                     two kinds are one
@@ -38,6 +39,10 @@ pub data Kind : Type 0 where
   blocksRow : Kind
   errorRow : Kind
   keptRow : Kind
+
+-- V8: "Rows with mark 1 are error"; past the end of the marks there is none
+abbrev pub marked : List ℕ → ℕ → Bool
+marked marks w = eqb (getD marks w 0) 1
 
 -- V8, V9: "Rows with mark 1 are error; mark 0 keeps any other row."
 unfoldable pub kindByMark : ℕ → Kind

@@ -7,8 +7,8 @@ use plan::Plan;
 use plan::word_count;
 use words::combine;
 ghost use Rattle.plan.specs.Plan.{someCombination};
-ghost use Rattle.rows.specs.Kinds.{badMarks};
-ghost use Rattle.rows.specs.Inner.Written.{marked, anyOver};
+ghost use Rattle.rows.specs.Kinds.{marked, badMarks};
+ghost use Rattle.rows.specs.Inner.Written.{anyOver};
 
 // Whether a mark is neither 0 nor 1. The loop does not stop early, so it is compiled to work several marks at a time.
 fn any_over(marks: &[u8]) -> bool
@@ -24,7 +24,7 @@ fn any_over(marks: &[u8]) -> bool
 }
 
 // Whether a row has mark 1. A row beyond the marks has none.
-fn is_marked(marks: &[u8], row: usize) -> bool
+pub fn is_marked(marks: &[u8], row: usize) -> bool
     ensures { λ r. ⌜ r ≡ marked (now (marks .entry)) row ⌝ }
 {
     if marks.len() <= row {

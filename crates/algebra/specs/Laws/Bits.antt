@@ -9,6 +9,7 @@
 --   bit-mod                the digits of a remainder by 2 ^ k
 --   bit-unset              a digit that is not 1 is 0
 --   bit-xor, bit-and       the digits of a ^ b, and of a & b
+--   xor-none, xor-back     numbers of which a ^ b is 0 are the same; a ^ b ^ a is b
 --   ones-bits, ones-and    the count of ones is the sum of the digits; in a & b, of products of digits
 use mathlib.Core.Path.{_≡_, refl, sym, ap, ap₂, _∙_, subst}
 use mathlib.Core.Bool.{Bool, true, false, cond}
@@ -16,7 +17,7 @@ use Prim.Native.Nat.{ℕ, zero, suc, _+_, _*_, _-_, _/_, _%_, _^_, _<_, _≤_, m
 use native.Mathlib.Nat.{div-one, div-div-eq-div-mul, div-eq-of-lt, div-lt-iff-lt-mul, pow-succ', pow-suc, pow-le-pow-right, lt-of-lt-of-le, mod-lt, zero-lt-suc}
 use native.Mathlib.Omega.{arith}
 use lib.Arith.{lt-one}
-use lib.Bits.{bitAnd, bitXor, and-shr, xor-shr, and-step, xor-add-and, and-le-l}
+use lib.Bits.{bitAnd, bitXor, and-shr, xor-shr, and-step, xor-add-and, and-le-l, and-le-r, xor-lt}
 use lib.Pow.{field, mod-mod-pow}
 use lib.Count.{ones, ones-step}
 use lib.Dec.{eqb}
@@ -127,6 +128,15 @@ bit-xor a b i = rw (xor-shr a b i) (last (a / 2 ^ i) (b / 2 ^ i))
   where
     last : (x y : ℕ) → bitXor x y % 2 ≡ (x % 2 + y % 2) % 2
     last x y = omega (arith, xor-add-and x y)
+
+pub xor-none : (a b : ℕ) → bitXor a b ≡ 0 → a ≡ b
+xor-none a b e = omega (arith, xor-add-and a b, e, and-le-l a b, and-le-r a b)
+
+pub xor-back : (n a b : ℕ) → a < 2 ^ n → b < 2 ^ n → bitXor (bitXor a b) a ≡ b
+xor-back n a b h l = bits-ext n (bitXor (bitXor a b) a) b (xor-lt n (bitXor a b) a (xor-lt n a b h l) h) l (λ i m. ap (λ (d : ℕ). eqb d 1) (at i))
+  where
+    at : (i : ℕ) → bit (bitXor (bitXor a b) a) i ≡ bit b i
+    at i = omega (arith, bit-xor (bitXor a b) a i, bit-xor a b i, bit-lt a i, bit-lt b i)
 
 pub bit-and : (a b i : ℕ) → bit (bitAnd a b) i ≡ bit a i * bit b i
 bit-and a b i =

@@ -6,6 +6,7 @@
 --   filled-blank                            before the first, where all places hold the same
 --   filled-three                            after three more places
 --   filled-old, filled-new                  what its places hold
+--   filled-first                            the first of those that are written
 use mathlib.Core.Path.{_≡_, _∙_, ap}
 use mathlib.Core.Bool.{cond}
 use mathlib.Core.List.{List}
@@ -13,7 +14,8 @@ use Prim.Native.Nat.{ℕ, _+_, _<_, _≤_}
 use native.Mathlib.Omega.{arith}
 use borrow.Author.Tests.{lt-ltb, le-ltb}
 use lib.Dec.{ltb}
-use lib.ListN.{length, getD, set, replicate, length-replicate, getD-replicate}
+use lib.ListN.{length, getD, set, take, replicate, length-replicate, getD-replicate}
+use lib.Seq.{length-take-le, getD-take}
 use Rattle.algebra.specs.Tab.{tab}
 use Rattle.algebra.specs.Laws.Tab.{length-tab, getD-tab, is-tab, tab-cong, tab-set}
 use Rattle.algebra.specs.Laws.Tests.{same-test}
@@ -43,6 +45,11 @@ module _ {A : Type 0} (z : A) where
 
     pub filled-new : (j : ℕ) → j < i → getD ys j z ≡ new j
     filled-new j h = rw (w .so) (getD-tab z n (upto new old i) j (omega (arith, w .some)) ∙ rw (lt-ltb j i h))
+
+    pub filled-first : (m : ℕ) → m ≤ i → take m ys ≡ tab m new
+    filled-first m h =
+        is-tab z (take m ys) m new (length-take-le m ys (omega (arith, filled-long, w .some, h)))
+        (λ j l. getD-take m ys j z l ∙ filled-new j (omega (arith, l, h)))
 
     pub filled-all : n ≤ i → ys ≡ tab n new
     filled-all h = w .so ∙ tab-cong z n (upto new old i) new (λ j k. rw (lt-ltb j i (omega arith)))

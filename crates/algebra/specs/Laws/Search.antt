@@ -2,6 +2,7 @@
 --
 --   some-true, some-false    `some n f` is true where f holds of a number below n, and false where it holds of none
 --   some-at, none-at         where it is true there is such a number, and where it is false f fails at each
+--   some-cong                tests that are the same below n hold of some number or of none alike
 use mathlib.Core.Path.{_≡_, refl}
 use mathlib.Core.Bool.{Bool, true, false, _||_, or-true}
 use Prim.Native.Nat.{ℕ, zero, suc, _<_}
@@ -38,3 +39,8 @@ none-at n f e i h = by (f i) refl
     by : (b : Bool) → f i ≡ b → f i ≡ false
     by false d = d
     by true d = absurd (let t : some n f ≡ true = some-true n f i h d in let z : _≡_ {A = ℕ} 0 1 = cc in omega arith)
+
+pub some-cong : (n : ℕ) {f g : ℕ → Bool} → ((i : ℕ) → i < n → f i ≡ g i) → some n f ≡ some n g
+unfolding some
+some-cong zero h = refl
+some-cong (suc n) h = rw (some-cong n (λ i l. h i (omega arith)), h n (omega arith)) refl

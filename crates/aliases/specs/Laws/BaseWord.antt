@@ -1,15 +1,17 @@
--- Base words, and turns, of an effect of base letters and of one added letter.
+-- Base words, and turns, of an effect of base letters and of one added letter; base words of effects combined.
 --
 --   base-small              the base word of an accepted plan has no letter beyond k
 --   base-own, turned-own    an effect of base letters is its own base word, and its sign does not turn
 --   base-one                the base word of an added letter is its word
+--   base-xor, base-both     the base word of two effects combined, and of an interaction of two factors, is the combination of theirs
 --   turned-one              its sign turns where it has sign 1; the other way round where its word has an even number of letters
-use mathlib.Core.Path.{_≡_, refl, _∙_}
+use mathlib.Core.Path.{_≡_, refl, ap, _∙_}
 use mathlib.Core.Bool.{Bool, true, false, cond, not, _&&_}
 use mathlib.Core.List.{List}
 use Prim.Native.Nat.{ℕ, _+_, _/_, _%_, _^_, _<_, _≤_}
-use native.Mathlib.Nat.{mod-lt, mod-eq-of-lt, div-eq-of-lt, mul-mod-right, mul-div-right, one-le-pow, zero-lt-suc, lt-of-lt-of-le, zero-div}
+use native.Mathlib.Nat.{mod-lt, mod-eq-of-lt, div-eq-of-lt, mul-mod-right, mul-div-right, one-le-pow, one-mul, zero-lt-suc, lt-of-lt-of-le, zero-div}
 use native.Mathlib.Omega.{arith}
+use lib.Bits.{bitXor, xor-comm, xor-mod, xor-shr, xor-shifted}
 use lib.Dec.{eqb, leb}
 use lib.ListN.{length, getD}
 use borrow.Author.Tests.{ne-eqb, leb-true, leb-false}
@@ -21,7 +23,7 @@ use Rattle.algebra.specs.Laws.Tab.{getD-past}
 use Rattle.words.specs.Words.{has, odd, oddWord}
 use Rattle.words.specs.Laws.Letters.{one-letter}
 use Rattle.words.specs.Laws.Parity.{letters-one}
-use Rattle.words.specs.Laws.Combined.{combined-within, combined-own, combined-one}
+use Rattle.words.specs.Laws.Combined.{combined-within, combined-own, combined-one, combined-xor}
 use Rattle.plan.specs.declared.types.Plan.{Plan}
 use Rattle.plan.specs.Plan.{addedWords}
 use Rattle.plan.specs.Laws.Accepted.{Accepted}
@@ -101,3 +103,16 @@ module _ (k j : ℕ) where
   turned-one words signs h few few-signs small =
       rw (base-one words h (omega (arith, few)) small, letters-one (k + j) (omega (arith, h, few)), replaced, one-sign signs few-signs (omega (arith, h, few)), odd-digit (eqb (getD signs j 0) 1))
       refl
+
+-- ---- effects combined
+
+pub base-xor : (k : ℕ) (words : List ℕ) (e f : ℕ) → baseWord k words (bitXor e f) ≡ bitXor (baseWord k words e) (baseWord k words f)
+unfolding baseWord
+base-xor k words e f = rw (xor-mod e f k, xor-shr e f k) (combined-xor (e % 2 ^ k) (f % 2 ^ k) (e / 2 ^ k) (f / 2 ^ k) words)
+
+-- an effect of letters below j, and letter j
+pub base-both : (k : ℕ) (words : List ℕ) (e j : ℕ) → e < 2 ^ j → baseWord k words (e + 2 ^ j) ≡ bitXor (baseWord k words e) (baseWord k words (2 ^ j))
+base-both k words e j h = ap (baseWord k words) joined ∙ base-xor k words e (2 ^ j)
+  where
+    joined : e + 2 ^ j ≡ bitXor e (2 ^ j)
+    joined = omega (arith, one-mul (2 ^ j), xor-shifted 1 j e h) ∙ ap (λ (m : ℕ). bitXor m e) (one-mul (2 ^ j)) ∙ xor-comm (2 ^ j) e

@@ -23,6 +23,7 @@ use Rattle.estimates.specs.Estimate.{estimateRefusals, estimateRefused}
 use Rattle.yates.specs.Calls.{passRefusals, passRefused, totalsRefusals}
 use Rattle.steps.specs.Step.{stepRefusals}
 use Rattle.anova.specs.Table.{wrongLengths, tableRefusals, tableRefused}
+use Rattle.screening.specs.Screening.{screenRefusals, screenRefused}
 use Rattle.fields.specs.Fields.{Fields, fieldsOf}
 use Rattle.fields.specs.Tags.{badFields}
 use Rattle.contents.specs.Contents.{planIn}
@@ -64,7 +65,7 @@ of-table p readings marks column rows figures checks = by (wrongRoom (length fig
     by false = refl
 
 pub lowest-number : LowestNumber
-unfolding planRefused runRefused aliasRefused estimateRefused blockingsRefused passRefused columnsRefused readingsRefused tableRefused readRefused marksRefused rank
+unfolding planRefused runRefused aliasRefused estimateRefused blockingsRefused passRefused columnsRefused readingsRefused tableRefused screenRefused readRefused marksRefused rank
 lowest-number =
     record {
       check = λ p. is-lowest (planRefusals p) tt;
@@ -76,6 +77,7 @@ lowest-number =
       step = λ p from to. lowest-with-plan p (stepRefusals p from to) tt;
       totals = λ p readings column. lowest-with-plan p (totalsRefusals p readings column) tt;
       table = λ p readings marks column rows. lowest-with-plan p (tableRefusals p readings marks column rows) tt;
+      screen = λ p readings marks column rows. lowest-with-plan p (screenRefusals p readings marks column rows) tt;
       reader = λ sheet room. of-sheet (fieldsOf sheet) (ltb room (allReadings (planIn (fieldsOf sheet))));
       marks = λ sheet. of-sheet (fieldsOf sheet) false;
       print = λ sheet. rw (of-bytes sheet) (is-lowest (onBytes sheet) tt);

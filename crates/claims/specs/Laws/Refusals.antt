@@ -24,6 +24,7 @@ use Rattle.estimates.specs.Estimate.{estimateRefusals, estimateRefused}
 use Rattle.yates.specs.Calls.{passRefusals, passRefused, passColumn, totalsRefusals, totalsColumn}
 use Rattle.steps.specs.Step.{stepRefusals, stepColumn}
 use Rattle.anova.specs.Table.{tableRefusals, tableRefused, tableTotals, tableRows}
+use Rattle.screening.specs.Screening.{screenRefusals, screenRefused, screenTotals, screenRows}
 use Rattle.fields.specs.Fields.{Fields, fieldsOf}
 use Rattle.fields.specs.Tags.{badFields}
 use Rattle.contents.specs.Contents.{planIn}
@@ -55,7 +56,7 @@ by-plan p further t = by (ℕ-discrete (planRefused p) 0)
     by (no e) = rw (← (plan-first p further refl e)) (lowest-known (planRefusals p) tt)
 
 pub on-any-plan : (p : Plan) → OnPlan p
-unfolding planRefused runRefused aliasRefused estimateRefused passRefused passColumn stepColumn columnsRefused readingsRefused totalsColumn tableRefused tableTotals tableRows known
+unfolding planRefused runRefused aliasRefused estimateRefused passRefused passColumn stepColumn columnsRefused readingsRefused totalsColumn tableRefused tableTotals tableRows screenRefused screenTotals screenRows known
 on-any-plan p =
     record {
       check = lowest-known (planRefusals p) tt;
@@ -66,10 +67,12 @@ on-any-plan p =
       step = λ from to. by-plan p (stepRefusals p from to) tt;
       totals = λ readings column. by-plan p (totalsRefusals p readings column) tt;
       table = λ readings marks column rows. by-plan p (tableRefusals p readings marks column rows) tt;
+      screen = λ readings marks column rows. by-plan p (screenRefusals p readings marks column rows) tt;
       pass-unwritten = λ f column n. sym (unwritten _ _ column n);
       step-unwritten = λ from to n. sym (unwritten _ _ to n);
       totals-unwritten = λ readings column n. sym (unwritten _ _ column n);
       table-unwritten = λ readings marks column rows n. (sym (unwritten _ _ column n), sym (unwritten _ _ rows n));
+      screen-unwritten = λ readings marks column rows n. (sym (unwritten _ _ column n), sym (unwritten _ _ rows n));
     }
 
 pub on-any-blockings : (k b : ℕ) (column : List ℕ) → OnBlockings k b column

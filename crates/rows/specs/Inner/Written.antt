@@ -1,21 +1,17 @@
 -- What the inner functions ask of marks, and what they leave in a list of kinds.
 --
---   marked marks w            row w has mark 1
 --   anyOver marks             a mark is over 1
 --   withMarks marks kinds     the rows that have a mark go by it
 --   withBlocks words kinds    the combinations of one or more of the words are blocks
 use mathlib.Core.Bool.{Bool, cond}
 use mathlib.Core.List.{List}
 use Prim.Native.Nat.{ℕ}
-use lib.Dec.{eqb, ltb}
+use lib.Dec.{ltb}
 use lib.ListN.{length, getD}
 use Rattle.algebra.specs.Search.{some}
 use Rattle.algebra.specs.Tab.{tab}
 use Rattle.plan.specs.Plan.{combinesTo}
 use Rattle.rows.specs.Kinds.{blocksRow, kindByMark, codeOf}
-
-abbrev pub marked : List ℕ → ℕ → Bool
-marked marks w = eqb (getD marks w 0) 1
 
 unfoldable pub anyOver : List ℕ → Bool
 anyOver marks = some (length marks) (λ w. ltb 1 (getD marks w 0))

@@ -10,11 +10,12 @@
 --   combined-one       one word combines to itself
 --   keeps-odd          a digit times a number is odd or even as it is times the number's lowest digit
 --   shared-combined    how many letters it shares with a run is odd or even as the sum over its words is
+--   combined-xor       two combinations of the same words combine to that of what is in one of them alone
 use mathlib.Core.Path.{_≡_, refl, sym, ap, _∙_}
 use mathlib.Core.Bool.{Bool, true, false, cond, _&&_}
 use mathlib.Core.List.{List}
 use Prim.Native.Nat.{ℕ, zero, suc, _+_, _*_, _%_, _^_, _<_, _≤_}
-use native.Mathlib.Nat.{mul-zero, zero-mul, zero-div, mul-add, mul-left-comm, mod-lt, mod-eq-of-lt, zero-lt-suc}
+use native.Mathlib.Nat.{mul-zero, zero-mul, zero-div, mul-add, add-mul, mul-comm, mul-left-comm, mod-lt, mod-eq-of-lt, zero-lt-suc}
 use native.Mathlib.Omega.{arith}
 use native.Mathlib.Numerals.{add-one}
 use lib.Bits.{bitXor, xor-lt}
@@ -22,7 +23,7 @@ use lib.Dec.{eqb, leb}
 use lib.ListN.{length, getD}
 use borrow.Author.Tests.{leb-true, eqb-true, eqb-false}
 use Rattle.algebra.specs.Bits.{bit}
-use Rattle.algebra.specs.Laws.Bits.{bit-lt, bit-xor, digit, bits-lt, bits-at, bits-all, bits-cong}
+use Rattle.algebra.specs.Laws.Bits.{bit-lt, bit-xor, digit, bits-lt, bits-at, bits-all, bits-cong, bits-ext}
 use Rattle.algebra.specs.Naturals.{Σℕ}
 use Rattle.algebra.specs.Laws.Naturals.{Σℕ-none, Σℕ-add, Σℕ-mul, Σℕ-cong, Σℕ-one, Σℕ-swap, Σℕ-parity}
 use Rattle.algebra.specs.Laws.Search.{some-false}
@@ -166,3 +167,32 @@ module _ (r w choice : ℕ) (ws : List ℕ) where
       ∙ Σℕ-add 16 (λ i. letter r i * letter w i) (λ i. Σℕ n (g i))
       ∙ ap (λ (m : ℕ). shared r w + m)
       (Σℕ-swap 16 n g ∙ Σℕ-cong n (λ j l. Σℕ-mul (letter choice j) 16 (λ i. letter r i * letter (getD ws j 0) i))))
+
+-- ---- two combinations
+
+module _ (w v c d : ℕ) (ws : List ℕ) where
+  -- how often letter i occurs in both, up to an even number
+  both-times : (i : ℕ) → times (bitXor w v) (bitXor c d) ws i % 2 ≡ (times w c ws i + times v d ws i) % 2
+  unfolding times
+  both-times i =
+      let x : ℕ → ℕ = λ j. letter (getD ws j 0) i in
+      let s = Σℕ-parity (length ws) (λ j. letter (bitXor c d) j * x j) (λ j. letter c j * x j + letter d j * x j) (λ j l. term j) in
+      let a = Σℕ-add (length ws) (λ j. letter c j * x j) (λ j. letter d j * x j) in
+      omega (arith, bit-xor w v i, s, a)
+    where
+      term : (j : ℕ) → (letter (bitXor c d) j * letter (getD ws j 0) i) % 2 ≡ (letter c j * letter (getD ws j 0) i + letter d j * letter (getD ws j 0) i) % 2
+      term j =
+          let x = letter (getD ws j 0) i in
+          rw (bit-xor c d j, mul-comm ((letter c j + letter d j) % 2) x, keeps-odd x (letter c j + letter d j) (bit-lt (getD ws j 0) i))
+          (ap (λ (m : ℕ). m % 2) (mul-comm x (letter c j + letter d j) ∙ add-mul (letter c j) (letter d j) x))
+
+  pub combined-xor : combined (bitXor w v) (bitXor c d) ws ≡ bitXor (combined w c ws) (combined v d ws)
+  combined-xor =
+      let first = combined w c ws in
+      let second = combined v d ws in
+      bits-ext 16 (combined (bitXor w v) (bitXor c d) ws) (bitXor first second) (combined-small (bitXor w v) (bitXor c d) ws)
+      (xor-lt 16 first second (combined-small w c ws) (combined-small v d ws))
+      (λ i l.
+      let both : times (bitXor w v) (bitXor c d) ws i % 2 ≡ letter (bitXor first second) i
+      = omega (arith, both-times i, letter-odd w c ws i l, letter-odd v d ws i l, bit-xor first second i) in
+      combined-at (bitXor w v) (bitXor c d) ws i l ∙ ap (λ (m : ℕ). eqb m 1) both)

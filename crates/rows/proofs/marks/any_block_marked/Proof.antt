@@ -3,7 +3,7 @@ use native.Mathlib.Omega.{arith}
 use lib.Seq.{length-take-le, take-all}
 use borrow.Author.Needs.{needs}
 use Rattle.plan.specs.Plan.{someCombination}
-use Rattle.rows.specs.Inner.Written.{marked}
+use Rattle.rows.specs.Kinds.{marked}
 use Rattle.rows.proofs.marks.any_block_marked.Statement.{statement}
 use Rattle.rows.proofs.marks.any_block_marked.Tie as tie
 

@@ -2,7 +2,7 @@ use Prim.Native.Nat.{_-_}
 use native.Mathlib.Omega.{arith}
 use Rattle.algebra.specs.Laws.Tests.{is}
 use Rattle.plan.specs.Laws.Combinations.{Trying, trying, try-more, tried, tried-all}
-use Rattle.rows.specs.Inner.Written.{marked}
+use Rattle.rows.specs.Kinds.{marked}
 use Rattle.rows.proofs.marks.any_combination_marked.Statement.{statement}
 use Rattle.rows.proofs.marks.any_combination_marked.Tie as tie
 
