@@ -6,7 +6,7 @@
 #   crates/worked_totals/stdout   steps, totals and passes of the published examples, at the limits and with repeats:
 #                                 published/examples.py
 #   crates/worked_answers/stdout  refused and accepted tables, estimates, aliases, effects, runs and blockings:
-#                                 cases/answers.py
+#                                 cases/answers.py; then the screening call: cases/screening_answers.py
 #   crates/worked_answers/stdin   the records of these, which that program reads
 #   crates/worked_sheets/stdout   answers of the two calls that take a sheet: cases/sheet_cases.py
 #   crates/worked_sheets/stdin    the sheets, which that program reads
@@ -18,8 +18,9 @@
 #
 # Each of these files also checks what it lists against rules/. Beside them published/analyses.py compares published
 # analyses of variance with rules/table.py, published/daniel.py published aliases with rules/totals.py, rules/blockings.py
-# its lists of block words with the plan check of rules/totals.py, and cases/csv_cases.py tries tools/csv_sheet.py and
-# compares the sheets of examples/ with the lines that they are made from.
+# its lists of block words with the plan check of rules/totals.py, rules/screening.py what meets in small plans with what
+# their words say, and cases/csv_cases.py tries tools/csv_sheet.py and compares the sheets of examples/ with the lines that
+# they are made from.
 #
 # Defined here:
 #   PROGRAMS, INPUTS, OTHERS   which file makes and checks what
@@ -31,28 +32,24 @@ from pathlib import Path
 ROOT = Path(__file__).resolve().parent.parent
 sys.path.insert(0, str(ROOT))
 
-from reference.cases import answers, csv_cases, sheet_cases, text_cases
+from reference.cases import answers, csv_cases, screening_answers, sheet_cases, text_cases
 from reference.published import amcp, analyses, daniel, examples, yates
-from reference.rules import blockings
+from reference.rules import blockings, screening
 
 # Each program with the reference files that make what it must write, one after the other.
 PROGRAMS = [
     ("worked_plans", [amcp, yates]),
     ("worked_totals", [examples]),
-    ("worked_answers", [answers]),
+    ("worked_answers", [answers, screening_answers]),
     ("worked_sheets", [sheet_cases]),
     ("worked_texts", [text_cases]),
 ]
 
-# Each program that reads an input with what makes it.
-INPUTS = [
-    ("worked_answers", answers, answers.inputs),
-    ("worked_sheets", sheet_cases, sheet_cases.inputs),
-    ("worked_texts", text_cases, text_cases.inputs),
-]
+# Those of the programs that read an input; the same files make it.
+INPUTS = ["worked_answers", "worked_sheets", "worked_texts"]
 
 # Reference files beside these that have something to check.
-OTHERS = [analyses, daniel, blockings, csv_cases]
+OTHERS = [analyses, daniel, blockings, screening, csv_cases]
 
 
 def path_of(module):
@@ -95,8 +92,8 @@ def complaints():
         for module in modules:
             found += complaints_of(module)
         found += differs(crate, "stdout", modules, b"".join(bytes_of(module.expected_text()) for module in modules))
-    for crate, module, inputs in INPUTS:
-        found += differs(crate, "stdin", [module], inputs())
+        if crate in INPUTS:
+            found += differs(crate, "stdin", modules, b"".join(module.inputs() for module in modules))
     found += differs("factab", "stdout", [text_cases], text_cases.RULES_TEXT)
     found += differs("factab", "stdin", [text_cases], text_cases.RULES_SHEET)
     return found + words_differ()

@@ -2,6 +2,7 @@
 #
 #   python3 tools/csv_sheet.py make FILE.csv > FILE.sheet     writes the sheet
 #   python3 tools/csv_sheet.py list FILE.sheet                writes the lines, which make the same sheet again
+#   python3 tools/csv_sheet.py screen FILE.sheet              says what screentab will answer to the sheet, and why
 #
 # Cells are parted by commas. The first cell of a line says what the line is:
 #
@@ -22,7 +23,8 @@
 #
 # Lines that make no sheet are not understood: nothing is written then but a message that names the line. Of lines that
 # make a sheet which the rules refuse the sheet is written, and a message says what factab will answer. Of a sheet that
-# is refused the list gives number and cause, and what can be read.
+# is refused the list gives number and cause, and what can be read. Of a plan in which a main effect and an interaction of two
+# factors meet, which is no screening plan, the list names those that do.
 #
 # What the rules say of a sheet is asked of the reference program, reference/rules. Lines and sheets on which this is
 # tried are in reference/cases/csv_cases.py.
@@ -31,6 +33,8 @@
 #   NotUnderstood        why no sheet can be made
 #   make                 the sheet of lines
 #   causes               why a sheet is refused, in words
+#   screening_causes     why screentab refuses a sheet, in words
+#   screened             what screentab will answer, and why, as a line
 #   listing              the lines of a sheet
 #   text_of              the text of a file of lines
 
@@ -42,6 +46,7 @@ from os.path import abspath, dirname
 
 sys.path.insert(0, dirname(dirname(abspath(__file__))))
 
+from reference.rules import screening as screening_rules
 from reference.rules import sheet_bytes
 from reference.rules import table as table_rules
 from reference.rules import text as text_rules
@@ -295,7 +300,53 @@ def causes(own_sheet):
     contents = sheet_bytes.contents_of(sheet_bytes.fields_of(own_sheet))
     found = places(refused, contents) if refused in (16, 11, 12, 13) else []
     cause = CAUSES_OF_THREE.get(refused, CAUSES[refused]) if contents.plan.levels == 3 else CAUSES[refused]
-    return [cause] + found[:MOST_PLACES] + ["and others"] * (len(found) > MOST_PLACES)
+    return [cause] + some_of(found)
+
+
+def some_of(found):
+    """What is found, and where that is much the first of it."""
+    return found[:MOST_PLACES] + ["and others"] * (len(found) > MOST_PLACES)
+
+
+# ---- screening ----
+
+# By number, of a sheet that factab makes a table of.
+SCREENING_CAUSES = {
+    21: "a main effect and an interaction of two factors have one base word",
+    9: "the screening profile is for two-level plans",
+    13: "the row of a main effect is marked as error",
+}
+
+
+def meeting_texts(plan):
+    """What meets in an accepted plan, by letters; not all where that is much."""
+    return some_of(["%s meets %s" % (LETTERS[main], LETTERS[first] + LETTERS[second])
+                    for main, first, second in screening_rules.meetings(plan)])
+
+
+def marked_texts(plan, marks):
+    """The rows of main effects of an accepted two-level plan that are marked, those of added factors with their letters."""
+    names = [row_label(row) for row in screening_rules.main_rows(plan)]
+    names[plan.k:] = ["%s, that of %s," % (name, letter) for name, letter in zip(names[plan.k:], LETTERS[plan.k:])]
+    return some_of(["row %s has mark 1" % names[factor] for factor in screening_rules.marked_mains(plan, marks)])
+
+
+def screening_causes(own_sheet):
+    """Why screentab refuses a sheet, in words; nothing for a sheet of which it prints the table."""
+    if text_rules.answer(own_sheet):
+        return causes(own_sheet)
+    refused = screening_rules.answer(own_sheet)
+    plan, _, marks = sheet_bytes.contents_of(sheet_bytes.fields_of(own_sheet))
+    found = {21: lambda: meeting_texts(plan), 13: lambda: marked_texts(plan, marks)}.get(refused, lambda: [])()
+    return [SCREENING_CAUSES[refused]] + found if refused else []
+
+
+def screened(own_sheet):
+    """The line that says what screentab will answer to a sheet: the number and why, or that it prints the table."""
+    found = screening_causes(own_sheet)
+    if not found:
+        return "screentab will print the table"
+    return "screentab will answer: refused %d (%s)" % (screening_rules.answer(own_sheet), "; ".join(found))
 
 
 # ---- the lines of a sheet ----
@@ -346,6 +397,8 @@ def accepted_lines(plan, readings, marks):
     runs = totals_rules.runs_of(plan.repeats, readings)
     lines = ["# %d runs, %d rows" % (len(runs), len(marks)), "levels,%d" % plan.levels, "factors,%d" % plan.k]
     lines += [added_line(plan, place) for place in range(len(plan.added))]
+    met = meeting_texts(plan)
+    lines += ["# no screening plan: " + ", ".join(met)] if met else []
     lines += ["block," + block_text(plan.levels, own_word) for own_word in plan.blocks]
     lines += passed_over("lost to blocks", lost_rows(plan)) if plan.blocks else []
     lines += ["repeats,%d" % plan.repeats] if plan.repeats > 1 else []
@@ -406,9 +459,10 @@ def text_of(path):
 
 
 def main(way, path):
-    """Writes the lines of a sheet or the sheet of lines; and of a sheet that is refused a message."""
-    if way == "list":
-        sys.stdout.write(listing(bytes_of(path)))
+    """Writes the lines of a sheet, what screentab will answer to it, or the sheet of lines; and of a sheet of lines that is
+    refused a message."""
+    if way != "make":
+        sys.stdout.write(listing(bytes_of(path)) if way == "list" else screened(bytes_of(path)) + "\n")
         return
     own_sheet = make(text_of(path))
     sys.stdout.buffer.write(own_sheet)
@@ -418,8 +472,8 @@ def main(way, path):
 
 
 if __name__ == "__main__":
-    if len(sys.argv) != 3 or sys.argv[1] not in ("make", "list"):
-        sys.exit("csv_sheet.py make FILE.csv, or csv_sheet.py list FILE.sheet")
+    if len(sys.argv) != 3 or sys.argv[1] not in ("make", "list", "screen"):
+        sys.exit("csv_sheet.py make FILE.csv, csv_sheet.py list FILE.sheet, or csv_sheet.py screen FILE.sheet")
     try:
         main(sys.argv[1], sys.argv[2])
     except (NotUnderstood, OSError, UnicodeDecodeError) as why:

@@ -2,26 +2,28 @@
 # estimate, of the alias, of the run and of the blocking call with their outcomes. Each is listed with the answer that the
 # rules give; check() compares it with what rules/table.py, rules/totals.py and rules/blockings.py answer. Plans whose effects
 # are tried, by what the same files say of rows, divisors and weights. And the input and the expected text of the program
-# worked_answers, which tries them all.
+# worked_answers, which tries them all, but for the part about the screening call: it comes after this one, and is in
+# screening_answers.py.
 #
 # The program reads records, one for each table, refused or accepted, then one for each estimate, for each alias, for each
 # plan whose effects are tried, for each run and for each blocking: length, a byte, and so many bytes. These are a sheet,
 # which has readings and marks for a table alone, and a field 9: the call, a byte, 1 for the table, 2 for the estimate, 3 for
-# the alias, 4 for the effects, 5 for the run, 6 for the blocking, and what else the call takes. For a table it is how many
-# totals and rows are lent, a byte each; for an estimate the effect, two bytes, and its total, eight bytes in two's
-# complement; for an alias the effect, two bytes; for a run its number, two bytes; for a blocking, which has no sheet, k and
-# the number of words, a byte each, and how many places are lent, two bytes; all big-endian; for effects nothing.
+# the alias, 4 for the effects, 5 for the run, 6 for the blocking, 7 for the screening call, and what else the call takes. For
+# a table, and for the screening call, it is how many totals and rows are lent, a byte each; for an estimate the effect, two
+# bytes, and its total, eight bytes in two's complement; for an alias the effect, two bytes; for a run its number, two bytes;
+# for a blocking, which has no sheet, k and the number of words, a byte each, and how many places are lent, two bytes; all
+# big-endian; for effects nothing.
 #
-# The program writes a line for each record. Of a table it is `refused` with the number, or `made`; then `unchanged` where
-# all totals and rows hold what they held before the call, else `changed`. Of an estimate it is the outcome, a double as the
-# number that its 64 bits are. Of an alias it is `reduced` with the base word as a number, then `turned` or `unturned`; or
-# `refused` with the number. Of a run it is `high` with the set of letters as a number, then `block` with its number; or
-# `refused` with the number. Of effects it is `effects` with how many there are, and more lines follow, each with three
-# numbers, row, divisor and weight: one line for each effect, in order, and one for the first place after them, if there is
-# such a place. A plan that is refused with 2 or 3 has no effects. Of a blocking it is `written` with the number of lists, or
-# `refused` with the number; then `kept` with how many places hold what they held before the call, which is 65,535 less the
-# place and no word; then `checksum` with that of the column; and, of a column of up to 100 places, `column` with the number
-# at each place.
+# The program writes a line for each record. Of a table it is `refused` with the number; or `made`, `rows` with the row
+# numerators and `error` with its degrees and numerator; then `unchanged` where all totals and rows hold what they held before
+# the call, else `changed`. Of an estimate it is the outcome, a double as the number that its 64 bits are. Of an alias it is
+# `reduced` with the base word as a number, then `turned` or `unturned`; or `refused` with the number. Of a run it is `high`
+# with the set of letters as a number, then `block` with its number; or `refused` with the number. Of effects it is `effects`
+# with how many there are, and more lines follow, each with three numbers, row, divisor and weight: one line for each effect,
+# in order, and one for the first place after them, if there is such a place. A plan that is refused with 2 or 3 has no
+# effects. Of a blocking it is `written` with the number of lists, or `refused` with the number; then `kept` with how many
+# places hold what they held before the call, which is 65,535 less the place and no word; then `checksum` with that of the
+# column; and, of a column of up to 100 places, `column` with the number at each place.
 #
 # Checksum: it begins as 0 and becomes, for each place in order, 17 times itself plus the number at the place, modulo the prime
 # 65,521. Where two different words change places it is another one, since no power of 17 that matters is 1.
@@ -41,6 +43,8 @@
 #   RUNS             inputs of the run call: a plan and a run number
 #   BLOCKINGS        inputs of the blocking call: factors, words and places
 #   check            list of complaints, empty if all is well
+#   table_text       what the program writes of a table, and table_record: the record of one, for either table call
+#   numbered         texts with their numbers, and record_count: how many records there are
 #   expected_text    the expected text
 #   inputs           the input of the program (answers.py inputs)
 #   list_text        a line for each record, with its number and what is tried (answers.py list)
@@ -79,11 +83,11 @@ Blocking = namedtuple("Blocking", "k words places outcome")
 # What is tried of an effect of a plan.
 Effect = namedtuple("Effect", "row divisor weight")
 
-# The most readings, the most totals and rows, and the most places of a blocking, that the program can lend; the tag of the
-# field that names the call, and the calls.
-MOST_READINGS_LENT, MOST_LENT, MOST_PLACES_LENT = 32, 9, 3363
+# The most readings, totals and rows, and the most places of a blocking, that the program can lend; the tag of the field that
+# names the call, and the calls.
+MOST_LENT, MOST_PLACES_LENT = 32, 3363
 REST = 9
-TABLE, ESTIMATE, ALIAS, EFFECT, RUN, BLOCKING = 1, 2, 3, 4, 5, 6
+TABLE, ESTIMATE, ALIAS, EFFECT, RUN, BLOCKING, SCREENING = 1, 2, 3, 4, 5, 6, 7
 
 # The limit of a reading, by levels.
 TOP = totals_rules.MOST_READING
@@ -864,7 +868,7 @@ def check_effects():
 def check_lent():
     """The program can lend as much as every table wants."""
     return ["table, %s: too many places" % own.why for own in REFUSALS + ACCEPTED
-            if len(own.readings) > MOST_READINGS_LENT or max(own.totals_length, own.rows_length) > MOST_LENT]
+            if max(len(own.readings), own.totals_length, own.rows_length) > MOST_LENT]
 
 
 def check():
@@ -876,8 +880,11 @@ def check():
 # ---- expected text ----
 
 def table_text(own):
-    """What the program writes of a table. One that is accepted writes its totals and rows."""
-    return "refused %d, unchanged" % own.number if own.number else "made, changed"
+    """What the program writes of a table. One that is made has rows and error, and writes its totals and rows."""
+    if own.number:
+        return "refused %d, unchanged" % own.number
+    made = table_rules.table(own.plan, own.readings, own.marks)
+    return "made, rows%s, error %d %d, changed" % (examples.values_text(part.numerator for part in made.rows), *made.error)
 
 
 def estimate_text(own):
@@ -917,13 +924,18 @@ def blocked_text(own):
     return "%s, kept %d, checksum %d%s" % (own.outcome, kept, checksum(after), column)
 
 
-def numbered(texts):
-    """The texts, each with its number before it and on lines of its own."""
-    return "".join("%d: %s\n" % pair for pair in enumerate(texts, 1))
+def numbered(texts, first=1):
+    """The texts, each with its number before it and on lines of its own; the first has a number that is said."""
+    return "".join("%d: %s\n" % pair for pair in enumerate(texts, first))
+
+
+def record_count():
+    """How many records there are of tables, estimates, aliases, effects, runs and blockings."""
+    return sum(map(len, (REFUSALS, ACCEPTED, ESTIMATES, ALIASES, EFFECTS, RUNS, BLOCKINGS)))
 
 
 def expected_text():
-    """What the program that tries tables, estimates, aliases, effects, runs and blockings must write."""
+    """What the program that tries tables, estimates, aliases, effects, runs and blockings must write of them."""
     return numbered([table_text(own) for own in REFUSALS + ACCEPTED] + [estimate_text(own) for own in ESTIMATES]
                     + [reduced_text(own) for own in ALIASES] + [effects_text(plan) for plan in EFFECTS]
                     + [ran_text(own) for own in RUNS] + [blocked_text(own) for own in BLOCKINGS])
@@ -942,9 +954,9 @@ def record(plan, readings, marks, call, rest):
     return with_call(sheet_bytes.write(plan, readings, marks), call, rest)
 
 
-def table_record(own):
-    """The record of a table."""
-    return record(own.plan, own.readings, own.marks, TABLE, bytes([own.totals_length, own.rows_length]))
+def table_record(own, call=TABLE):
+    """The record of a table, of the table call if no other is said."""
+    return record(own.plan, own.readings, own.marks, call, bytes([own.totals_length, own.rows_length]))
 
 
 def estimate_record(own):

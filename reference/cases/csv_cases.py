@@ -9,6 +9,7 @@
 #   ABOUT_LIMITS             readings about the limits, on which the command itself is tried
 #   REPEATS_TOLD             repeats, and what the command tells of them
 #   WORDS_TOLD               block words and added factors at three levels, and what the command tells of them
+#   SCREENED_TOLD            added factors and marks, and what the command tells of their screening
 #   EXAMPLES                 the stored examples, and the worked table of each
 #   check                    list of complaints, empty if all is well
 
@@ -21,10 +22,11 @@ from pathlib import Path
 ROOT = Path(__file__).resolve().parents[2]
 sys.path[:0] = [str(ROOT), str(ROOT / "tools")]
 
-from csv_sheet import NotUnderstood, field_causes, listing, make, places, text_of
+from csv_sheet import NotUnderstood, field_causes, listing, make, places, screened, text_of
 from reference.cases import text_cases
 from reference.cases.answers import NINE
 from reference.published import analyses
+from reference.rules import screening as screening_rules
 from reference.rules import sheet_bytes
 from reference.rules import text as text_rules
 from reference.rules import totals as totals_rules
@@ -39,6 +41,7 @@ EXAMPLES = {
     "three_levels": analyses.DANIEL_LETTUCE,
     "repeated": analyses.POTATO_PLOTS,
     "three_blocks": analyses.FIRST_Y,
+    "screening": analyses.AMCP_HALF,
 }
 
 
@@ -221,6 +224,37 @@ WORDS_TOLD = [
     ("added,AB,0", AT_THREE_4),
 ]
 
+PRINTS = "screentab will print the table\n"
+ANSWERS = "screentab will answer: refused "
+WORDS_OF_21 = "a main effect and an interaction of two factors have one base word"
+WORDS_OF_MAINS = "the row of a main effect is marked as error"
+NO_SCREENING = "# no screening plan: "
+
+# Factors, what stands before the runs' lines, what is told of screening, and what the listing names, if it does. The first of
+# the list is plan 2 of AMCP's Table 12-4, the third plan 6, of which not all that meets is named.
+MET_TOLD = (2, "added,AB,1\nerror,A", ANSWERS + "21 (%s; A meets BC; B meets AC; C meets AB)\n" % WORDS_OF_21,
+            "A meets BC, B meets AC, C meets AB")
+SCREENED_TOLD = [
+    (3, "added,ABC,0", PRINTS, None),
+    (3, "added,ABC,1\nerror,AB\nerror,BC", PRINTS, None),
+    (3, "added,ABC,0\nadded,BC,0\nadded,AC,0",
+     ANSWERS + "21 (%s; A meets CF; A meets DE; B meets CE; B meets DF; C meets AF; C meets BE; D meets AE; D meets BF; "
+     "and others)\n" % WORDS_OF_21,
+     "A meets CF, A meets DE, B meets CE, B meets DF, C meets AF, C meets BE, D meets AE, D meets BF, and others"),
+    MET_TOLD,
+    (4, "added,ABC,0\nadded,ABCD,0", ANSWERS + "21 (%s; D meets EF; E meets DF; F meets DE)\n" % WORDS_OF_21,
+     "D meets EF, E meets DF, F meets DE"),
+    (5, "added,ABC,0\nadded,ADE,1\nadded,BCDE,0", ANSWERS + "21 (%s; F meets GH; G meets FH; H meets FG)\n" % WORDS_OF_21,
+     "F meets GH, G meets FH, H meets FG"),
+    (3, "added,ABC,0\nerror,ABC", ANSWERS + "13 (%s; row ABC, that of D, has mark 1)\n" % WORDS_OF_MAINS, None),
+    (3, "added,ABC,1\nerror,ABC\nerror,B\nerror,AC",
+     ANSWERS + "13 (%s; row B has mark 1; row ABC, that of D, has mark 1)\n" % WORDS_OF_MAINS, None),
+    (3, "error,ABC", PRINTS, None),
+    (3, "error,mean\nadded,AB,0", ANSWERS + "13 (a mark over 1, or mark 1 on the mean or a blocks row; row mean has mark 1)\n",
+     None),
+    (2, "added,AB,0\nadded,AB,1", ANSWERS + "6 (two added factors with one word)\n", None),
+]
+
 WORDS_OF_12 = "a reading beyond 1,000,000 either way at two levels, or beyond 100,000 at three"
 
 # Levels, the reading of run 0, and whether the command tells of 12. The others are those of the rules' two examples.
@@ -285,10 +319,15 @@ def check_make():
 
 def command_says(lines):
     """What the command writes of lines: the sheet, and the message."""
+    return command_writes("make", lines.encode())
+
+
+def command_writes(way, content):
+    """What the command writes of a file with some content, to standard output and to standard error."""
     with tempfile.TemporaryDirectory() as folder:
-        path = Path(folder) / "lines.csv"
-        path.write_text(lines, encoding="utf-8")
-        found = subprocess.run([sys.executable, "-B", str(ROOT / "tools" / "csv_sheet.py"), "make", str(path)],
+        path = Path(folder) / "content"
+        path.write_bytes(content)
+        found = subprocess.run([sys.executable, "-B", str(ROOT / "tools" / "csv_sheet.py"), way, str(path)],
                                stdout=subprocess.PIPE, stderr=subprocess.PIPE)
     return found.stdout, found.stderr.decode()
 
@@ -326,10 +365,10 @@ def check_repeats():
     return complaints
 
 
-def plain_lines(levels, k, block):
-    """Lines with a block word and readings that are all 7."""
+def plain_lines(levels, k, others):
+    """Some lines, after those of levels and factors, and readings that are all 7."""
     runs = [totals_rules.digits(levels, k, run) for run in range(totals_rules.run_count(levels, k))]
-    return "\n".join(["levels,%d" % levels, "factors,%d" % k, "block," + block]
+    return "\n".join(["levels,%d" % levels, "factors,%d" % k, others]
                      + ["run,%s,7" % ",".join(map(str, own)) for own in runs])
 
 
@@ -338,7 +377,7 @@ def check_three_words():
     letters in the order of the alphabet; and about the command on them."""
     complaints = []
     for k, cell, word, refused in THREE_WORDS:
-        own_sheet, plan = make(plain_lines(3, k, cell)), Plan(3, k, (), (word,))
+        own_sheet, plan = make(plain_lines(3, k, "block," + cell)), Plan(3, k, (), (word,))
         listed = ("# block word: %s" if refused else "block,%s") % "".join(sorted(re.findall("[A-P]2?", cell)))
         if own_sheet != sheet_bytes.write(plan, [7] * totals_rules.reading_count(plan), [0] * 2 ** k):
             complaints.append("%s with %d factors: another sheet" % (cell, k))
@@ -356,15 +395,42 @@ def check_three_words():
     return complaints
 
 
+def check_screened():
+    """Complaints about what is told of screening, and what the listing names; and about the command, which tells it, and where
+    it makes a sheet of which factab makes a table tells nothing."""
+    complaints = []
+    for k, others, told, listed in SCREENED_TOLD:
+        own_sheet = make(plain_lines(2, k, others))
+        if screened(own_sheet) + "\n" != told:
+            complaints.append("%r: what is told of screening" % others)
+        found = [line[len(NO_SCREENING):] for line in listing(own_sheet).split("\n") if line.startswith(NO_SCREENING)]
+        if found != ([listed] if listed else []):
+            complaints.append("%r: what the listing has of screening" % others)
+    at_three = ANSWERS + "9 (the screening profile is for two-level plans)\n"
+    for lines, told in (plain_lines(2, 2, MET_TOLD[1]), MET_TOLD[2]), ("\n".join(NINE_LINES), at_three):
+        if command_says(lines) != (make(lines), "") or command_writes("screen", make(lines)) != (told.encode(), ""):
+            complaints.append("the command on %r" % told)
+    return complaints
+
+
 def check_listing(own):
     """Complaints about the lines of a sheet: they make it again, or give the number of its refusal and a cause."""
     refused = text_rules.answer(own.sheet)
     lines = listing(own.sheet)
     if bool(field_causes(own.sheet)) != (refused == 1):
         return ["%s: cause" % own.name]
+    if (NO_SCREENING in lines) != (screening_rules.answer(own.sheet) == 21):
+        return ["%s: what meets" % own.name]
     if refused:
         return [] if lines.startswith("# refused %d: " % refused) else ["%s: number" % own.name]
     return [] if make(lines) == own.sheet else ["%s: its lines make another sheet" % own.name]
+
+
+def check_screening(own):
+    """Complaints about what is told of the screening of a sheet: the number and a cause, or that the table is printed."""
+    refused, told = screening_rules.answer(own.sheet), screened(own.sheet) + "\n"
+    meant = told.startswith(ANSWERS + "%d (" % refused) if refused else told == PRINTS
+    return [] if meant else ["%s: screening" % own.name]
 
 
 def check_example(name, own):
@@ -379,9 +445,9 @@ def check_example(name, own):
 
 def check():
     """List of all complaints about lines, the command, listings and stored examples."""
-    complaints = check_make() + check_limits() + check_repeats() + check_three_words()
+    complaints = check_make() + check_limits() + check_repeats() + check_three_words() + check_screened()
     for own in text_cases.SHEETS:
-        complaints += check_listing(own)
+        complaints += check_listing(own) + check_screening(own)
     for name, own in EXAMPLES.items():
         complaints += check_example(name, own)
     return complaints

@@ -10,6 +10,10 @@
 # of every effect of all letters, with rules/totals.py; and find the plans of Table 12-3 that have up to five factors among
 # the lists of block words of rules/blockings.py.
 #
+# Screening: in Table 12-4 a main effect and an interaction of two factors that stand in one row meet. The checks compare
+# these, the plans in which nothing meets, and the rows that may not be pooled, which are T and those of main effects, with
+# rules/screening.py.
+#
 # Damage: whether a wrong entry is in the print or only in the scan is not decided here. Each wrong entry has one
 # mend, with what is printed, what is meant and the reason. A mend is used only if the undamaged entries of the
 # same plan settle it, and check() tests this for every mend:
@@ -30,8 +34,10 @@
 #   MENDS                             the damaged entries
 #   ORDER_DEPARTURES                  the blocks that are right as sets but not in the usual order of the print
 #   LISTS                             how many lists of block words confound the effects of a plan of Table 12-3
+#   SCREENED                          what the screening call answers to the plans of Table 12-4
 #   mended_effects, mended_blocks     Table 12-3 after mending
 #   mended_rows                       Table 12-4 after mending
+#   fractional_plan                   a plan of Table 12-4 as the rules have it
 #   check                             list of complaints about tables and mends, empty if all is well
 #   table_12_3_text, table_12_4_text, expected_text   the expected text
 
@@ -42,7 +48,7 @@ from os.path import abspath, dirname
 
 sys.path.insert(0, dirname(dirname(dirname(abspath(__file__)))))
 
-from reference.rules import blockings
+from reference.rules import blockings, screening
 from reference.rules import totals as totals_rules
 
 BlockedPlan = namedtuple("BlockedPlan", "factors label effects blocks")
@@ -348,6 +354,9 @@ ORDER_DEPARTURES = [((7, "ii"), 3)]
 # By plan, of up to five factors: the printed effects are those of so many lists, of one word, of two and of three.
 LISTS = {(3, "i"): 1, (4, "i"): 1, (4, "ii"): 3, (5, "i"): 1, (5, "ii"): 3, (5, "iii"): 28}
 
+# By plan of Table 12-4: 21 where a main effect and an interaction of two factors stand in one row, else 0.
+SCREENED = {1: 21, 2: 0, 3: 0, 4: 21, 5: 0, 6: 21, 7: 0, 8: 0}
+
 
 def mends_of(table, plan, part):
     """The mends of one list of entries, in rising order of position."""
@@ -583,7 +592,41 @@ def computed_effects(plan, runs, word):
 
 def plan_of(plan, words):
     """A plan of Table 12-4 as the rules have it, by the words of its added factors, all of sign 0."""
-    return totals_rules.Plan(2, base_count(plan), [(found[0], 0) for found in words.values()])
+    return totals_rules.Plan(2, base_count(plan), tuple((found[0], 0) for found in words.values()))
+
+
+def fractional_plan(number):
+    """A plan of Table 12-4 as the rules have it, by its number; the words are read off the mended runs."""
+    plan = FRACTIONAL_PLANS[number - 1]
+    return plan_of(plan, words_of_added(plan, [number_of(run) for run, _ in mended_rows(plan)]))
+
+
+def met_in_row(effects):
+    """What meets in a row of Table 12-4: each of its main effects with each of its interactions of two factors, as places of
+    letters."""
+    letters = [[ord(letter) - ord("A") for letter in effect[1:]] for effect in effects]
+    return [(main[0], *pair) for main in letters if len(main) == 1 for pair in letters if len(pair) == 2]
+
+
+def screened(own, marked):
+    """What the screening call answers to a plan with readings 0 and some rows marked."""
+    places = 2 ** own.k
+    return screening.refused(own, [0] * places, [int(row in marked) for row in range(places)], places, places)
+
+
+def check_screening(plan, own):
+    """What meets in a plan of Table 12-4 is what stands in one row. A plan in which nothing does is admitted, also with all
+    rows marked that have no main effect and are not T, those with * among them; with any other row marked it is not."""
+    rows = [effects for _, effects in mended_rows(plan)]
+    met = sorted(meeting for effects in rows for meeting in met_in_row(effects))
+    mains = [row for row, effects in enumerate(rows) if any(len(effect) == 2 for effect in effects)]
+    others = [row for row in range(1, len(rows)) if row not in mains]
+    complaints = [] if screening.meetings(own) == met else ["what meets"]
+    if screened(own, []) != SCREENED[plan.number] or bool(met) != (SCREENED[plan.number] == 21):
+        complaints.append("screening")
+    if not met and (screened(own, others) != totals_rules.DONE or any(screened(own, [row]) != 13 for row in [0] + mains)):
+        complaints.append("rows that may be pooled when main effects are screened")
+    return ["table 12-4, plan %d: %s" % (plan.number, complaint) for complaint in complaints]
 
 
 def check_rules(name, own, runs):
@@ -617,7 +660,7 @@ def check_fractional_plan(plan):
     if any(len(found) != 1 for found in words.values()) or words != words_of_added(plan, runs):
         complaints.append(name + ": added letters not settled")
     else:
-        complaints += check_rules(name, plan_of(plan, words), runs)
+        complaints += check_rules(name, plan_of(plan, words), runs) + check_screening(plan, plan_of(plan, words))
     for word, ((run, effects), (_, printed)) in enumerate(zip(rows, plan.rows)):
         if sorted(effects) != sorted(computed_effects(plan, runs, word)):
             complaints.append("%s, row %s: effects are not the computed ones" % (name, run))

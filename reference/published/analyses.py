@@ -26,6 +26,9 @@
 # Lists: the block words of the two-level tables in blocks, of those with two to five factors and none added, are found among
 # the lists of rules/blockings.py; the two effects that are lost in Yates's squares are no list.
 #
+# Screening: of the published two-level tables rules/screening.py must refuse those that pool a main effect as error, with 13,
+# and no others; and Data Sample 12-4 where the row of D = ABC is marked.
+#
 # Defined here:
 #   TABLES                 the worked tables, numbered from 1 in this order
 #   IN_BLOCKS              those of two levels and two to five factors, none added, that are in blocks
@@ -37,6 +40,7 @@
 #   POOLED                 the report's columns in which rows of three levels are pooled, as far as they can be read
 #   KNOWN                  numerators of the extreme tables that are known without adding up
 #   TOGETHER               printed figures that add up the blocks of several tables
+#   MAINS_POOLED           the published tables that pool main effects, with the letters of these
 #   words_of_row           the words of three levels that use the letters of a row
 #   in_turn, each          readings with repeats: both limits in turn, and values for each run
 #   by_blocks              readings of three levels that are the same in each block
@@ -51,7 +55,7 @@ from itertools import combinations, product
 
 from reference.published import examples
 from reference.published.yates import WORDS
-from reference.rules import blockings
+from reference.rules import blockings, screening
 from reference.rules import table as table_rules
 from reference.rules import totals as totals_rules
 from reference.rules.table import row_number
@@ -624,6 +628,14 @@ TABLES = (
 
 IN_BLOCKS = [AMCP_BLOCKED, YATES_BEANS, INTERLACED, DANIEL_MANGOLDS, RULES_BLOCKS, POTATO_BLOCKED]
 
+# By title. In Daniel's half of the beans S, N and P are pooled; K, which is high when an odd number of D, N, P are, is not.
+MAINS_POOLED = {
+    DANIEL_CEMENT_FOUR.title: "A",
+    DANIEL_DRILL.title: "A",
+    DANIEL_HALF.title: "ACD",
+    RULES_ONE_FACTOR.title: "A",
+}
+
 
 # ---- damaged figures, and figures that are off ----
 
@@ -1144,6 +1156,29 @@ def check_block_words():
     return complaints
 
 
+def screened(own):
+    """What the screening call answers to a worked table."""
+    lengths = totals_rules.run_count(own.plan.levels, own.plan.k), table_rules.row_count(own.plan.k)
+    return screening.refused(own.plan, own.readings, marks_of(own), *lengths)
+
+
+def check_screened():
+    """The screening call refuses the published tables of three levels with 9, those that pool main effects with 13, and no
+    other. Data Sample 12-4 it refuses with 13 where the mean or a row is marked that Table 12-6 has for one of A to D."""
+    complaints = []
+    for own in TABLES:
+        pooled = MAINS_POOLED.get(own.title, "")
+        meant = 9 if own.plan.levels == 3 else 13 if pooled else totals_rules.DONE
+        if own.printed and screened(own) != meant:
+            complaints.append("%s: screening" % own.title)
+        if pooled and [chr(ord("A") + factor) for factor in screening.marked_mains(own.plan, marks_of(own))] != list(pooled):
+            complaints.append("%s: main effects that are pooled" % own.title)
+    refused = rows_of("mean A B C ABC")
+    if any(screened(AMCP_HALF._replace(marked=[row])) != (13 if row in refused else totals_rules.DONE) for row in range(8)):
+        complaints.append("AMCP, Data Sample 12-4: screening with a row marked")
+    return complaints
+
+
 def check_half():
     """The readings of half of the beans are the yields less 59, rounded."""
     complaints = []
@@ -1178,7 +1213,7 @@ def check_arrangement():
 def check():
     """List of all complaints about tables."""
     complaints = (check_lists() + check_pooled() + check_together() + check_sums() + check_pounds() + check_half()
-                  + check_arrangement() + check_block_words())
+                  + check_arrangement() + check_block_words() + check_screened())
     for own in TABLES:
         complaints += check_worked(own)
     return complaints

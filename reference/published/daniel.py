@@ -14,9 +14,14 @@
 # Blocks: the first two plans are the two blocks of one plan of three factors. The effect that is not told apart from the mean
 # in them is its block word, which is found among the lists of rules/blockings.py.
 #
+# Screening: a main effect and an interaction of two factors that stand in one row meet, whatever their signs. In the half
+# replicates of three factors and in the quarter they do, and the screening call refuses these plans.
+#
 # Defined here:
 #   PRINTED_PLANS    the plans with the rows as printed
 #   TWO_BLOCKS       those that are the blocks of one plan, block 0 first
+#   SCREENED         what the screening call answers to each plan
+#   ALL_PRINTED      the plans of which the rows have all that meets
 #   Published        a published alias: where it stands, plan, effect, base word, and whether their signs differ
 #   published        all of them
 #   check            list of complaints, empty if all is well
@@ -24,7 +29,7 @@
 import re
 from collections import namedtuple
 
-from reference.rules import blockings
+from reference.rules import blockings, screening
 from reference.rules import totals as totals_rules
 from reference.rules.table import row_number
 from reference.rules.totals import Plan
@@ -50,6 +55,10 @@ PRINTED_PLANS = [
 ]
 
 TWO_BLOCKS = PRINTED_PLANS[:2]
+
+# In the order of the plans. Of the odd block not all rows are printed; the last plan is the quarter.
+SCREENED = [21, 21, 0, 0, 0, 21]
+ALL_PRINTED = [PRINTED_PLANS[0], *PRINTED_PLANS[2:]]
 
 
 # ---- rows ----
@@ -130,9 +139,32 @@ def check_blocks():
     return [] if found == meant else ["Daniel, Section 11.4: the block word makes other blocks"]
 
 
+def met_in_rows(own):
+    """What meets in the rows: each main effect with each interaction of two factors that stands beside it, as places of
+    letters."""
+    found = []
+    for terms in rows_of(own):
+        letters = [[place for place in range(len(own.letters)) if effect >> place & 1] for effect, _ in terms]
+        found += [(main[0], *pair) for main in letters if len(main) == 1 for pair in letters if len(pair) == 2]
+    return sorted(found)
+
+
+def check_screening(own, number):
+    """What meets in the rows meets, and nothing else where the rows have all of it; and the plan is answered as listed."""
+    met, runs = screening.meetings(own.plan), 2 ** own.plan.k
+    complaints = []
+    if not set(met_in_rows(own)) <= set(met) or own in ALL_PRINTED and met_in_rows(own) != met:
+        complaints.append("what meets")
+    if screening.refused(own.plan, [0] * runs, [0] * runs, runs, runs) != number or bool(met_in_rows(own)) != (number == 21):
+        complaints.append("screening")
+    return ["Daniel, %s: %s" % (own.where, complaint) for complaint in complaints]
+
+
 def check():
     """List of all complaints about plans and rows; and aliases that are not those of rules/totals.py."""
     complaints = check_blocks() + [complaint for own in PRINTED_PLANS for complaint in check_plan(own)]
+    for own, number in zip(PRINTED_PLANS, SCREENED):
+        complaints += check_screening(own, number)
     for own in published():
         if totals_rules.alias(own.plan, own.effect) != (own.word, own.turned):
             complaints.append("%s, effect %d: not the alias of the rules" % (own.where, own.effect))

@@ -7,10 +7,12 @@
 --   SameWord p e f             two effects reduce to one base word
 --   Meet p                     a main effect and an interaction of two factors do
 --   MarkedMain p marks         the row of a main effect's base word has mark 1
---   Screens p                  what is known of a plan that the profile admits
+--   Screens p                  the plan is one of two levels that the plan check accepts, and nothing meets
+--   Admitted p                 the screening call answers of the plan with some readings, marks and columns
+--   Admits                     CLAIM: it does exactly where that is so
 --   Screened ..                what the screening call answers and leaves, in every case
 --   Screening                  THE CLAIM
---   ThreeCombine p             the words of three factors combine to nothing
+--   ThreeCombine p             the words of three factors combine to the empty word
 --   AboveThree                 CLAIM: nothing meets exactly when there are no three such factors
 use mathlib.Core.Path.{_≡_}
 use mathlib.Core.Bool.{Bool}
@@ -60,6 +62,15 @@ pub record Screens (p : Plan) : Type 0 where
   pub accepted : promisedCheck p ≡ given tt
   pub nothing-meets : Meet p → ⊥
 
+abbrev pub Admitted : Plan → Type 0
+Admitted p =
+    (readings : List ℤ) × (marks : List ℕ) × (totals : List ℤ) × (rows : List ℕ) × (f : Figures)
+    × (promisedScreen p readings marks totals rows .answer ≡ given f)
+
+-- V21: "admits a two-level plan exactly when [..]"
+abbrev pub Admits : Type 0
+Admits = (p : Plan) → (Admitted p → Screens p) × (Screens p → Admitted p)
+
 pub record Screened (p : Plan) (readings : List ℤ) (marks : List ℕ) (totals : List ℤ) (rows : List ℕ) : Type 0 where
   -- V21: it answers of no other plan, and where a main effect is marked it does not; and where it answers, the table call does, with the same
   -- figures
@@ -77,8 +88,8 @@ pub record Screened (p : Plan) (readings : List ℤ) (marks : List ℕ) (totals 
   pub plan-first : (n : ℕ) → promisedCheck p ≡ refused n → promisedScreen p readings marks totals rows .answer ≡ refused n
   -- N21: .. then 21, whatever else applies ..
   pub meeting : promisedCheck p ≡ given tt → Meet p → promisedScreen p readings marks totals rows .answer ≡ refused 21
-  -- N9: .. then 9
-  pub three : promisedCheck p ≡ given tt → p .levels ≡ 3 → promisedScreen p readings marks totals rows .answer ≡ refused 9
+  -- N9: .. and 9 at three levels, where nothing meets
+  pub three-levels : promisedCheck p ≡ given tt → p .levels ≡ 3 → promisedScreen p readings marks totals rows .answer ≡ refused 9
   -- D1.8: "and then writes nothing at all"
   pub unwritten : (n : ℕ) → promisedScreen p readings marks totals rows .answer ≡ refused n
       → (promisedScreen p readings marks totals rows .totals ≡ totals) × (promisedScreen p readings marks totals rows .rows ≡ rows)
@@ -86,7 +97,7 @@ pub record Screened (p : Plan) (readings : List ℤ) (marks : List ℕ) (totals 
 abbrev pub Screening : Type 0
 Screening = (p : Plan) (readings : List ℤ) (marks : List ℕ) (totals : List ℤ) (rows : List ℕ) → Screened p readings marks totals rows
 
--- ---- for readers: the trade's resolution above III
+-- ---- for readers: resolution above III, as the trade says. That there is no word of one letter or two besides, refusals 5 and 6 see to
 
 -- the effect of the letters of three factors reduces to the empty word
 pub record CombineAt (p : Plan) (i j l : ℕ) : Type 0 where

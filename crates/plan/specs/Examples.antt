@@ -11,6 +11,7 @@
 --   by-choice                           what the choices of some words combine to
 --   of-any-plan                         how many runs there are, and how far apart a factor's values lie, for any plan
 --   lower-first, sixteen-between        of the numbers 1 to 13 the lower comes first in the order of checks; 16 comes between 8 and 9
+--   twenty-one-next                     and 21 next after it
 use mathlib.Core.Path.{_≡_, refl}
 use mathlib.Core.Bool.{true, not, _||_}
 use mathlib.Core.List.{List, [], _∷_, _++_, map}
@@ -227,3 +228,8 @@ lower-first = refl
 sixteen-between : (ltb (rank 8) (rank 16) ≡ true) × (ltb (rank 16) (rank 9) ≡ true)
 unfolding rank
 sixteen-between = (refl, refl)
+
+-- L12: 21 comes after 16 and before 9
+twenty-one-next : (rank 21 ≡ suc (rank 16)) × (rank 9 ≡ suc (rank 21))
+unfolding rank
+twenty-one-next = (refl, refl)

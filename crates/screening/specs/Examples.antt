@@ -2,38 +2,46 @@
 --
 --   fraction k words     the two-level plan of k base factors and added factors of these words, with sign 0
 --   amcp                 the eight plans of AMCP 706-112, Table 12-4: effects meet in plans 1, 4 and 6
---   daniel               Daniel's quarter, D = AC and E = AB with its sign turned
---   among-added          effects that meet among added factors alone; a base factor's with two added factors'; two base factors' with an added one's
---   sign-aside           an effect and a pair that have one base word and other signs
---   never                whole plans, whatever their blocks, and one with three levels
+--   daniel               Daniel's quarter, D = AC with sign 0 and E = AB with sign 1: in print D = -AC and E = AB
+--   with-added           effects that meet among added factors alone; a base factor's with two added factors'
+--   sign-aside           the sign of an added factor plays no part
+--   never                nothing meets without an added factor, whatever the blocks
 --   by-three             the same by three factors' words
---   words                the base words of the factors of plan 2, and of a pair
+--   words, pair          the base words of the factors of plan 2, and of a pair
 --   order-of-checks      the numbers where several apply
---   marked-mains         13 for a marked main effect, base or added, and for no row besides
---   unchanged            a call that is refused
+--   marked-mains         13 for a marked main effect, base or added; other rows may be marked as in the table call
+--   marked-second        13 for the second of two added factors
+--   as-in-the-table      repeats and blocks are as in the table call
+--   made-columns, unchanged   a table that is made, and a call that is refused
 use mathlib.Core.Path.{_≡_, refl}
 use mathlib.Core.Bool.{Bool, true, false}
-use mathlib.Core.List.{List, [], _∷_, map}
+use mathlib.Core.List.{List, [], _∷_, _++_, map}
 use Prim.Native.Nat.{ℕ}
 use lib.IntN.{ℤ, pos}
 use lib.ListN.{length, replicate}
 use Rattle.algebra.specs.Naturals.{Σℕ}
 use Rattle.algebra.specs.Bits.{bits}
 use Rattle.algebra.specs.Search.{some}
-use Rattle.algebra.specs.Tab.{tab, tabFrom}
+use Rattle.algebra.specs.Sorted.{sumAt}
+use Rattle.algebra.specs.Sum.{Σ}
+use Rattle.algebra.specs.Tab.{tabFrom}
+use Rattle.contrasts.specs.Codings.{neg}
+use Rattle.contrasts.specs.Columns.{runSumsIn, totalsOf}
+use Rattle.contrasts.specs.Repeats.{runSums}
+use Rattle.contrasts.specs.Rows.{rowOf}
 use Rattle.contrasts.specs.Limits.{twoReadingLimit, threeReadingLimit, mostTwo, mostThree, isRepeats, mostReadings}
 use Rattle.contrasts.specs.Factors.{two, three}
-use Rattle.contrasts.specs.Totals.{size}
+use Rattle.contrasts.specs.Totals.{size, total, coef*, divisor*, denominator, weight*, numeratorOf}
 use Rattle.words.specs.Words.{letters, beyond, times, combined, any, among, repeated}
 use Rattle.plan.specs.declared.types.Plan.{Plan}
-use Rattle.plan.specs.Examples.{plan, made, AB, BC, ABC, AD, CD, BCD}
+use Rattle.plan.specs.Examples.{plan, made, AB, BC, ABC, AD, BCD}
 use Rattle.plan.specs.Limits.{readingLimit, isBeyond}
 use Rattle.plan.specs.Plan.{factorsOf, someCombination, combinesTo}
 use Rattle.plan.specs.Check.{badLevels, badFactors, badCounts, badWord, badSign, badWords, dependent, factorWord, losesFactor, badRepeats, planRefused, withPlan}
 use Rattle.aliases.specs.Alias.{baseWord}
 use Rattle.columns.specs.Refusals.{wrongLength, wrongReadings, anyBeyond}
 use Rattle.rows.specs.Kinds.{wrongRows, badMark, badMarks}
-use Rattle.anova.specs.Table.{wrongLengths}
+use Rattle.anova.specs.Table.{wrongLengths, blockAmount, rowLeft, rowsOf}
 use Rattle.screening.specs.Screening.{mainWords, pairWord, meet, markedMain, screenRefused, screenTotals, screenRows}
 use Rattle.screening.specs.Laws.Resolution.{threeCombine}
 
@@ -84,25 +92,26 @@ daniel : meet danielPlan ≡ true
 unfolding meet some any among baseWord combined times bits Σℕ tabFrom
 daniel = refl
 
--- F = ABC, G = ADE and H = BCDE: H and FG; E = ABC and F = ABCD: D and EF; C = AB: C and AB
+-- F = ABC, G = ADE and H = BCDE: H and FG; E = ABC and F = ABCD: D and EF
 abbrev addedPlans : List Plan
-addedPlans = fraction 5 (ABC ∷ ADE ∷ BCDE ∷ []) ∷ fraction 4 (ABC ∷ ABCD ∷ []) ∷ fraction 2 (AB ∷ []) ∷ []
+addedPlans = fraction 5 (ABC ∷ ADE ∷ BCDE ∷ []) ∷ fraction 4 (ABC ∷ ABCD ∷ []) ∷ []
 
-among-added : map meet addedPlans ≡ true ∷ true ∷ true ∷ []
+with-added : map meet addedPlans ≡ true ∷ true ∷ []
 unfolding meet some any among baseWord combined times bits Σℕ tabFrom
-among-added = refl
+with-added = refl
 
--- D = ABC and E = ABD with one sign of each kind: D meets nothing, and DE, which is CD, meets nothing; E = AB with either sign meets AB
-sign-aside : meet (plan 2 4 (ABC ∷ ABD ∷ []) (0 ∷ 1 ∷ []) []) ∷ meet (plan 2 2 (AB ∷ []) (0 ∷ []) []) ∷ meet (plan 2 2 (AB ∷ []) (1 ∷ []) []) ∷ []
-    ≡ false ∷ true ∷ true ∷ []
+-- C = AB: C and AB, with either sign
+sign-aside : meet (plan 2 2 (AB ∷ []) (0 ∷ []) []) ∷ meet (plan 2 2 (AB ∷ []) (1 ∷ []) []) ∷ [] ≡ true ∷ true ∷ []
 unfolding meet some any among baseWord combined times bits Σℕ tabFrom
 sign-aside = refl
 
-never : meet (plan 2 4 [] [] []) ∷ meet (plan 2 4 [] [] (AB ∷ CD ∷ [])) ∷ meet (plan 3 3 [] [] []) ∷ [] ≡ false ∷ false ∷ false ∷ []
+-- with the block word ABC, and with AD and ABC
+never : meet (plan 2 4 [] [] []) ∷ meet (plan 2 3 [] [] (ABC ∷ [])) ∷ meet (plan 2 4 [] [] (AD ∷ ABC ∷ [])) ∷ [] ≡ false ∷ false ∷ false ∷ []
 unfolding meet some any among baseWord combined times bits Σℕ tabFrom
 never = refl
 
-by-three : map threeCombine amcpPlans ≡ true ∷ false ∷ false ∷ true ∷ false ∷ true ∷ false ∷ false ∷ []
+by-three : map threeCombine amcpPlans ++ map threeCombine addedPlans
+    ≡ true ∷ false ∷ false ∷ true ∷ false ∷ true ∷ false ∷ false ∷ true ∷ true ∷ []
 unfolding threeCombine some baseWord combined times bits Σℕ
 by-three = refl
 
@@ -133,7 +142,7 @@ half = fraction 3 (ABC ∷ [])
 abbrev quarter : Plan
 quarter = fraction 3 (ABC ∷ BC ∷ [])
 
--- L14: none; 21; 16 before 21; 9; 16 before 9; 21 before 11, 12 and 13; 9 before 11; 11; 12; 4 before 21
+-- L14: none; 21; 16 before 21; 9; 16 before 9; 21 before 11; 21 before 12 and 13; 9 before 11; 11; 12 before 13 for a main effect; 4 before 21 and 9
 order-of-checks : number half none
     ∷ number quarter none
     ∷ number (made 3 quarter) none
@@ -144,8 +153,9 @@ order-of-checks : number half none
     ∷ screenRefused (plan 3 2 [] [] []) [] [] [] []
     ∷ screenRefused half [] none zeros none
     ∷ screenRefused half (replicate 8 (pos 1_000_001)) (0 ∷ 1 ∷ 0 ∷ 0 ∷ 0 ∷ 0 ∷ 0 ∷ 0 ∷ []) zeros none
+    ∷ number (plan 3 3 (AB ∷ []) (0 ∷ []) []) none
     ∷ []
-    ≡ 0 ∷ 21 ∷ 16 ∷ 9 ∷ 16 ∷ 21 ∷ 21 ∷ 9 ∷ 11 ∷ 12 ∷ []
+    ≡ 0 ∷ 21 ∷ 16 ∷ 9 ∷ 16 ∷ 21 ∷ 21 ∷ 9 ∷ 11 ∷ 12 ∷ 4 ∷ []
 unfolding screenRefused markedMain meet wrongLengths wrongRows wrongReadings wrongLength anyBeyond isBeyond badMarks badMark withPlan planRefused badLevels badFactors mostTwo mostThree badCounts badWords badWord badSign repeated dependent losesFactor factorWord badRepeats isRepeats mostReadings any among beyond letters combined times someCombination combinesTo some bits Σℕ readingLimit twoReadingLimit threeReadingLimit factorsOf size two three baseWord tabFrom
 order-of-checks = refl
 
@@ -163,13 +173,41 @@ marked-mains : map (number half)
 unfolding screenRefused markedMain meet wrongLengths wrongRows wrongReadings wrongLength anyBeyond isBeyond badMarks badMark withPlan planRefused badLevels badFactors mostTwo mostThree badCounts badWords badWord badSign repeated dependent losesFactor factorWord badRepeats isRepeats mostReadings any among beyond letters combined times someCombination combinesTo some bits Σℕ readingLimit twoReadingLimit threeReadingLimit factorsOf size two three baseWord tabFrom
 marked-mains = refl
 
+-- V22: E = ABC and F = BCD, with the row BCD marked
+marked-second : screenRefused (fraction 4 (ABC ∷ BCD ∷ [])) (replicate 16 (pos 0))
+    (0 ∷ 0 ∷ 0 ∷ 0 ∷ 0 ∷ 0 ∷ 0 ∷ 0 ∷ 0 ∷ 0 ∷ 0 ∷ 0 ∷ 0 ∷ 0 ∷ 1 ∷ 0 ∷ []) (replicate 16 (pos 0)) (replicate 16 0)
+    ≡ 13
+unfolding screenRefused markedMain meet wrongLengths wrongRows wrongReadings wrongLength anyBeyond isBeyond badMarks badMark withPlan planRefused badLevels badFactors mostTwo mostThree badCounts badWords badWord badSign repeated dependent losesFactor factorWord badRepeats isRepeats mostReadings any among beyond letters combined times someCombination combinesTo some bits Σℕ readingLimit twoReadingLimit threeReadingLimit factorsOf size two three baseWord tabFrom
+marked-second = refl
+
+-- V23: sixteen readings of eight runs made twice, and eight, which are too few; in blocks by AB, without a mark and with one on AB
+as-in-the-table : screenRefused (made 2 half) (replicate 16 (pos 0)) none zeros none
+    ∷ number (made 2 half) none
+    ∷ number (plan 2 3 (ABC ∷ []) (0 ∷ []) (AB ∷ [])) none
+    ∷ number (plan 2 3 (ABC ∷ []) (0 ∷ []) (AB ∷ [])) (0 ∷ 0 ∷ 0 ∷ 1 ∷ 0 ∷ 0 ∷ 0 ∷ 0 ∷ [])
+    ∷ []
+    ≡ 0 ∷ 11 ∷ 0 ∷ 13 ∷ []
+unfolding screenRefused markedMain meet wrongLengths wrongRows wrongReadings wrongLength anyBeyond isBeyond badMarks badMark withPlan planRefused badLevels badFactors mostTwo mostThree badCounts badWords badWord badSign repeated dependent losesFactor factorWord badRepeats isRepeats mostReadings any among beyond letters combined times someCombination combinesTo some bits Σℕ readingLimit twoReadingLimit threeReadingLimit factorsOf size two three baseWord tabFrom
+as-in-the-table = refl
+
+-- ---- columns
+
 abbrev sevens : List ℤ
 sevens = replicate 8 (pos 7)
 
 abbrev fives : List ℕ
 fives = replicate 8 5
 
--- L2: readings of 0 would leave totals and rows of 0
-unchanged : (screenTotals quarter zeros none sevens fives ≡ sevens) × (screenRows quarter zeros none sevens fives ≡ fives)
+abbrev readings : List ℤ
+readings = pos 3 ∷ pos 5 ∷ pos 4 ∷ pos 8 ∷ pos 2 ∷ pos 6 ∷ pos 7 ∷ pos 9 ∷ []
+
+-- V23: the totals and rows of the table call
+made-columns : (screenTotals half readings none sevens fives ≡ pos 44 ∷ neg 12 ∷ neg 12 ∷ pos 0 ∷ neg 4 ∷ pos 0 ∷ pos 4 ∷ pos 4 ∷ [])
+    × (screenRows half readings none sevens fives ≡ 1936 ∷ 144 ∷ 144 ∷ 0 ∷ 16 ∷ 0 ∷ 16 ∷ 16 ∷ [])
+unfolding screenTotals screenRows rowsOf rowLeft blockAmount runSumsIn runSums totalsOf total coef* divisor* denominator weight* numeratorOf rowOf sumAt Σ screenRefused markedMain meet wrongLengths wrongRows wrongReadings wrongLength anyBeyond isBeyond badMarks badMark withPlan planRefused badLevels badFactors mostTwo mostThree badCounts badWords badWord badSign repeated dependent losesFactor factorWord badRepeats isRepeats mostReadings any among beyond letters combined times someCombination combinesTo some bits Σℕ readingLimit twoReadingLimit threeReadingLimit factorsOf size two three baseWord tabFrom
+made-columns = (refl, refl)
+
+-- L2: the same, of a plan that is refused
+unchanged : (screenTotals quarter readings none sevens fives ≡ sevens) × (screenRows quarter readings none sevens fives ≡ fives)
 unfolding screenTotals screenRows screenRefused markedMain meet wrongLengths wrongRows wrongReadings wrongLength anyBeyond isBeyond badMarks badMark withPlan planRefused badLevels badFactors mostTwo mostThree badCounts badWords badWord badSign repeated dependent losesFactor factorWord badRepeats isRepeats mostReadings any among beyond letters combined times someCombination combinesTo some bits Σℕ readingLimit twoReadingLimit threeReadingLimit factorsOf size two three baseWord tabFrom
 unchanged = (refl, refl)

@@ -1,6 +1,7 @@
 // Tries the table call on plans, readings and marks that it refuses and on large readings that it accepts, the estimate, the alias, the run and
-// the blocking call, and the rows, divisors and weights of effects, by the records of its input. `reference/cases/answers.py` makes the input and
-// the text that this program must write, and says how both are laid out.
+// the blocking call, the rows, divisors and weights of effects, and the screening call, by the records of its input. `reference/cases/answers.py`
+// makes the input and the text that this program must write, and says how both are laid out; `reference/cases/screening_answers.py` makes the part
+// about the screening call.
 mod estimated;
 mod listed;
 mod placed;
@@ -20,15 +21,16 @@ use tabled::try_table;
 use text::print;
 use weighed::try_effects;
 
-// Field 9 is the call, a byte, and what else it takes: 1 is the table, 2 the estimate, 3 the alias, 4 the effects, 5 the run, 6 the blocking.
+// Field 9 is the call, a byte, and what else it takes: 1 is the table, 2 the estimate, 3 the alias, 4 the effects, 5 the run, 6 the blocking, 7 the
+// screening call, which is tried as the table is.
 fn work(number: u64, record: &[u8]) {
     io::print_decimal(1, number);
     print(b":");
     let p = plan_in(record);
     let rest = body(record, 9, 0);
     let call = byte(rest, 0);
-    if call == 1 {
-        try_table(p, record, byte(rest, 1), byte(rest, 2));
+    if call == 1 || call == 7 {
+        try_table(p, record, rest);
     } else if call == 2 {
         try_estimate(p, rest);
     } else if call == 3 {

@@ -4,37 +4,45 @@
 --   meet-true, meet-there      two effects meet by the alias call exactly where they do by the definition
 --   marked-true, marked-there  and so a main effect is marked
 --   screened                   what the screening call answers and leaves
---   screening, above-three     the proofs
+--   zeros-answered             the call answers readings of 0 without a mark
+--   screening, admits, above-three     the proofs
 use mathlib.Core.Path.{_≡_, refl, sym, ap, _∙_, subst}
 use mathlib.Core.Logic.{_⊎_, inl, inr}
 use mathlib.Core.Bool.{Bool, true, false, cond, true≢false}
 use mathlib.Core.List.{List}
 use Prim.Native.Nat.{ℕ, _+_, _^_, _<_}
+use native.Mathlib.Decide.{decLt}
 use native.Mathlib.Nat.{pow-suc}
 use native.Mathlib.Omega.{arith}
-use borrow.Author.Tests.{eq-eqb, ne-eqb, eqb-true}
+use borrow.Author.Tests.{le-ltb, eq-eqb, ne-eqb, eqb-true}
 use lib.Dec.{eqb}
-use lib.IntN.{ℤ}
-use lib.ListN.{length, getD}
+use lib.IntN.{ℤ, pos}
+use lib.ListN.{length, getD, replicate, length-replicate, getD-replicate}
 use lib.Pow.{pow-lt, pow-mono}
+use Rattle.algebra.specs.Laws.Search.{some-false}
+use Rattle.algebra.specs.Laws.Tab.{getD-past}
 use Rattle.algebra.specs.Laws.Tests.{fails}
 use Rattle.words.specs.Laws.Letters.{beyond-none}
 use Rattle.plan.specs.declared.types.Plan.{Plan}
 use Rattle.plan.specs.Check.{planRefused}
 use Rattle.plan.specs.Outcome.{given, refused, outcome}
-use Rattle.plan.specs.Plan.{addedWords, allLetters}
+use Rattle.plan.specs.Limits.{readingLimit, isBeyond}
+use Rattle.plan.specs.Plan.{addedWords, allLetters, runsOf, allReadings}
 use Rattle.plan.specs.Laws.Accepted.{accepted, sizes}
 use Rattle.plan.specs.Laws.Answers.{given-with, refused-with, given-is, refused-is, plan-first, plan-passed, unwritten}
 use Rattle.aliases.specs.Alias.{aliasRefused, aliasValues}
 use Rattle.aliases.specs.Laws.Counted.{alias-two}
+use Rattle.columns.specs.Refusals.{anyBeyond}
+use Rattle.rows.specs.Kinds.{rowsIn, badMark, badMarks}
 use Rattle.anova.specs.declared.types.Figures.{Figures}
 use Rattle.anova.specs.Table.{tableRefusals, tableRefused, tableFigures, tableTotals, tableRows}
-use Rattle.screening.specs.Screening.{mainWord, pairWord, meet, markedMain, screenRefusals, screenRefused, screenTotals, screenRows}
-use Rattle.screening.specs.Laws.Admitted.{Admitted, admitted, by-table}
+use Rattle.anova.specs.Laws.Admitted.{table-admits}
+use Rattle.screening.specs.Screening.{mainWord, meet, markedMain, screenRefusals, screenRefused, screenTotals, screenRows}
+use Rattle.screening.specs.Laws.Admitted.{admitted, by-table}
 use Rattle.screening.specs.Laws.Meeting as test
 use Rattle.screening.specs.Laws.Resolution as three
-use Rattle.promises.specs.Promised.{promisedCheck, promisedAlias, promisedTable, promisedScreen}
-use Rattle.claims.specs.Screening.{ReducesTo, MeetAt, Meet, MarkedAt, MarkedMain, Screens, Screened, Screening, CombineAt, ThreeCombine, AboveThree}
+use Rattle.promises.specs.Promised.{Tabled, promisedCheck, promisedTable, promisedScreen}
+use Rattle.claims.specs.Screening.{ReducesTo, Meet, MarkedMain, Screens, Admitted as IsAdmitted, Admits, Screened, Screening, ThreeCombine, AboveThree}
 
 -- ---- base words by the alias call
 
@@ -109,13 +117,13 @@ not-three p two e = omega (arith, two, e)
 -- ---- the screening call
 
 module _ (p : Plan) (readings : List ℤ) (marks : List ℕ) (totals : List ℤ) (rows : List ℕ) where
-  number : ℕ
+  abbrev number : ℕ
   number = screenRefused p readings marks totals rows
 
-  of-table : ℕ
+  abbrev of-table : ℕ
   of-table = tableRefused p readings marks totals rows
 
-  figures : Figures
+  abbrev figures : Figures
   figures = tableFigures p readings marks
 
   -- the number of a plan that the profile admits
@@ -188,7 +196,7 @@ module _ (p : Plan) (readings : List ℤ) (marks : List ℕ) (totals : List ℤ)
         let other : n ≡ 0 → ⊥ = λ z. t .1 (sym (t .0) ∙ z) in
         stops other (sym (plan-first p (screenRefusals p readings marks totals rows) (t .0) other));
     meeting = λ e s. stops (λ z. omega (arith, z)) (by-table p readings marks totals rows (ok-by p e) ∙ rw (meet-true p s) refl);
-    three = λ e l.
+    three-levels = λ e l.
         let ok = ok-by p e in
         stops (λ z. omega (arith, z)) (by-table p readings marks totals rows ok ∙ rw (meets-nothing ok l, eq-eqb (p .levels) 3 l) refl);
     unwritten = λ n e.
@@ -198,6 +206,52 @@ module _ (p : Plan) (readings : List ℤ) (marks : List ℕ) (totals : List ℤ)
 
 pub screening : Screening
 screening = screened
+
+-- ---- the plans that are admitted
+
+module _ (p : Plan) (s : Screens p) where
+  abbrev readings : List ℤ
+  readings = replicate (allReadings p) (pos 0)
+
+  -- totals and rows may hold anything
+  abbrev totals : List ℤ
+  totals = replicate (runsOf p) (pos 0)
+
+  abbrev unmarked : List ℕ
+  unmarked = replicate (rowsIn p) 0
+
+  -- a place past the end reads 0 too
+  reads-zero : {A : Type 0} (n i : ℕ) (a : A) → getD (replicate n a) i a ≡ a
+  reads-zero n i a = by (decLt i n)
+    where
+      by : Dec (i < n) → getD (replicate n a) i a ≡ a
+      by (yes h) = getD-replicate n i a a h
+      by (no h) = getD-past a (replicate n a) i (omega (arith, length-replicate n a))
+
+  zeros-answered : tableRefused p (replicate (allReadings p) (pos 0)) (replicate (rowsIn p) 0) (replicate (runsOf p) (pos 0)) (replicate (rowsIn p) 0) ≡ 0
+  unfolding anyBeyond isBeyond badMarks badMark
+  zeros-answered =
+      table-admits p readings unmarked totals unmarked (ok-by p (s .accepted)) (length-replicate (allReadings p) (pos 0)) (length-replicate (runsOf p) (pos 0))
+      (length-replicate (rowsIn p) 0) (length-replicate (rowsIn p) 0)
+      (some-false (length readings) _ (λ i h. rw (reads-zero (allReadings p) i (pos 0)) (le-ltb (readingLimit p) 0 (omega arith))))
+      (some-false (length unmarked) _ (λ w h. rw (reads-zero {A = ℕ} (rowsIn p) w 0) refl))
+
+  none-marked : MarkedMain p (replicate (rowsIn p) 0) → ⊥
+  none-marked (m, w, t) = omega (arith, t .mark, reads-zero {A = ℕ} (rowsIn p) w 0)
+
+pub admits : Admits
+admits p = (λ (readings, marks, totals, rows, f, e). answers p readings marks totals rows f e .0, λ s. made s)
+  where
+    made : Screens p → IsAdmitted p
+    made s = (
+      readings p s,
+      unmarked p s,
+      totals p s,
+      unmarked p s,
+      tableFigures p (readings p s) (unmarked p s),
+      ap (λ (t : Tabled). t .answer) (screened p (readings p s) (unmarked p s) (totals p s) (unmarked p s) .ordinary s (none-marked p s))
+          ∙ given-with (tableRefused p (readings p s) (unmarked p s) (totals p s) (unmarked p s)) (tableFigures p (readings p s) (unmarked p s)) (zeros-answered p s),
+    )
 
 -- ---- resolution above III
 

@@ -4,10 +4,10 @@ use Rattle.worked_answers.proofs.tabled.is_kept.Statement.{statement}
 use Rattle.worked_answers.proofs.tabled.is_kept.Tie as tie
 
 abbrev Inv-loop : tie.InvT-loop
-Inv-loop totals rows i₀ i = i ≤ 9
+Inv-loop totals rows i₀ i = i ≤ 32
 
 abbrev μ-loop : tie.MeasureT-loop
-μ-loop totals rows i₀ i = 9 - i
+μ-loop totals rows i₀ i = 32 - i
 
 pub is-kept-spec : {M : Type 1} → statement M
 is-kept-spec =
