@@ -34,8 +34,9 @@ fn do_meet(k: usize, added: usize, mains: [u16; 16]) -> bool
     requires { ⌜ (k ≤ 10) × (added ≤ 6) ⌝ }
     ensures { λ r. ⌜ r ≡ somePair (take (k + added) mains) (take (k + added) mains) ⌝ }
 {
+    let factors = k + added;
     let words = mains;
-    any_met(&words[..k + added], &mains[..k + added])
+    any_met(&words[..factors], &mains[..factors])
 }
 
 // Whether the row of a factor's word has mark 1.
@@ -43,7 +44,8 @@ fn is_main_marked(k: usize, added: usize, mains: [u16; 16], marks: &[u8]) -> boo
     requires { ⌜ (k ≤ 10) × (added ≤ 6) ⌝ }
     ensures { λ r. ⌜ r ≡ any (marked (now (marks .entry))) (take (k + added) mains) ⌝ }
 {
-    any_marked(&mains[..k + added], marks)
+    let factors = k + added;
+    any_marked(&mains[..factors], marks)
 }
 
 // The first number in the order of checks: 21, 9, the table call's, and 13 again.

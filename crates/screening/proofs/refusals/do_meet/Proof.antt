@@ -1,7 +1,6 @@
 use mathlib.Core.Path.{sym}
 use native.Mathlib.Omega.{arith}
 use lib.Seq.{length-take-le}
-use borrow.Author.Needs.{needs}
 use Rattle.screening.proofs.refusals.do_meet.Statement.{statement}
 use Rattle.screening.proofs.refusals.do_meet.Tie as tie
 
@@ -9,11 +8,10 @@ pub do-meet-spec : {M : Type 1} → statement M
 do-meet-spec =
     tie.close
     (tie.spec
-    (λ c. search needs)
-    (λ c. search needs)
+    (λ c. omega arith)
+    (λ c. omega arith)
     (λ c. sym (length-take-le _ _ (omega arith)))
-    (λ c. search needs)
-    (λ c. search needs)
+    (λ c. omega arith)
     (λ c. sym (length-take-le _ _ (omega arith)))
     (λ c κs. tt)
-    (λ c. search needs))
+    (λ c. c .any-met .ensures))

@@ -1,7 +1,6 @@
 use mathlib.Core.Path.{sym}
 use native.Mathlib.Omega.{arith}
 use lib.Seq.{length-take-le}
-use borrow.Author.Needs.{needs}
 use Rattle.screening.proofs.refusals.is_main_marked.Statement.{statement}
 use Rattle.screening.proofs.refusals.is_main_marked.Tie as tie
 
@@ -9,8 +8,8 @@ pub is-main-marked-spec : {M : Type 1} → statement M
 is-main-marked-spec =
     tie.close
     (tie.spec
-    (λ c. search needs)
-    (λ c. search needs)
+    (λ c. omega arith)
+    (λ c. omega arith)
     (λ c. sym (length-take-le _ _ (omega arith)))
     (λ c κs. tt)
-    (λ c. search needs))
+    (λ c. c .any-marked .ensures))
