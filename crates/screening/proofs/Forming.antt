@@ -8,7 +8,7 @@ use Prim.Native.Nat.{ℕ, _+_, _^_, _<_, _≤_}
 use native.Mathlib.Omega.{arith}
 use lib.ListN.{length, getD, set, take, replicate}
 use Rattle.algebra.specs.Tab.{tab}
-use Rattle.algebra.specs.Laws.Fill.{Filled, filled-blank, filled-long, filled-more, filled-first}
+use Rattle.algebra.specs.Laws.Fill.{Filled, filled-blank, filled-more, filled-first}
 use Rattle.algebra.specs.Laws.Tab.{tab-cong}
 use Rattle.aliases.specs.Alias.{baseWord}
 use Rattle.screening.specs.Inner.Formed.{mainFormed}
@@ -22,9 +22,6 @@ pub forming-none : (k : ℕ) (words : List ℕ) (factors : ℕ) → Forming k wo
 forming-none k words factors = record { within = omega arith; filled = filled-blank 0 16 (λ j. mainFormed k words j) 0 }
 
 module _ {k : ℕ} {words : List ℕ} {factors i : ℕ} {mains : List ℕ} (w : Forming k words factors i mains) where
-  pub forming-long : length mains ≡ 16
-  forming-long = filled-long 0 (w .filled)
-
   pub forming-more : i < factors → factors ≤ 16 → {v : ℕ} → v ≡ mainFormed k words i → Forming k words factors (i + 1) (set mains i v)
   forming-more h few e = record { within = omega arith; filled = filled-more 0 (w .filled) (omega arith) e }
 

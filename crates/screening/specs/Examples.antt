@@ -14,7 +14,7 @@
 --   as-in-the-table      repeats and blocks are as in the table call
 --   made-columns, unchanged   a table that is made, and a call that is refused
 use mathlib.Core.Path.{_≡_, refl}
-use mathlib.Core.Bool.{Bool, true, false}
+use mathlib.Core.Bool.{true, false}
 use mathlib.Core.List.{List, [], _∷_, _++_, map}
 use Prim.Native.Nat.{ℕ}
 use lib.IntN.{ℤ, pos}

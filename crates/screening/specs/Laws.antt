@@ -2,8 +2,8 @@
 --
 --   Words       the base words of main effects and of interactions of two factors
 --   Meeting     what the tests of the profile say, factor by factor
---   Admitted    what is made of the table call's number
---   Resolution  nothing meets exactly when no three factors' words combine to nothing
+--   Admitted    the call's number, by that of the table call
+--   Resolution  nothing meets exactly when no three factors' words combine to the empty word
 --   Alike       places beyond the counts are ignored
 pub mod Words
 pub mod Meeting

@@ -1,7 +1,7 @@
 // Whether two words combine to one of some others.
 ghost use mathlib.Core.Path.{_≡_};
 ghost use Prim.Native.Nat.{_<_};
-ghost use lib.ListN.{length, getD};
+ghost use lib.ListN.{length};
 use words::is_among;
 ghost use Rattle.screening.specs.Inner.Formed.{pairsWith, somePair};
 

@@ -27,7 +27,7 @@ use Rattle.plan.specs.declared.types.Plan.{Plan}
 use Rattle.plan.specs.Check.{planRefused}
 use Rattle.plan.specs.Outcome.{given, refused, outcome}
 use Rattle.plan.specs.Limits.{readingLimit, isBeyond}
-use Rattle.plan.specs.Plan.{addedWords, allLetters, runsOf, allReadings}
+use Rattle.plan.specs.Plan.{allLetters, runsOf, allReadings}
 use Rattle.plan.specs.Laws.Accepted.{accepted, sizes}
 use Rattle.plan.specs.Laws.Answers.{given-with, refused-with, given-is, refused-is, plan-first, plan-passed, unwritten}
 use Rattle.aliases.specs.Alias.{aliasRefused, aliasValues}

@@ -1,12 +1,11 @@
--- Nothing meets exactly when no three factors' words combine to nothing: when the plan's resolution, as the trade says, is above III.
+-- Nothing meets exactly when no three factors' words combine to the empty word: when the plan's resolution, as the trade says, is above III.
 --
---   threeCombine p        three factors' words combine to nothing
---   Combined p i j l      those of i, j and l do
+--   threeCombine p             three factors' words combine to the empty word
+--   Combined p i j l           those of i, j and l do
 --   combined-at, combined-by   where the test holds there are such factors, and where there are it holds
---   meet-three            of an accepted plan two effects meet exactly when that is so
+--   meet-three                 of an accepted plan two effects meet exactly when that is so
 use mathlib.Core.Path.{_≡_, refl, sym, ap, _∙_}
 use mathlib.Core.Bool.{Bool, true, false}
-use mathlib.Core.List.{List}
 use Prim.Native.Nat.{ℕ, _+_, _-_, _/_, _%_, _^_, _<_}
 use native.Mathlib.Decide.{decLt, ℕ-discrete}
 use native.Mathlib.Nat.{pow-suc}
@@ -19,8 +18,7 @@ use lib.Pow.{pow-pos, pow-mono, pow-lt}
 use Rattle.algebra.specs.Search.{some}
 use Rattle.algebra.specs.Laws.Bits.{xor-none, xor-back}
 use Rattle.algebra.specs.Laws.Search.{some-true, some-at}
-use Rattle.algebra.specs.Laws.Tab.{length-tab}
-use Rattle.words.specs.Words.{letters, any, among}
+use Rattle.words.specs.Words.{letters}
 use Rattle.words.specs.Laws.Combined.{combined-small}
 use Rattle.words.specs.Laws.Letters.{letters-none}
 use Rattle.plan.specs.declared.types.Plan.{Plan}
@@ -29,7 +27,7 @@ use Rattle.plan.specs.Laws.Accepted.{Accepted}
 use Rattle.plan.specs.Laws.Sizes.{letters-few}
 use Rattle.aliases.specs.Alias.{baseWord}
 use Rattle.aliases.specs.Laws.BaseWord.{base-both}
-use Rattle.screening.specs.Screening.{reducedWord, mainWord, mainWords, pairWord, meet}
+use Rattle.screening.specs.Screening.{reducedWord, mainWord, meet}
 use Rattle.screening.specs.Inner.Formed.{mainFormed}
 use Rattle.screening.specs.Laws.Meeting.{Met, met, meets}
 use Rattle.screening.specs.Laws.Words.{pair-word, main-formed}
@@ -99,14 +97,8 @@ module _ (p : Plan) where
 module _ (p : Plan) (a : Accepted p) (bits : (j : ℕ) → j < length (addedWords p) → getD (addedWords p) j 0 < 2 ^ 16) where
   -- no factor's word is empty
   some-letter : (i : ℕ) → i < allLetters p → mainWord p i ≡ 0 → ⊥
-  some-letter i h e = by (decLt i k) (sym (main-formed k ws (letters-few p a) bits i h) ∙ e)
+  some-letter i h e = by (decLt i (p .k)) (sym (main-formed (p .k) (addedWords p) (letters-few p a) bits i h) ∙ e)
     where
-      k : ℕ
-      k = p .k
-
-      ws : List ℕ
-      ws = addedWords p
-
       by : Dec (i < p .k) → mainFormed (p .k) (addedWords p) i ≡ 0 → ⊥
       by (yes l) z = omega (arith, (rw (lt-ltb i (p .k) l) at z), pow-pos i)
       by (no l) z =

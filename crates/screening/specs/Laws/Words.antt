@@ -1,10 +1,11 @@
 -- The base words of main effects and of interactions of two factors, as code forms them.
 --
 --   pair-word       the base word of an interaction of two factors is the combination of theirs
+--   main-at         the word of factor i in the list of all
 --   meet-pairs      so two effects meet where two of the factors' words combine to a factor's
 --   main-formed     that of the main effect of a base factor is its letter, of an added factor the word that the plan has for it
-use mathlib.Core.Path.{_≡_, refl, sym, ap, _∙_}
-use mathlib.Core.Bool.{Bool, true, false, cond}
+use mathlib.Core.Path.{_≡_, sym, ap, _∙_}
+use mathlib.Core.Bool.{Bool, cond}
 use mathlib.Core.List.{List, []}
 use Prim.Native.Nat.{ℕ, _+_, _-_, _^_, _<_, _≤_}
 use native.Mathlib.Decide.{decLt}

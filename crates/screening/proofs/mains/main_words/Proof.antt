@@ -1,7 +1,7 @@
 use mathlib.Core.Path.{refl}
 use Prim.Native.Nat.{_-_}
 use native.Mathlib.Omega.{arith}
-use Rattle.screening.proofs.Forming.{Forming, forming-none, forming-more, forming-long, forming-all}
+use Rattle.screening.proofs.Forming.{Forming, forming-none, forming-more, forming-all}
 use Rattle.screening.proofs.mains.main_words.Statement.{statement}
 use Rattle.screening.proofs.mains.main_words.Tie as tie
 
