@@ -14,13 +14,15 @@
 #   crates/worked_texts/stdin     the records of the sheets, which that program reads
 #   crates/factab/stdout          the text that the rules print: cases/text_cases.py
 #   crates/factab/stdin           the sheet of that text, which that program reads
+#   crates/screentab/stdout       the text that is worked by hand: cases/screen_cases.py
+#   crates/screentab/stdin        the sheet of that text, which that program reads
 #   crates/blockwords/stdout      the lists of block words for the two numbers in crates/blockwords/args: rules/blockings.py
 #
 # Each of these files also checks what it lists against rules/. Beside them published/analyses.py compares published
 # analyses of variance with rules/table.py, published/daniel.py published aliases with rules/totals.py, rules/blockings.py
 # its lists of block words with the plan check of rules/totals.py, rules/screening.py what meets in small plans with what
-# their words say, and cases/csv_cases.py tries tools/csv_sheet.py and compares the sheets of examples/ with the lines that
-# they are made from.
+# their words say, cases/screen_cases.py counts the kinds of sheets that it makes, and cases/csv_cases.py tries
+# tools/csv_sheet.py and compares the sheets of examples/ with the lines that they are made from.
 #
 # Defined here:
 #   PROGRAMS, INPUTS, OTHERS   which file makes and checks what
@@ -32,7 +34,7 @@ from pathlib import Path
 ROOT = Path(__file__).resolve().parent.parent
 sys.path.insert(0, str(ROOT))
 
-from reference.cases import answers, csv_cases, screening_answers, sheet_cases, text_cases
+from reference.cases import answers, csv_cases, screen_cases, screening_answers, sheet_cases, text_cases
 from reference.published import amcp, analyses, daniel, examples, yates
 from reference.rules import blockings, screening
 
@@ -49,7 +51,7 @@ PROGRAMS = [
 INPUTS = ["worked_answers", "worked_sheets", "worked_texts"]
 
 # Reference files beside these that have something to check.
-OTHERS = [analyses, daniel, blockings, screening, csv_cases]
+OTHERS = [analyses, daniel, blockings, screening, screen_cases, csv_cases]
 
 
 def path_of(module):
@@ -96,6 +98,8 @@ def complaints():
             found += differs(crate, "stdin", modules, b"".join(module.inputs() for module in modules))
     found += differs("factab", "stdout", [text_cases], text_cases.RULES_TEXT)
     found += differs("factab", "stdin", [text_cases], text_cases.RULES_SHEET)
+    found += differs("screentab", "stdout", [screen_cases], screen_cases.HALF_TEXT)
+    found += differs("screentab", "stdin", [screen_cases], screen_cases.HALF_SHEET)
     return found + words_differ()
 
 

@@ -1,16 +1,20 @@
-# A stage of the gate: runs the programs factab and blockwords as they were linked, beside reference/rules/text.py and
-# reference/rules/blockings.py: which bytes they read and write by way of the system, no contract can say. As a command:
+# A stage of the gate: runs the programs factab, blockwords and screentab as they were linked, beside reference/rules/text.py,
+# reference/rules/blockings.py and reference/rules/screening.py: which bytes they read and write by way of the system, no
+# contract can say. As a command:
 #
-#   python3 .ci/program.py FACTAB BLOCKWORDS
+#   python3 .ci/program.py FACTAB BLOCKWORDS SCREENTAB
 #
-# FACTAB and BLOCKWORDS are the paths of the programs. Of each run the text must be that of rules/text.py or of
-# rules/blockings.py; on standard error there must be nothing, or the line that tells that a read or a write failed, or which
-# arguments are wanted; and the run must end within a time limit and not by a signal. Every difference is printed; the last
-# two lines say how many there are, one line for each program, and the exit is 1 if there is one.
+# FACTAB, BLOCKWORDS and SCREENTAB are the paths of the programs. Of each run the text must be that of the program's file of
+# rules/; on standard error there must be nothing, or the line that tells that a read or a write failed, or which arguments
+# are wanted; and the run must end within a time limit and not by a signal. Every difference is printed; the last three lines
+# say how many there are, one line for each program, and the exit is 1 if there is one.
 #
 # The runs of factab: sheets of no byte to a megabyte, most of about 5,187; the sheets of examples/; sheets with readings at
 # the limits and beyond them, of two and of three levels, with repeats and in three blocks too; inputs that come in parts or
 # late; inputs and outputs that are closed or fail; and 500 sheets of cases/compare.py from a seed that is always the same.
+#
+# The runs of screentab are made in the same way, with readings about the limits of fewer plans; and 300 sheets of
+# cases/screen_cases.py from a seed that is always the same.
 #
 # The runs of blockwords: factors from 0 to 7 and far more, each with words from 0 to 4 and far more; numbers with zeros
 # before them, numbers whose last bytes are lawful ones, and numbers of as many digits as an argument may have; arguments that
@@ -18,14 +22,17 @@
 #
 # Defined here:
 #   Run                              a run: its name, what the program is given, and what must be seen
-#   sized, stored, limited           the runs of factab, by what is tried: sizes, stored sheets, readings about the limits
+#   Reader                           a program that reads a sheet: its name, and what it must write for an input
+#   sized, stored, limited           its runs, by what is tried: sizes, stored sheets, readings about the limits
 #   parted, failing                  inputs in parts, and inputs and outputs that fail
 #   counted, spelled, faulty         the runs of blockwords: factors and words, ways to write a number, faulty arguments
 #   words_failing                    its inputs and outputs that are closed or fail
 #   seen, complaints_of              what is seen of a run, and how it differs from what is meant
 #   part_taken                       the same of a run whose output takes a part of the text
-#   factab_runs, blockwords_runs     all runs of a program: name and complaints of each
-#   tried, all_tried                 makes the runs of a program, or of both, and prints the differences
+#   reader_runs                      the runs of a program that reads a sheet: name and complaints of each
+#   factab_runs, screentab_runs      all runs of a program but those of sheets from a seed
+#   blockwords_runs                  all runs of a program
+#   tried, all_tried                 makes the runs of a program, or of all three, and prints the differences
 
 import fcntl
 import os
@@ -40,14 +47,15 @@ from threading import Timer
 
 sys.path.insert(0, str(Path(__file__).resolve().parent.parent))
 
-from reference.cases import compare
+from reference.cases import compare, screen_cases
 from reference.cases.answers import SIDES, about_limit, named
 from reference.cases.compare import difference
 from reference.cases.csv_cases import EXAMPLES, FOLDER
 from reference.cases.sheet_cases import Numbers
-from reference.cases.text_cases import RULES_SHEET, RULES_TEXT
+from reference.cases.text_cases import RULES_SHEET
 from reference.published.analyses import MOST_REPEATED, THREE_BLOCKED
 from reference.rules import blockings as blocking_rules
+from reference.rules import screening as screening_rules
 from reference.rules import sheet_bytes
 from reference.rules import text as text_rules
 from reference.rules.table import row_count
@@ -64,10 +72,9 @@ SHORT, LATE = 0.002, 0.2
 # The size of the smallest pipe, and the request of Linux that sets it.
 PIPE, SET_PIPE_SIZE = 4096, 1031
 
-# What the programs say on standard error; rules/blockings.py has what blockwords says of its arguments.
-NOT_READ = b"factab: the input cannot be read\n"
-NOT_WRITTEN = b"factab: the text cannot be written\n"
-WORDS_NOT_WRITTEN = b"blockwords: the text cannot be written\n"
+# What the programs say on standard error, after their name; rules/blockings.py has what blockwords says of its arguments.
+NOT_READ, NOT_WRITTEN = b"%s: the input cannot be read\n", b"%s: the text cannot be written\n"
+WORDS_NOT_WRITTEN = NOT_WRITTEN % b"blockwords"
 
 # Factors and words that blockwords is given, each with each.
 FACTORS_TRIED, WORDS_TRIED = (*range(8), 255, 256, 1000), (*range(5), 256)
@@ -79,17 +86,27 @@ LONG = (4_095, 4_096, 4_097, 65_535, 65_536, 65_537, 131_071)
 # error are what must be on standard output and standard error; arguments are those of the program.
 Run = namedtuple("Run", "name parts how text error arguments", defaults=((),))
 
+# text is the function that makes what must be on standard output of an input.
+Reader = namedtuple("Reader", "name text")
+FACTAB, SCREENTAB = Reader(b"factab", text_rules.text), Reader(b"screentab", screening_rules.text)
 
-# ---- the runs of factab ----
 
-def in_parts(name, parts):
+# ---- the runs of a program that reads a sheet ----
+
+def of_reader(reader, name, parts, how, text, error):
+    """A run of a program that reads a sheet, with the program in its name."""
+    return Run("%s, %s" % (reader.name.decode(), name), parts, how, text, error)
+
+
+def in_parts(reader, name, parts):
     """A run whose input comes in parts."""
-    return Run(name, parts, "", text_rules.text(b"".join(part for part in parts if isinstance(part, bytes))), b"")
+    text = reader.text(b"".join(part for part in parts if isinstance(part, bytes)))
+    return of_reader(reader, name, parts, "", text, b"")
 
 
-def of_sheet(name, own_sheet):
+def of_sheet(reader, name, own_sheet):
     """A run on a sheet."""
-    return in_parts("%s, %d bytes" % (name, len(own_sheet)), [own_sheet])
+    return in_parts(reader, "%s, %d bytes" % (name, len(own_sheet)), [own_sheet])
 
 
 def of_four_levels(added, blocks):
@@ -102,26 +119,26 @@ def fewer_words(contents):
     return contents._replace(plan=contents.plan._replace(blocks=contents.plan.blocks[:-1]))
 
 
-def sized(contents):
+def sized(reader, contents):
     """Runs on sheets by their length; the contents are those of a longest sheet."""
     longest = sheet_bytes.write(*contents)
-    runs = [of_sheet("no byte", b""), of_sheet("one byte", bytes([sheet_bytes.PLAN]))]
-    runs += [of_sheet("lawful, with a word less", sheet_bytes.write(*fewer_words(contents)))]
-    runs += [of_sheet("lawful", longest), of_sheet("lawful, without the last byte", longest[:-1])]
-    runs += [of_sheet("lawful, and a byte more", longest + bytes([last])) for last in (0, 1, 255)]
-    runs += [of_sheet("four levels", of_four_levels(*words)) for words in ((0, 1031), (1, 1030), (2, 1029))]
-    runs += [of_sheet("zeros", bytes(length)) for length in (MOST - 1, MOST, MOST + 1, MEGABYTE)]
-    runs += [of_sheet("lawful, and zeros", own.ljust(MEGABYTE, b"\0")) for own in (longest, RULES_SHEET)]
-    return runs
+    sheets = [("no byte", b""), ("one byte", bytes([sheet_bytes.PLAN]))]
+    sheets += [("lawful, with a word less", sheet_bytes.write(*fewer_words(contents)))]
+    sheets += [("lawful", longest), ("lawful, without the last byte", longest[:-1])]
+    sheets += [("lawful, and a byte more", longest + bytes([last])) for last in (0, 1, 255)]
+    sheets += [("four levels", of_four_levels(*words)) for words in ((0, 1031), (1, 1030), (2, 1029))]
+    sheets += [("zeros", bytes(length)) for length in (MOST - 1, MOST, MOST + 1, MEGABYTE)]
+    sheets += [("lawful, and zeros", own.ljust(MEGABYTE, b"\0")) for own in (longest, RULES_SHEET)]
+    return [of_sheet(reader, *own) for own in sheets]
 
 
-def stored():
+def stored(reader):
     """Runs on the sheets of examples/, each a file that is the input."""
     paths = [FOLDER / (name + ".sheet") for name in EXAMPLES]
-    return [Run(path.name, [], "<" + quote(str(path)), text_rules.text(path.read_bytes()), b"") for path in paths]
+    return [of_reader(reader, path.name, [], "<" + quote(str(path)), reader.text(path.read_bytes()), b"") for path in paths]
 
 
-def limited(plan):
+def limited(reader, plan):
     """Runs on sheets of a plan: all readings at a limit; and one, at the first, a middle and the last place, at a limit of
     either level count or one beyond it, where the others are 0."""
     top, count = MOST_READING[plan.levels], reading_count(plan)
@@ -129,7 +146,7 @@ def limited(plan):
     for size in [limit + more for limit in MOST_READING.values() for more in (0, 1)]:
         columns += [("%s %d" % (name, sum(readings)), readings) for name, _, readings in about_limit([0] * count, size)]
     blocks = ", block words %s" % list(plan.blocks) if plan.blocks else ""
-    return [of_sheet("%s, k = %d%s, %s" % (named(plan), plan.k, blocks, name),
+    return [of_sheet(reader, "%s, k = %d%s, %s" % (named(plan), plan.k, blocks, name),
                      sheet_bytes.write(plan, readings, [0] * row_count(plan.k))) for name, readings in columns]
 
 
@@ -143,36 +160,37 @@ def chunks(numbers, own_sheet, most):
     return parts
 
 
-def parted(numbers, longest):
+def parted(reader, numbers, longest):
     """Runs on inputs that come byte by byte, in other parts, or late."""
     small = RULES_SHEET
-    runs = [in_parts("byte by byte", [part for byte in small for part in (bytes([byte]), SHORT)])]
-    runs += [in_parts("bytes of 5,187", chunks(numbers, longest, 1))]
-    runs += [in_parts("parts of 5,187, up to %d" % most, chunks(numbers, longest, most)) for most in (7, 100, 2000)]
-    runs += [in_parts("parts of 5,188", chunks(numbers, longest + b"\0", 2000))]
-    runs += [in_parts("5,187, the last byte late", [longest[:-1], LATE, longest[-1:]])]
-    runs += [in_parts("a late beginning", [LATE, small]), in_parts("nothing, and a late end", [LATE])]
-    runs += [in_parts("a late end of %d" % len(own), [own, LATE]) for own in (small, longest)]
-    runs += [in_parts("a byte more, late, after %d" % len(own), [own, LATE, b"\0"]) for own in (small, longest)]
-    return runs
+    inputs = [("byte by byte", [part for byte in small for part in (bytes([byte]), SHORT)])]
+    inputs += [("bytes of 5,187", chunks(numbers, longest, 1))]
+    inputs += [("parts of 5,187, up to %d" % most, chunks(numbers, longest, most)) for most in (7, 100, 2000)]
+    inputs += [("parts of 5,188", chunks(numbers, longest + b"\0", 2000))]
+    inputs += [("5,187, the last byte late", [longest[:-1], LATE, longest[-1:]])]
+    inputs += [("a late beginning", [LATE, small]), ("nothing, and a late end", [LATE])]
+    inputs += [("a late end of %d" % len(own), [own, LATE]) for own in (small, longest)]
+    inputs += [("a byte more, late, after %d" % len(own), [own, LATE, b"\0"]) for own in (small, longest)]
+    return [in_parts(reader, *own) for own in inputs]
 
 
-def failing():
+def failing(reader):
     """Runs with an input or an output that is closed or fails, and with standard error closed."""
-    own, meant = [RULES_SHEET], RULES_TEXT
-    return [
-        Run("a closed input", [], "<&-", b"", NOT_READ),
-        Run("a directory as input", [], "</", b"", NOT_READ),
-        Run("an empty file as input", [], "</dev/null", text_rules.text(b""), b""),
-        Run("a closed output", own, ">&-", b"", NOT_WRITTEN),
-        Run("an output that is full", own, ">/dev/full", b"", NOT_WRITTEN),
-        Run("a closed input and a closed output", [], "<&- >&-", b"", NOT_READ),
-        Run("standard error closed", own, "2>&-", meant, b""),
-        Run("standard error and the input closed", [], "<&- 2>&-", b"", b""),
-        Run("standard error and the output closed", own, ">&- 2>&-", b"", b""),
-        Run("standard error and the output full", own, ">/dev/full 2>/dev/full", b"", b""),
-        Run("all closed", [], "<&- >&- 2>&-", b"", b""),
-    ]
+    own, meant = [RULES_SHEET], reader.text(RULES_SHEET)
+    not_read, not_written = NOT_READ % reader.name, NOT_WRITTEN % reader.name
+    return [of_reader(reader, *run) for run in (
+        ("a closed input", [], "<&-", b"", not_read),
+        ("a directory as input", [], "</", b"", not_read),
+        ("an empty file as input", [], "</dev/null", reader.text(b""), b""),
+        ("a closed output", own, ">&-", b"", not_written),
+        ("an output that is full", own, ">/dev/full", b"", not_written),
+        ("a closed input and a closed output", [], "<&- >&-", b"", not_read),
+        ("standard error closed", own, "2>&-", meant, b""),
+        ("standard error and the input closed", [], "<&- 2>&-", b"", b""),
+        ("standard error and the output closed", own, ">&- 2>&-", b"", b""),
+        ("standard error and the output full", own, ">/dev/full 2>/dev/full", b"", b""),
+        ("all closed", [], "<&- >&- 2>&-", b"", b""),
+    )]
 
 
 # ---- the runs of blockwords ----
@@ -320,20 +338,40 @@ def part_taken(program, run, least):
 
 # ---- the command ----
 
-def factab_runs(program):
-    """All runs of factab but those of cases/compare.py: name and complaints of each."""
-    numbers = Numbers(SEED)
-    contents = compare.longest(numbers)
+def reader_runs(program, reader, numbers, contents, others):
+    """The runs of a program that reads a sheet: name and complaints of each. The contents are those of a longest sheet, of which
+    there is a table; others are runs beside those that every such program has."""
     longest = sheet_bytes.write(*contents)
-    if text_rules.answer(longest) or len(longest) != MOST:
-        sys.exit("the longest sheet is not lawful or not of %d bytes" % MOST)
+    whole = of_sheet(reader, "the longest", longest)
+    if len(longest) != MOST or not whole.text.startswith(b"over "):
+        sys.exit("the longest sheet of %s is not lawful or not of %d bytes" % (reader.name.decode(), MOST))
+    for run in sized(reader, contents) + stored(reader) + others + parted(reader, numbers, longest) + failing(reader):
+        yield run.name, complaints_of(program, run)
+    part = whole._replace(name=whole.name + ", an output that takes a part", error=NOT_WRITTEN % reader.name)
+    yield part.name, part_taken(program, part, PIPE)
+
+
+def factab_runs(program):
+    """All runs of factab but those of cases/compare.py."""
+    numbers = Numbers(SEED)
     plans = [Plan(levels, k) for levels, most in MOST_FACTORS.items() for k in (1, most)]
     plans += [plan for most in MOST_REPEATED.values() for plan in most] + THREE_BLOCKED
-    about_limits = [run for plan in plans for run in limited(plan)]
-    for run in sized(contents) + stored() + about_limits + parted(numbers, longest) + failing():
-        yield run.name, complaints_of(program, run)
-    whole = of_sheet("the longest", longest)._replace(error=NOT_WRITTEN)
-    yield "an output that takes a part", part_taken(program, whole, PIPE)
+    about_limits = [run for plan in plans for run in limited(FACTAB, plan)]
+    return reader_runs(program, FACTAB, numbers, compare.longest(numbers), about_limits)
+
+
+# Plans of screentab for readings about the limits: whole, three levels, D = ABC with sign 1, each run made twice, C = AB.
+SCREENED = [Plan(2, 1), Plan(3, 1), Plan(2, 3, ((7, 1),)), Plan(2, 3, ((7, 0),), (3,), 2), Plan(2, 2, ((3, 0),))]
+
+
+def screentab_runs(program):
+    """All runs of screentab but those of cases/screen_cases.py."""
+    numbers = Numbers(screen_cases.SEED)
+    contents = screen_cases.longest(numbers)
+    others = [of_sheet(SCREENTAB, name, sheet_bytes.write(*change(contents)))
+              for name, change in screen_cases.LONGEST_REFUSED.items()]
+    others += [run for plan in SCREENED for run in limited(SCREENTAB, plan)]
+    return reader_runs(program, SCREENTAB, numbers, contents, others)
 
 
 def blockwords_runs(program):
@@ -357,19 +395,24 @@ def tried(runs):
     return count, wrong
 
 
-def all_tried(factab, blockwords):
-    """Makes all runs of both programs, and says of each how many there were and how many differ; whether any does."""
+def all_tried(factab, blockwords, screentab):
+    """Makes all runs of the programs, and says of each how many there were and how many differ; whether any does."""
+    found = {}
     count, wrong = tried(factab_runs(factab))
     differences, _ = compare.compare(factab, COUNT, SEED)
-    words_count, words_wrong = tried(blockwords_runs(blockwords))
-    print("factab: %d runs, %d differences" % (count + COUNT, wrong + differences))
-    print("blockwords: %d runs, %d differences" % (words_count, words_wrong))
-    return bool(wrong or differences or words_wrong)
+    found["factab"] = count + COUNT, wrong + differences
+    found["blockwords"] = tried(blockwords_runs(blockwords))
+    count, wrong = tried(screentab_runs(screentab))
+    differences, _ = compare.compare(screentab, screen_cases.COUNT, screen_cases.SEED, screen_cases.made, screening_rules.text)
+    found["screentab"] = count + screen_cases.COUNT, wrong + differences
+    for name, (count, wrong) in found.items():
+        print("%s: %d runs, %d differences" % (name, count, wrong))
+    return any(wrong for _, wrong in found.values())
 
 
 if __name__ == "__main__":
-    if len(sys.argv) != 3:
-        sys.exit("program.py FACTAB BLOCKWORDS")
+    if len(sys.argv) != 4:
+        sys.exit("program.py FACTAB BLOCKWORDS SCREENTAB")
     try:
         wrong = all_tried(*sys.argv[1:])
     except OSError as why:

@@ -12,13 +12,15 @@
 # third of each lawful, spoiled and damaged, and a third with repeats where the plan may have them. A tenth are bytes that
 # are no sheet or hardly one. A tenth are about 5,187 bytes long or longer, up to 200,000, or the longest with repeats. In
 # all about a third have a field 6, and about a third of the three-level plans that are lawful are in three blocks.
+# screen_cases.py compares the program screentab in the same way, on other sheets.
 #
 # Defined here:
 #   made_bytes, made_long    bytes that are hardly a sheet, and long ones
 #   made                     a sheet with a name, of any of these kinds
 #   answer_of                what a program writes for a sheet
-#   difference               how that differs from what rules/text.py writes, in words
+#   difference               how that differs from what is meant, in words
 #   compare                  tries a program on sheets, prints the differences and counts them, and what is answered
+#   command                  does so as a command
 
 import os
 import subprocess
@@ -154,13 +156,13 @@ def difference(meant, found):
     return "line %d: meant %r, found %r; %d bytes meant, %d found" % (number + 1, *lines, len(meant), len(found))
 
 
-def compare(program, count, seed):
-    """The number of sheets, of so many, for which a program does not write the text of rules/text.py, each of which is
-    printed; and how often each answer is meant."""
+def compare(program, count, seed, made=made, text=text_rules.text):
+    """The number of sheets, of so many that are made, for which a program does not write the text that is meant, each of which
+    is printed; and how often each answer is meant."""
     numbers, answers, differences = Numbers(seed), Counter(), 0
     for number in range(1, count + 1):
         own = made(numbers)
-        meant = text_rules.text(own.sheet)
+        meant = text(own.sheet)
         found, ended = answer_of(program, own.sheet)
         complaints = [complaint for complaint in (difference(meant, found), ended) if complaint]
         if complaints:
@@ -170,16 +172,21 @@ def compare(program, count, seed):
     return differences, answers
 
 
-if __name__ == "__main__":
-    if not 2 <= len(sys.argv) <= 4 or not all(text.isdecimal() for text in sys.argv[2:]):
-        sys.exit("compare.py PROGRAM [COUNT [SEED]]")
-    count = int(sys.argv[2]) if len(sys.argv) > 2 else COUNT
-    seed = int(sys.argv[3]) if len(sys.argv) > 3 else int.from_bytes(os.urandom(4), "big")
+def command(name, arguments, made, text):
+    """Compares a program as a command with some arguments, says how often each answer is meant, and exits."""
+    if not 1 <= len(arguments) <= 3 or not all(own.isdecimal() for own in arguments[1:]):
+        sys.exit("%s PROGRAM [COUNT [SEED]]" % name)
+    count = int(arguments[1]) if len(arguments) > 1 else COUNT
+    seed = int(arguments[2]) if len(arguments) > 2 else int.from_bytes(os.urandom(4), "big")
     print("seed %d" % seed, flush=True)
     try:
-        differences, answers = compare(sys.argv[1], count, seed)
+        differences, answers = compare(arguments[0], count, seed, made, text)
     except OSError as why:
         sys.exit(str(why))
     print("answers: " + ", ".join("%d %d times" % pair for pair in sorted(answers.items())))
     print("%d sheets from seed %d, %d differences" % (count, seed, differences))
     sys.exit(1 if differences else 0)
+
+
+if __name__ == "__main__":
+    command("compare.py", sys.argv[1:], made, text_rules.text)

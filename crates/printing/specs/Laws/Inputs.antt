@@ -13,7 +13,7 @@ use lib.ListN.{length, take, drop}
 use lib.Seq.{take-all, length-take-le}
 use Rattle.text.specs.Text.{ascii}
 use Rattle.lines.specs.Lines.{namedLine}
-use Rattle.printing.specs.Input.{Decides}
+use Rattle.printing.specs.Input.{DecidesFor}
 use Rattle.printing.specs.Printed.{printed, longestSheet, printRefused, textOf}
 
 -- ---- the input
@@ -29,16 +29,16 @@ first-bytes n whole h = by (decLe (length whole) n)
     by (yes short) = ap textOf (take-all n whole short)
     by (no long) = refused-long (take n whole) (rw (length-take-le n whole (omega (arith, long))) h) ∙ sym (refused-long whole (omega (arith, h, long)))
 
--- ---- the buffer
+-- ---- the buffer, of any text that a sheet has
 
--- a count beyond the buffer is that of a full one
-pub full-buffer : (buffer : List ℕ) (count : ℕ) (before : List ℕ) → length buffer ≤ count → {r : ℕ} {after : List ℕ}
-    → (r ≡ length (textOf buffer)) × (after ≡ textOf buffer ++ drop r before)
-    → (r ≡ length (textOf (take count buffer))) × (after ≡ textOf (take count buffer) ++ drop r before)
-full-buffer buffer count before h t = rw (take-all count buffer h) t
+module _ (text : List ℕ → List ℕ) (buffer : List ℕ) (count : ℕ) where
+  -- a count beyond the buffer is that of a full one
+  pub full-buffer : (before : List ℕ) → length buffer ≤ count → {r : ℕ} {after : List ℕ}
+      → (r ≡ length (text buffer)) × (after ≡ text buffer ++ drop r before)
+      → (r ≡ length (text (take count buffer))) × (after ≡ text (take count buffer) ++ drop r before)
+  full-buffer before h t = rw (take-all count buffer h) t
 
--- a buffer of n bytes, one more than the longest sheet has
-pub promised : (buffer : List ℕ) (count : ℕ) {n : ℕ} → length buffer ≡ n → n ≡ suc longestSheet
-    → {A B : Type 0} → A × B → A × (B × (Decides buffer count × (length buffer ≡ suc longestSheet)))
-promised buffer count long more t =
-    (t .0, (t .1, ((λ whole held. ap textOf held ∙ first-bytes (length buffer) whole (omega (arith, long, more))), long ∙ more)))
+  -- a buffer of n bytes, one more than the longest sheet has
+  pub promised : ((n : ℕ) (whole : List ℕ) → longestSheet < n → text (take n whole) ≡ text whole) → {n : ℕ} → length buffer ≡ n → n ≡ suc longestSheet
+      → {A B : Type 0} → A × B → A × (B × (DecidesFor text buffer count × (length buffer ≡ suc longestSheet)))
+  promised first long more t = (t .0, (t .1, ((λ whole held. ap text held ∙ first (length buffer) whole (omega (arith, long, more))), long ∙ more)))

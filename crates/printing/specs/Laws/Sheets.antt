@@ -1,5 +1,6 @@
 -- The text of a sheet, from what the reader and the marks call give.
 --
+--   own-plan, own-marks, own-readings    what they give of an accepted sheet is what its fields hold
 --   sheet-ready                          of an accepted sheet all that the table asks is known
 --   sheet-made, sheet-stopped            the text of an accepted sheet, and of one that is refused
 use mathlib.Core.Path.{_≡_, refl, sym, ap, _∙_}
@@ -51,11 +52,11 @@ module _ (sheet : List ℕ) (before : List ℤ) (long : length before ≡ 1024) 
 
     module _ {p : Plan} {column : List ℤ} {marks : List ℕ}
         (plan-is : p ≡ readPlan sheet (length before)) (column-is : column ≡ readColumn sheet before) (marks-are : marks ≡ marksOf sheet) where
-      own-plan : p ≡ planIn (fieldsOf sheet)
+      pub own-plan : p ≡ planIn (fieldsOf sheet)
       unfolding readPlan
       own-plan = plan-is ∙ sym (written-new (readRefused sheet (length before)) (planIn (fieldsOf sheet)) noPlan accepted)
 
-      own-marks : marks ≡ marksIn (fieldsOf sheet)
+      pub own-marks : marks ≡ marksIn (fieldsOf sheet)
       unfolding marksOf
       own-marks = marks-are ∙ sym (written-new (marksRefused sheet) (marksIn (fieldsOf sheet)) [] (accepted-without sheet (length before) accepted))
 
@@ -68,7 +69,7 @@ module _ (sheet : List ℕ) (before : List ℤ) (long : length before ≡ 1024) 
       readings-are : length (readingsIn (fieldsOf sheet)) ≡ allReadings (planIn (fieldsOf sheet))
       readings-are = all-readings (planIn (fieldsOf sheet)) (length (readingsIn (fieldsOf sheet))) (read-admitted sheet (length before) accepted .readings)
 
-      own-readings : take (allReadings p) column ≡ readingsIn (fieldsOf sheet)
+      pub own-readings : take (allReadings p) column ≡ readingsIn (fieldsOf sheet)
       own-readings = rw (own-plan, own-column) (take-at (readingsIn (fieldsOf sheet)) (drop (length (readingsIn (fieldsOf sheet))) before) (allReadings (planIn (fieldsOf sheet))) readings-are)
 
       pub sheet-ready : SheetReady p column marks

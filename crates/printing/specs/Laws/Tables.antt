@@ -4,7 +4,9 @@
 --   refused-text, given-text     what is printed with a number, and with none
 --   rows-ready                   the rows that the table call writes
 --   made-text, stopped-text      the text of a table that is made, and of one that is refused
---   few-runs, few-readings, readings-long, few-rows
+--   runs-are, readings-are, rows-count
+--                                runs, readings and rows of an accepted plan, as code counts them
+--   few-runs, readings-long, few-rows
 --                                the parts that are lent to the table call
 --   lent-text                    the text of an accepted sheet's table
 use mathlib.Core.Path.{_≡_, refl, sym, ap, ap₂, _∙_}
@@ -20,7 +22,7 @@ use Rattle.algebra.specs.Laws.Machine.{wrap, kept}
 use Rattle.algebra.specs.Laws.Tab.{length-tab}
 use Rattle.plan.specs.declared.types.Plan.{Plan}
 use Rattle.plan.specs.Outcome.{outcome}
-use Rattle.plan.specs.Check.{runCount, readingCount}
+use Rattle.plan.specs.Check.{runCount, readingCount, planRefused}
 use Rattle.plan.specs.Plan.{runsOf, allReadings, runSumsOf}
 use Rattle.plan.specs.Laws.Answers.{written-new, given-is, refused-is}
 use Rattle.plan.specs.Laws.Sizes.{run-count, reading-count, runs-few, readings-few}
@@ -104,39 +106,35 @@ module _ (p : Plan) (readings : List ℤ) (marks : List ℕ) (totals : List ℤ)
 
 -- ---- an accepted sheet
 
+module _ (p : Plan) (ok : planRefused p ≡ 0) where
+  pub runs-are : {n : ℕ} → n ≡ runCount p → n ≡ runsOf p
+  runs-are is = is ∙ run-count p ok
+
+  pub few-runs : {n : ℕ} → n ≡ runCount p → n ≤ 1024
+  few-runs is = rw (runs-are is) (runs-few p ok)
+
+  pub readings-are : {m : ℕ} → m ≡ readingCount p → m ≡ allReadings p
+  readings-are is = is ∙ reading-count p ok
+
+  pub readings-long : {m : ℕ} → m ≡ readingCount p → (column : List ℤ) → length column ≡ 1024 → length (take m column) ≡ m
+  readings-long {m} is column wide = length-take-le m column (omega (arith, readings-are is, readings-few p ok, wide))
+
+  pub rows-count : {r : ℕ} → r ≡ rowCount p → r ≡ rowsIn p
+  rows-count is = is ∙ row-count p ok
+
+  pub few-rows : {r : ℕ} → r ≡ rowCount p → r ≤ 1024
+  few-rows is = rw (rows-count is) (rows-few p ok)
+
 module _ {p : Plan} {column : List ℤ} {marks : List ℕ} (ready : SheetReady p column marks) where
-  module _ {n : ℕ} (is : n ≡ runCount p) where
-    runs-are : n ≡ runsOf p
-    runs-are = is ∙ run-count p (ready .plan)
-
-    pub few-runs : n ≤ 1024
-    few-runs = rw runs-are (runs-few p (ready .plan))
-
-  module _ {m : ℕ} (is : m ≡ readingCount p) where
-    readings-are : m ≡ allReadings p
-    readings-are = is ∙ reading-count p (ready .plan)
-
-    pub few-readings : m ≤ 1024
-    few-readings = rw readings-are (readings-few p (ready .plan))
-
-    pub readings-long : length (take m column) ≡ m
-    readings-long = length-take-le m column (omega (arith, few-readings, ready .wide))
-
-  module _ {r : ℕ} (is : r ≡ rowCount p) where
-    rows-count : r ≡ rowsIn p
-    rows-count = is ∙ row-count p (ready .plan)
-
-    pub few-rows : r ≤ 1024
-    few-rows = rw rows-count (rows-few p (ready .plan))
-
   pub lent-text : {n m r : ℕ} → n ≡ runCount p → m ≡ readingCount p → r ≡ rowCount p → (totals : List ℤ) (rows : List ℕ) {a b : List ℕ} {at next : ℕ}
       → Wrote a at (answerText p (take m column) marks totals rows) b next
       → length totals ≡ n → length rows ≡ r
       → Wrote a at (madeText p (take (allReadings p) column) marks) b next
   unfolding printed
   lent-text {n} {m} {r} d f e totals rows w l k =
-      let all = readings-are f in
+      let ok = ready .plan in
+      let all = readings-are p ok f in
       let z =
-      table-admits p (take m column) marks totals rows (ready .plan) (readings-long f ∙ all) (l ∙ runs-are d) (k ∙ rows-count e) (ready .marks-long)
+      table-admits p (take m column) marks totals rows ok (readings-long p ok f column (ready .wide) ∙ all) (l ∙ runs-are p ok d) (k ∙ rows-count p ok e) (ready .marks-long)
       (rw all (ready .within)) (ready .lawful) in
       retext (rw (z, all) refl) w

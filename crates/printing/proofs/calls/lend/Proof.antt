@@ -9,13 +9,13 @@ use Rattle.printing.proofs.calls.lend.Tie as tie
 
 -- once the parts' lengths are known
 all-there : (c : tie.After-row-count) → let m = c .before .reading-count .result in length (take m (c .before .before .before .before .before .args .column .now)) ≡ m
-all-there c = readings-long (c .before .before .before .before .before .pre) (c .before .reading-count .ensures)
+all-there c = let pre = c .before .before .before .before .before .pre in readings-long _ (pre .plan) (c .before .reading-count .ensures) _ (pre .wide)
 
 runs-fit : (c : tie.After-row-count) → c .before .before .runs .result ≤ 1024
-runs-fit c = few-runs (c .before .before .before .before .before .pre) (c .before .before .runs .ensures)
+runs-fit c = few-runs _ (c .before .before .before .before .before .pre .plan) (c .before .before .runs .ensures)
 
 rows-fit : (c : tie.After-row-count) → c .row-count .result ≤ 1024
-rows-fit c = few-rows (c .before .before .before .before .before .pre) (c .row-count .ensures)
+rows-fit c = few-rows _ (c .before .before .before .before .before .pre .plan) (c .row-count .ensures)
 
 pub lend-spec : {M : Type 1} → statement M
 lend-spec =

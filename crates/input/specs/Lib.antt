@@ -1,0 +1,4 @@
+-- What a program has read of its input.
+--
+--   Came    what came of the input
+pub mod Came
