@@ -3,13 +3,12 @@
 --   by-table          the number of an accepted plan: 21, 9, the table call's, and 13 for a marked main effect
 --   Admitted          the call makes the table: what the profile admits, of what the table call makes a table of
 --   admitted          so it is where the number is 0
---   admits            and there the number is 0
 use mathlib.Core.Path.{_≡_, refl, sym, _∙_}
 use mathlib.Core.Bool.{Bool, true, false, cond, _||_}
 use mathlib.Core.List.{List}
 use Prim.Native.Nat.{ℕ}
 use native.Mathlib.Omega.{arith}
-use borrow.Author.Tests.{ne-eqb, eqb-true, eqb-false}
+use borrow.Author.Tests.{eqb-true, eqb-false}
 use lib.Dec.{eqb}
 use lib.IntN.{ℤ}
 use lib.ListN.{length}
@@ -69,9 +68,3 @@ module _ (p : Plan) (readings : List ℤ) (marks : List ℕ) (totals : List ℤ)
           by : (b : Bool) → eqb t 0 ≡ b → cond b (cond main 13 0) t ≡ 0 → (t ≡ 0) × (main ≡ false)
           by true d z = (eqb-true t 0 d, passed main 13 0 (omega arith) z .0)
           by false d z = absurd (eqb-false t 0 d z)
-
-  pub admits : Admitted → screenRefused p readings marks totals rows ≡ 0
-  unfolding tableRefused
-  admits a =
-      let ok = plan-passed p (tableRefusals p readings marks totals rows) (a .made) .0 in
-      by-table ok ∙ rw (a .nothing-meets, ne-eqb (p .levels) 3 (a .two), a .made, a .none-marked) refl
