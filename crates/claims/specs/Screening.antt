@@ -5,24 +5,24 @@
 --
 --   ReducesTo p e w            the effect of the letters e reduces to the base word w
 --   SameWord p e f             two effects reduce to one base word
---   Meet p                     a main effect and an interaction of two factors do
---   MarkedMain p marks         the row of a main effect's base word has mark 1
+--   MeetAt p m i j, Meet p     the main effect of m and the interaction of i and j do; some such do
+--   MarkedAt, MarkedMain       the row of the base word of factor m's main effect has mark 1; that of some factor's has
 --   Screens p                  the plan is one of two levels that the plan check accepts, and nothing meets
---   Admitted p                 the screening call answers of the plan with some readings, marks and columns
---   Admits                     CLAIM: it does exactly where that is so
+--   Admitted p                 the screening call makes a table of the plan, for some readings, marks and columns
+--   Admits                     CLAIM: it does exactly where `Screens` holds
 --   Screened ..                what the screening call answers and leaves, in every case
 --   Screening                  THE CLAIM
---   ThreeCombine p             the words of three factors combine to the empty word
+--   CombineAt, ThreeCombine    the words of the factors i, j and l combine to the empty word; those of some three do
 --   AboveThree                 CLAIM: nothing meets exactly when there are no three such factors
 use mathlib.Core.Path.{_≡_}
 use mathlib.Core.Bool.{Bool}
 use mathlib.Core.List.{List}
 use Prim.Native.Nat.{ℕ, _+_, _^_, _<_}
 use lib.IntN.{ℤ}
-use lib.ListN.{length, getD}
+use lib.ListN.{getD}
 use Rattle.plan.specs.declared.types.Plan.{Plan}
 use Rattle.plan.specs.Outcome.{given, refused}
-use Rattle.plan.specs.Plan.{addedWords, allLetters}
+use Rattle.plan.specs.Plan.{allLetters}
 use Rattle.anova.specs.declared.types.Figures.{Figures}
 use Rattle.promises.specs.Promised.{promisedCheck, promisedAlias, promisedTable, promisedScreen}
 
@@ -72,8 +72,8 @@ abbrev pub Admits : Type 0
 Admits = (p : Plan) → (Admitted p → Screens p) × (Screens p → Admitted p)
 
 pub record Screened (p : Plan) (readings : List ℤ) (marks : List ℕ) (totals : List ℤ) (rows : List ℕ) : Type 0 where
-  -- V21: it answers of no other plan, and where a main effect is marked it does not; and where it answers, the table call does, with the same
-  -- figures
+  -- V21 to V23: it makes a table of no other plan, nor where a main effect is marked; and where it makes one, so does the table call, with the
+  -- same figures
   pub only : (f : Figures) → promisedScreen p readings marks totals rows .answer ≡ given f
       → Screens p × (MarkedMain p marks → ⊥) × (promisedTable p readings marks totals rows .answer ≡ given f)
   -- V23: "the table is otherwise ordinary": where the profile admits the plan and no main effect is marked, answer, totals and rows are the table
@@ -82,7 +82,7 @@ pub record Screened (p : Plan) (readings : List ℤ) (marks : List ℕ) (totals 
   -- N13, V22: "13 also for a marked main effect", where the table call would make the table; its own refusals stay
   pub marked : Screens p → MarkedMain p marks → (f : Figures) → promisedTable p readings marks totals rows .answer ≡ given f
       → promisedScreen p readings marks totals rows .answer ≡ refused 13
-  pub table-first : Screens p → (n : ℕ) → promisedTable p readings marks totals rows .answer ≡ refused n
+  pub table-refusals : Screens p → (n : ℕ) → promisedTable p readings marks totals rows .answer ≡ refused n
       → promisedScreen p readings marks totals rows .answer ≡ refused n
   -- L14: the plan's own numbers, 16 among them, come first ..
   pub plan-first : (n : ℕ) → promisedCheck p ≡ refused n → promisedScreen p readings marks totals rows .answer ≡ refused n
@@ -97,7 +97,7 @@ pub record Screened (p : Plan) (readings : List ℤ) (marks : List ℕ) (totals 
 abbrev pub Screening : Type 0
 Screening = (p : Plan) (readings : List ℤ) (marks : List ℕ) (totals : List ℤ) (rows : List ℕ) → Screened p readings marks totals rows
 
--- ---- for readers: resolution above III, as the trade says. That there is no word of one letter or two besides, refusals 5 and 6 see to
+-- ---- for readers: resolution above III, as the trade says. That no factor's word is empty and no two are the same, refusals 5 and 6 see to
 
 -- the effect of the letters of three factors reduces to the empty word
 pub record CombineAt (p : Plan) (i j l : ℕ) : Type 0 where
@@ -107,8 +107,6 @@ pub record CombineAt (p : Plan) (i j l : ℕ) : Type 0 where
 abbrev pub ThreeCombine : Plan → Type 0
 ThreeCombine p = (i : ℕ) × (j : ℕ) × (l : ℕ) × CombineAt p i j l
 
--- the words of added factors are 16-bit sets, as in every plan that a call is given
 abbrev pub AboveThree : Type 0
 AboveThree =
-    (p : Plan) → promisedCheck p ≡ given tt → p .levels ≡ 2 → ((j : ℕ) → j < length (addedWords p) → getD (addedWords p) j 0 < 2 ^ 16)
-    → (Meet p → ThreeCombine p) × (ThreeCombine p → Meet p)
+    (p : Plan) → promisedCheck p ≡ given tt → p .levels ≡ 2 → (Meet p → ThreeCombine p) × (ThreeCombine p → Meet p)

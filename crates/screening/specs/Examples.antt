@@ -3,18 +3,20 @@
 --   fraction k words     the two-level plan of k base factors and added factors of these words, with sign 0
 --   amcp                 the eight plans of AMCP 706-112, Table 12-4: effects meet in plans 1, 4 and 6
 --   daniel               Daniel's quarter, D = AC with sign 0 and E = AB with sign 1: in print D = -AC and E = AB
---   with-added           effects that meet among added factors alone; a base factor's with two added factors'
+--   with-added           effects that meet among added factors alone; a base factor's with two added ones'; two base factors' that are no
+--                        neighbours with an added one's; the fifth of five added factors' with others'
 --   sign-aside           the sign of an added factor plays no part
+--   beyond-counts        nor does a word beyond the plan's count
 --   never                nothing meets without an added factor, whatever the blocks
 --   by-three             the same by three factors' words
 --   words, pair          the base words of the factors of plan 2, and of a pair
---   order-of-checks      the numbers where several apply
+--   order-of-checks      the numbers, one by one and where several apply
 --   marked-mains         13 for a marked main effect, base or added; other rows may be marked as in the table call
---   marked-second        13 for the second of two added factors
+--   marked-added         the same of the second and the fourth added factor, of one whose word is even and whose sign is 1; and of other rows
 --   as-in-the-table      repeats and blocks are as in the table call
 --   made-columns, unchanged   a table that is made, and a call that is refused
 use mathlib.Core.Path.{_≡_, refl}
-use mathlib.Core.Bool.{true, false}
+use mathlib.Core.Bool.{true, false, cond}
 use mathlib.Core.List.{List, [], _∷_, _++_, map}
 use Prim.Native.Nat.{ℕ}
 use lib.IntN.{ℤ, pos}
@@ -24,7 +26,7 @@ use Rattle.algebra.specs.Bits.{bits}
 use Rattle.algebra.specs.Search.{some}
 use Rattle.algebra.specs.Sorted.{sumAt}
 use Rattle.algebra.specs.Sum.{Σ}
-use Rattle.algebra.specs.Tab.{tabFrom}
+use Rattle.algebra.specs.Tab.{tab, tabFrom}
 use Rattle.contrasts.specs.Codings.{neg}
 use Rattle.contrasts.specs.Columns.{runSumsIn, totalsOf}
 use Rattle.contrasts.specs.Repeats.{runSums}
@@ -68,12 +70,19 @@ fraction k words = plan 2 k words (replicate (length words) 0) []
 
 -- ---- effects that meet
 
+-- plans 2 and 4
+abbrev half : Plan
+half = fraction 3 (ABC ∷ [])
+
+abbrev planFour : Plan
+planFour = fraction 3 (ABC ∷ BC ∷ [])
+
 abbrev amcpPlans : List Plan
 amcpPlans =
     fraction 2 (AB ∷ [])
-    ∷ fraction 3 (ABC ∷ [])
+    ∷ half
     ∷ fraction 4 (ABCD ∷ [])
-    ∷ fraction 3 (ABC ∷ BC ∷ [])
+    ∷ planFour
     ∷ fraction 4 (ABC ∷ BCD ∷ [])
     ∷ fraction 3 (ABC ∷ BC ∷ AC ∷ [])
     ∷ fraction 4 (ABC ∷ BCD ∷ ABD ∷ [])
@@ -92,18 +101,41 @@ daniel : meet danielPlan ≡ true
 unfolding meet some any among baseWord combined times bits Σℕ tabFrom
 daniel = refl
 
--- F = ABC, G = ADE and H = BCDE: H and FG; E = ABC and F = ABCD: D and EF
+-- F = ABC, G = ADE and H = BCDE: H and FG; E = ABC and F = ABCD: D and EF; E = AC and F = ABCD: E and AC; plan 8 with I = ABCD: I and AF
 abbrev addedPlans : List Plan
-addedPlans = fraction 5 (ABC ∷ ADE ∷ BCDE ∷ []) ∷ fraction 4 (ABC ∷ ABCD ∷ []) ∷ []
+addedPlans =
+    fraction 5 (ABC ∷ ADE ∷ BCDE ∷ [])
+    ∷ fraction 4 (ABC ∷ ABCD ∷ [])
+    ∷ fraction 4 (AC ∷ ABCD ∷ [])
+    ∷ fraction 4 (ABC ∷ BCD ∷ ABD ∷ ACD ∷ ABCD ∷ [])
+    ∷ []
 
-with-added : map meet addedPlans ≡ true ∷ true ∷ []
+with-added : map meet addedPlans ≡ true ∷ true ∷ true ∷ true ∷ []
 unfolding meet some any among baseWord combined times bits Σℕ tabFrom
 with-added = refl
 
--- C = AB: C and AB, with either sign
-sign-aside : meet (plan 2 2 (AB ∷ []) (0 ∷ []) []) ∷ meet (plan 2 2 (AB ∷ []) (1 ∷ []) []) ∷ [] ≡ true ∷ true ∷ []
+-- C = AB with sign 1: C and AB; with sign 0 it is AMCP's plan 1
+sign-aside : meet (plan 2 2 (AB ∷ []) (1 ∷ []) []) ≡ true
 unfolding meet some any among baseWord combined times bits Σℕ tabFrom
 sign-aside = refl
+
+-- of the words ABC and BC the first alone
+abbrev firstAlone : Plan
+firstAlone = record {
+  levels = 2;
+  k = 3;
+  added = 1;
+  words = ABC ∷ BC ∷ replicate 4 0;
+  signs = replicate 6 0;
+  blocks = 0;
+  blockwords = replicate 4 0;
+  repeats = 1;
+}
+
+-- P10
+beyond-counts : meet firstAlone ≡ false
+unfolding meet some any among baseWord combined times bits Σℕ tabFrom
+beyond-counts = refl
 
 -- with the block word ABC, and with AD and ABC
 never : meet (plan 2 4 [] [] []) ∷ meet (plan 2 3 [] [] (ABC ∷ [])) ∷ meet (plan 2 4 [] [] (AD ∷ ABC ∷ [])) ∷ [] ≡ false ∷ false ∷ false ∷ []
@@ -111,16 +143,16 @@ unfolding meet some any among baseWord combined times bits Σℕ tabFrom
 never = refl
 
 by-three : map threeCombine amcpPlans ++ map threeCombine addedPlans
-    ≡ true ∷ false ∷ false ∷ true ∷ false ∷ true ∷ false ∷ false ∷ true ∷ true ∷ []
+    ≡ true ∷ false ∷ false ∷ true ∷ false ∷ true ∷ false ∷ false ∷ true ∷ true ∷ true ∷ true ∷ []
 unfolding threeCombine some baseWord combined times bits Σℕ
 by-three = refl
 
 -- V21: A, B, C and D = ABC; AD reduces to BC
-words : mainWords (fraction 3 (ABC ∷ [])) ≡ 1 ∷ 2 ∷ 4 ∷ ABC ∷ []
+words : mainWords half ≡ 1 ∷ 2 ∷ 4 ∷ ABC ∷ []
 unfolding baseWord combined times bits Σℕ tabFrom
 words = refl
 
-pair : pairWord (fraction 3 (ABC ∷ [])) 0 3 ≡ BC
+pair : pairWord half 0 3 ≡ BC
 unfolding baseWord combined times bits Σℕ
 pair = refl
 
@@ -136,20 +168,14 @@ none = replicate 8 0
 abbrev number : Plan → List ℕ → ℕ
 number p marks = screenRefused p zeros marks zeros none
 
-abbrev half : Plan
-half = fraction 3 (ABC ∷ [])
-
-abbrev quarter : Plan
-quarter = fraction 3 (ABC ∷ BC ∷ [])
-
 -- L14: none; 21; 16 before 21; 9; 16 before 9; 21 before 11; 21 before 12 and 13; 9 before 11; 11; 12 before 13 for a main effect; 4 before 21 and 9
 order-of-checks : number half none
-    ∷ number quarter none
-    ∷ number (made 3 quarter) none
-    ∷ number (plan 3 2 [] [] []) none
+    ∷ number planFour none
+    ∷ number (made 3 planFour) none
+    ∷ screenRefused (plan 3 2 [] [] []) (replicate 9 (pos 0)) (replicate 4 0) (replicate 9 (pos 0)) (replicate 4 0)
     ∷ number (made 3 (plan 3 2 [] [] [])) none
-    ∷ screenRefused quarter [] (1 ∷ []) [] []
-    ∷ screenRefused quarter (replicate 8 (pos 1_000_001)) (1 ∷ 0 ∷ 0 ∷ 0 ∷ 0 ∷ 0 ∷ 0 ∷ 0 ∷ []) zeros none
+    ∷ screenRefused planFour [] (1 ∷ []) [] []
+    ∷ screenRefused planFour (replicate 8 (pos 1_000_001)) (1 ∷ 0 ∷ 0 ∷ 0 ∷ 0 ∷ 0 ∷ 0 ∷ 0 ∷ []) zeros none
     ∷ screenRefused (plan 3 2 [] [] []) [] [] [] []
     ∷ screenRefused half [] none zeros none
     ∷ screenRefused half (replicate 8 (pos 1_000_001)) (0 ∷ 1 ∷ 0 ∷ 0 ∷ 0 ∷ 0 ∷ 0 ∷ 0 ∷ []) zeros none
@@ -173,12 +199,21 @@ marked-mains : map (number half)
 unfolding screenRefused markedMain meet wrongLengths wrongRows wrongReadings wrongLength anyBeyond isBeyond badMarks badMark withPlan planRefused badLevels badFactors mostTwo mostThree badCounts badWords badWord badSign repeated dependent losesFactor factorWord badRepeats isRepeats mostReadings any among beyond letters combined times someCombination combinesTo some bits Σℕ readingLimit twoReadingLimit threeReadingLimit factorsOf size two three baseWord tabFrom
 marked-mains = refl
 
--- V22: E = ABC and F = BCD, with the row BCD marked
-marked-second : screenRefused (fraction 4 (ABC ∷ BCD ∷ [])) (replicate 16 (pos 0))
-    (0 ∷ 0 ∷ 0 ∷ 0 ∷ 0 ∷ 0 ∷ 0 ∷ 0 ∷ 0 ∷ 0 ∷ 0 ∷ 0 ∷ 0 ∷ 0 ∷ 1 ∷ 0 ∷ []) (replicate 16 (pos 0)) (replicate 16 0)
-    ≡ 13
+-- of columns that fit sixteen runs, with these rows marked
+abbrev sixteen : Plan → List ℕ → ℕ
+sixteen p rows = screenRefused p (replicate 16 (pos 0)) (tab 16 (λ w. cond (among w rows) 1 0)) (replicate 16 (pos 0)) (replicate 16 0)
+
+-- V22: plan 5, E = ABC and F = BCD, with the row BCD marked; plan 8 with ACD, which is H's; E = ABCD with sign 1, with ABCD; plan 5 with ABD
+-- and ACD, and a whole plan with ABC and ABCD, which are no main effects'
+marked-added : sixteen (fraction 4 (ABC ∷ BCD ∷ [])) (BCD ∷ [])
+    ∷ sixteen (fraction 4 (ABC ∷ BCD ∷ ABD ∷ ACD ∷ [])) (ACD ∷ [])
+    ∷ sixteen (plan 2 4 (ABCD ∷ []) (1 ∷ []) []) (ABCD ∷ [])
+    ∷ sixteen (fraction 4 (ABC ∷ BCD ∷ [])) (ABD ∷ ACD ∷ [])
+    ∷ sixteen (plan 2 4 [] [] []) (ABC ∷ ABCD ∷ [])
+    ∷ []
+    ≡ 13 ∷ 13 ∷ 13 ∷ 0 ∷ 0 ∷ []
 unfolding screenRefused markedMain meet wrongLengths wrongRows wrongReadings wrongLength anyBeyond isBeyond badMarks badMark withPlan planRefused badLevels badFactors mostTwo mostThree badCounts badWords badWord badSign repeated dependent losesFactor factorWord badRepeats isRepeats mostReadings any among beyond letters combined times someCombination combinesTo some bits Σℕ readingLimit twoReadingLimit threeReadingLimit factorsOf size two three baseWord tabFrom
-marked-second = refl
+marked-added = refl
 
 -- V23: sixteen readings of eight runs made twice, and eight, which are too few; in blocks by AB, without a mark and with one on AB
 as-in-the-table : screenRefused (made 2 half) (replicate 16 (pos 0)) none zeros none
@@ -208,6 +243,6 @@ unfolding screenTotals screenRows rowsOf rowLeft blockAmount runSumsIn runSums t
 made-columns = (refl, refl)
 
 -- L2: the same, of a plan that is refused
-unchanged : (screenTotals quarter readings none sevens fives ≡ sevens) × (screenRows quarter readings none sevens fives ≡ fives)
+unchanged : (screenTotals planFour readings none sevens fives ≡ sevens) × (screenRows planFour readings none sevens fives ≡ fives)
 unfolding screenTotals screenRows screenRefused markedMain meet wrongLengths wrongRows wrongReadings wrongLength anyBeyond isBeyond badMarks badMark withPlan planRefused badLevels badFactors mostTwo mostThree badCounts badWords badWord badSign repeated dependent losesFactor factorWord badRepeats isRepeats mostReadings any among beyond letters combined times someCombination combinesTo some bits Σℕ readingLimit twoReadingLimit threeReadingLimit factorsOf size two three baseWord tabFrom
 unchanged = (refl, refl)

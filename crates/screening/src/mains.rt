@@ -17,7 +17,7 @@ fn main_word(i: usize, k: usize, words: &[u16]) -> u16
     words[i - k]
 }
 
-// The base words of the main effects of all factors. Places beyond them are 0.
+// The base words of the main effects of all factors, at the first places.
 fn main_words(k: usize, words: &[u16]) -> [u16; 16]
     requires { ⌜ (k ≤ 10) × (length (now words) ≤ 6) ⌝ }
     ensures { λ r. ⌜ take (k + length (now (words .entry))) r

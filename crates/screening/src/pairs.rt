@@ -1,4 +1,4 @@
-// Whether two words combine to one of some others.
+// Whether two words combine to a word of a list.
 ghost use mathlib.Core.Path.{_≡_};
 ghost use Prim.Native.Nat.{_<_};
 ghost use lib.ListN.{length};

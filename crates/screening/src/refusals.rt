@@ -2,7 +2,6 @@
 ghost use mathlib.Core.Path.{_≡_};
 ghost use mathlib.Core.Bool.{cond};
 ghost use Prim.Native.Nat.{_+_, _≤_};
-ghost use lib.Dec.{eqb};
 ghost use lib.ListN.{take};
 use super::mains::factor_words;
 use super::pairs::any_met;
@@ -30,11 +29,12 @@ fn any_marked(mains: &[u16], marks: &[u8]) -> bool
 }
 
 // Whether two of the factors' words combine to a factor's.
-fn do_meet(k: usize, added: usize, mains: [u16; 16]) -> bool
+fn effects_meet(k: usize, added: usize, mains: [u16; 16]) -> bool
     requires { ⌜ (k ≤ 10) × (added ≤ 6) ⌝ }
     ensures { λ r. ⌜ r ≡ somePair (take (k + added) mains) (take (k + added) mains) ⌝ }
 {
     let factors = k + added;
+    // two parts of one array cannot be lent at once
     let words = mains;
     any_met(&words[..factors], &mains[..factors])
 }
@@ -48,11 +48,10 @@ fn is_main_marked(k: usize, added: usize, mains: [u16; 16], marks: &[u8]) -> boo
     any_marked(&mains[..factors], marks)
 }
 
-// The first number in the order of checks: 21, 9, the table call's, and 13 again.
-fn first_number(meet: bool, three: bool, table: u8, marked: bool) -> u8
-    ensures { λ r. ⌜ r ≡ cond meet 21 (cond three 9 (cond (eqb table 0) (cond marked 13 0) table)) ⌝ }
+// The first number in the order of checks: 21, 9, the table call's where it refuses, and 13 again.
+fn first_number(meet: bool, three: bool, refused: bool, table: u8, marked: bool) -> u8
+    ensures { λ r. ⌜ r ≡ cond meet 21 (cond three 9 (cond refused table (cond marked 13 0))) ⌝ }
 {
-    let refused = table != 0;
     if meet {
         return 21;
     }
@@ -80,8 +79,8 @@ pub fn screen_refused(p: Plan, readings: &[i32], marks: &[u8], totals: &[i64], r
     let added = p.added as usize;
     let words = p.words;
     let mains = factor_words(k, added, words);
-    let meet = do_meet(k, added, mains);
+    let meet = effects_meet(k, added, mains);
     let table = table_refused(p, readings, marks, totals, rows);
     let marked = is_main_marked(k, added, mains, marks);
-    first_number(meet, p.levels == 3, table, marked)
+    first_number(meet, p.levels == 3, table != 0, table, marked)
 }

@@ -3,6 +3,7 @@
 --   base-small              the base word of an accepted plan has no letter beyond k
 --   base-own, turned-own    an effect of base letters is its own base word, and its sign does not turn
 --   base-one                the base word of an added letter is its word
+--   letters-of-one          and has as many letters, whatever the word
 --   base-xor, base-both     the base word of two effects combined, and of an interaction of two factors, is the combination of theirs
 --   turned-one              its sign turns where it has sign 1; the other way round where its word has an even number of letters
 use mathlib.Core.Path.{_≡_, refl, ap, _∙_}
@@ -20,10 +21,10 @@ use Rattle.algebra.specs.Naturals.{Σℕ}
 use Rattle.algebra.specs.Tests.{differ}
 use Rattle.algebra.specs.Laws.Naturals.{Σℕ-none, Σℕ-cong, Σℕ-one}
 use Rattle.algebra.specs.Laws.Tab.{getD-past}
-use Rattle.words.specs.Words.{has, odd, oddWord}
+use Rattle.words.specs.Words.{has, letters, odd, oddWord}
 use Rattle.words.specs.Laws.Letters.{one-letter}
 use Rattle.words.specs.Laws.Parity.{letters-one}
-use Rattle.words.specs.Laws.Combined.{combined-within, combined-own, combined-one, combined-xor}
+use Rattle.words.specs.Laws.Combined.{combined-within, combined-own, combined-one, letters-one-of, combined-xor}
 use Rattle.plan.specs.declared.types.Plan.{Plan}
 use Rattle.plan.specs.Plan.{addedWords}
 use Rattle.plan.specs.Laws.Accepted.{Accepted}
@@ -67,6 +68,10 @@ module _ (k j : ℕ) where
       → baseWord k words (2 ^ (k + j)) ≡ getD words j 0
   unfolding baseWord
   base-one words h few small = rw (rest, replaced) (combined-one j words h few small)
+
+  pub letters-of-one : (words : List ℕ) → j < length words → length words ≤ 16 → letters (baseWord k words (2 ^ (k + j))) ≡ letters (getD words j 0)
+  unfolding baseWord
+  letters-of-one words h few = rw (rest, replaced) (letters-one-of j words h few)
 
   -- its sign alone is counted; past the end of the signs there is none
   one-sign : (signs : List ℕ) → length signs ≤ 16 → j < 16 → signOnes (2 ^ j) signs ≡ cond (eqb (getD signs j 0) 1) 1 0

@@ -38,11 +38,11 @@ use Rattle.anova.specs.declared.types.Figures.{Figures}
 use Rattle.anova.specs.Table.{tableRefusals, tableRefused, tableFigures, tableTotals, tableRows}
 use Rattle.anova.specs.Laws.Admitted.{table-admits}
 use Rattle.screening.specs.Screening.{mainWord, meet, markedMain, screenRefusals, screenRefused, screenTotals, screenRows}
-use Rattle.screening.specs.Laws.Admitted.{admitted, by-table}
+use Rattle.screening.specs.Laws.Admitted.{table-made, by-table}
 use Rattle.screening.specs.Laws.Meeting as test
 use Rattle.screening.specs.Laws.Resolution as three
 use Rattle.promises.specs.Promised.{Tabled, promisedCheck, promisedTable, promisedScreen}
-use Rattle.claims.specs.Screening.{ReducesTo, Meet, MarkedMain, Screens, Admitted as IsAdmitted, Admits, Screened, Screening, ThreeCombine, AboveThree}
+use Rattle.claims.specs.Screening.{ReducesTo, Meet, MarkedMain, Screens, Admitted, Admits, Screened, Screening, ThreeCombine, AboveThree}
 
 -- ---- base words by the alias call
 
@@ -163,10 +163,10 @@ module _ (p : Plan) (readings : List ℤ) (marks : List ℕ) (totals : List ℤ)
   unfolding tableRefused
   answers f e =
       let z = given-is number figures (sym e) in
-      let a = admitted p readings marks totals rows (z .0) in
+      let a = table-made p readings marks totals rows (z .0) in
       let ok = plan-passed p (tableRefusals p readings marks totals rows) (a .made) .0 in (
         record {
-          two = two-levels p ok (a .two);
+          two = two-levels p ok (a .not-three);
           accepted = given-with (planRefused p) tt ok;
           nothing-meets = λ s. true≢false (sym (meet-true p s) ∙ a .nothing-meets);
         },
@@ -190,7 +190,7 @@ module _ (p : Plan) (readings : List ℤ) (marks : List ℕ) (totals : List ℤ)
     marked = λ s h f e.
         let t = given-is of-table figures (sym e) .0 in
         stops (λ z. omega (arith, z)) (of-screens s ∙ rw (t, marked-true p marks h) refl);
-    table-first = table-stops;
+    table-refusals = table-stops;
     plan-first = λ n e.
         let t = refused-is (planRefused p) tt (sym e) in
         let other : n ≡ 0 → ⊥ = λ z. t .1 (sym (t .0) ∙ z) in
@@ -242,7 +242,7 @@ module _ (p : Plan) (s : Screens p) where
 pub admits : Admits
 admits p = (λ (readings, marks, totals, rows, f, e). answers p readings marks totals rows f e .0, λ s. made s)
   where
-    made : Screens p → IsAdmitted p
+    made : Screens p → Admitted p
     made s = (
       readings p s,
       unmarked p s,
@@ -256,7 +256,7 @@ admits p = (λ (readings, marks, totals, rows, f, e). answers p readings marks t
 -- ---- resolution above III
 
 pub above-three : AboveThree
-above-three p e two bits = (to, from)
+above-three p e two = (to, from)
   where
     ok : planRefused p ≡ 0
     ok = ok-by p e
@@ -265,7 +265,7 @@ above-three p e two bits = (to, from)
     levels = not-three p two
 
     same : meet p ≡ three.threeCombine p
-    same = three.meet-three p (accepted p ok) bits
+    same = three.meet-three p (accepted p ok)
 
     to : Meet p → ThreeCombine p
     to s =

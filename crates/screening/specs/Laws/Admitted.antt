@@ -1,8 +1,8 @@
 -- The screening call's number, by that of the table call.
 --
 --   by-table          the number of an accepted plan: 21, 9, the table call's, and 13 for a marked main effect
---   Admitted          the call makes the table: what the profile admits, of what the table call makes a table of
---   admitted          so it is where the number is 0
+--   TableMade         the table call makes the table, the levels are not three, nothing meets, and no main effect is marked
+--   table-made        so it is where the number is 0
 use mathlib.Core.Path.{_≡_, refl, sym, _∙_}
 use mathlib.Core.Bool.{Bool, true, false, cond, _||_}
 use mathlib.Core.List.{List}
@@ -47,20 +47,20 @@ module _ (p : Plan) (readings : List ℤ) (marks : List ℕ) (totals : List ℤ)
       )
       refl
 
-  pub record Admitted : Type 0 where
+  pub record TableMade : Type 0 where
     pub made : tableRefused p readings marks totals rows ≡ 0
-    pub two : p .levels ≡ 3 → ⊥
+    pub not-three : p .levels ≡ 3 → ⊥
     pub nothing-meets : meet p ≡ false
     pub none-marked : markedMain p marks ≡ false
 
-  pub admitted : screenRefused p readings marks totals rows ≡ 0 → Admitted
+  pub table-made : screenRefused p readings marks totals rows ≡ 0 → TableMade
   unfolding screenRefused
-  admitted e =
+  table-made e =
       let ok = plan-passed p (screenRefusals p readings marks totals rows) e .0 in
       let l21 = passed (meet p) 21 _ (omega arith) (sym (by-table ok) ∙ e) in
       let l9 = passed (eqb (p .levels) 3) 9 _ (omega arith) (l21 .1) in
       let l13 = last (tableRefused p readings marks totals rows) (markedMain p marks) (l9 .1) in
-      record { made = l13 .0; two = eqb-false (p .levels) 3 (l9 .0); nothing-meets = l21 .0; none-marked = l13 .1 }
+      record { made = l13 .0; not-three = eqb-false (p .levels) 3 (l9 .0); nothing-meets = l21 .0; none-marked = l13 .1 }
     where
       last : (t : ℕ) (main : Bool) → cond (eqb t 0) (cond main 13 0) t ≡ 0 → (t ≡ 0) × (main ≡ false)
       last t main e = by (eqb t 0) refl e

@@ -1,10 +1,10 @@
 -- What the tests of the profile say, factor by factor.
 --
 --   Met p m i j             the main effect of factor m and the interaction of factors i and j have one base word
---   met, meets              where two effects meet there are such factors, and where there are they do
+--   met, meets              where the test holds there are such factors, and the converse
 --   whole-none              nothing meets where there is no added factor
 --   MarkedAt p marks m      the row of the base word of factor m has mark 1
---   marked-at, marked-by    where a main effect is marked there is such a factor, and where there is it is
+--   marked-at, marked-by    where the test holds there is such a factor, and the converse
 use mathlib.Core.Path.{_≡_, sym, ap, _∙_}
 use mathlib.Core.Bool.{true, false}
 use mathlib.Core.List.{List, []}

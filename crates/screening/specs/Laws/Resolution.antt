@@ -2,18 +2,19 @@
 --
 --   threeCombine p             three factors' words combine to the empty word
 --   Combined p i j l           those of i, j and l do
---   combined-at, combined-by   where the test holds there are such factors, and where there are it holds
+--   combined-at, combined-by   where the test holds there are such factors, and the converse
 --   meet-three                 of an accepted plan two effects meet exactly when that is so
 use mathlib.Core.Path.{_≡_, refl, sym, ap, _∙_}
 use mathlib.Core.Bool.{Bool, true, false}
+use mathlib.Core.List.{[]}
 use Prim.Native.Nat.{ℕ, _+_, _-_, _/_, _%_, _^_, _<_}
 use native.Mathlib.Decide.{decLt, ℕ-discrete}
 use native.Mathlib.Nat.{pow-suc}
 use native.Mathlib.Omega.{arith}
-use borrow.Author.Tests.{lt-ltb, le-ltb, eq-eqb, eqb-true}
+use borrow.Author.Tests.{eq-eqb, eqb-true}
 use lib.Bits.{bitXor, xor-comm, xor-self}
 use lib.Dec.{eqb}
-use lib.ListN.{length, getD}
+use lib.ListN.{length}
 use lib.Pow.{pow-pos, pow-mono, pow-lt}
 use Rattle.algebra.specs.Search.{some}
 use Rattle.algebra.specs.Laws.Bits.{xor-none, xor-back}
@@ -26,13 +27,12 @@ use Rattle.plan.specs.Plan.{addedWords, allLetters}
 use Rattle.plan.specs.Laws.Accepted.{Accepted}
 use Rattle.plan.specs.Laws.Sizes.{letters-few}
 use Rattle.aliases.specs.Alias.{baseWord}
-use Rattle.aliases.specs.Laws.BaseWord.{base-both}
+use Rattle.aliases.specs.Laws.BaseWord.{base-own, base-both, letters-of-one}
 use Rattle.screening.specs.Screening.{reducedWord, mainWord, meet}
-use Rattle.screening.specs.Inner.Formed.{mainFormed}
 use Rattle.screening.specs.Laws.Meeting.{Met, met, meets}
-use Rattle.screening.specs.Laws.Words.{pair-word, main-formed}
+use Rattle.screening.specs.Laws.Words.{pair-word}
 
--- the effect of three letters reduces to the empty word
+-- an effect of three letters reduces to the empty word
 unfoldable pub threeCombine : Plan → Bool
 threeCombine p = some (allLetters p) (λ l. some l (λ j. some j (λ i. eqb (reducedWord p (2 ^ i + 2 ^ j + 2 ^ l)) 0)))
 
@@ -94,24 +94,28 @@ module _ (p : Plan) where
 
 -- ---- three different factors
 
-module _ (p : Plan) (a : Accepted p) (bits : (j : ℕ) → j < length (addedWords p) → getD (addedWords p) j 0 < 2 ^ 16) where
+module _ (p : Plan) (a : Accepted p) where
   -- no factor's word is empty
   some-letter : (i : ℕ) → i < allLetters p → mainWord p i ≡ 0 → ⊥
-  some-letter i h e = by (decLt i (p .k)) (sym (main-formed (p .k) (addedWords p) (letters-few p a) bits i h) ∙ e)
+  some-letter i h e = by (decLt i k)
     where
-      by : Dec (i < p .k) → mainFormed (p .k) (addedWords p) i ≡ 0 → ⊥
-      by (yes l) z = omega (arith, (rw (lt-ltb i (p .k) l) at z), pow-pos i)
-      by (no l) z =
+      k : ℕ
+      k = p .k
+
+      by : Dec (i < p .k) → ⊥
+      by (yes l) = omega (arith, sym (base-own k (addedWords p) [] (2 ^ i) (omega (arith, letters-few p a)) (pow-lt l)) ∙ e, pow-pos i)
+      by (no l) =
           let j = i - p .k in
-          let in-words : j < length (addedWords p) = omega arith in
-          let word : getD (addedWords p) j 0 ≡ 0 = rw (le-ltb i (p .k) (omega arith)) at z in
-          omega (arith, a .words j in-words .1, ap letters word, letters-none)
+          let there : j < length (addedWords p) = omega arith in
+          let same = letters-of-one k j (addedWords p) there (omega (arith, letters-few p a)) in
+          let is : i ≡ p .k + j = omega arith in
+          omega (arith, a .words j there .1, same, ap (λ (m : ℕ). letters (mainWord p m)) (sym is), ap letters e, letters-none)
 
   small : (i : ℕ) → mainWord p i < 2 ^ 16
   unfolding baseWord
   small i = combined-small (2 ^ i % 2 ^ p .k) (2 ^ i / 2 ^ p .k) (addedWords p)
 
-  -- the word of the first combined with that of the second is that of the third, whichever of the three is written as the others' combination
+  -- where m's word combines those of i and j, m's and i's combine to j's
   turn-about : (m i j : ℕ) → mainWord p m ≡ bitXor (mainWord p i) (mainWord p j) → bitXor (mainWord p m) (mainWord p i) ≡ mainWord p j
   turn-about m i j e = ap (λ (v : ℕ). bitXor v (mainWord p i)) e ∙ xor-back 16 (mainWord p i) (mainWord p j) (small i) (small j)
 

@@ -8,6 +8,7 @@
 --   combined-within    so it is below 2 ^ k where its first word is
 --   combined-own       with none of the words a word combines to itself
 --   combined-one       one word combines to itself
+--   letters-one-of     and so has its letters, of any number the first 16
 --   keeps-odd          a digit times a number is odd or even as it is times the number's lowest digit
 --   shared-combined    how many letters it shares with a run is odd or even as the sum over its words is
 --   combined-xor       two combinations of the same words combine to that of what is in one of them alone
@@ -27,7 +28,7 @@ use Rattle.algebra.specs.Laws.Bits.{bit-lt, bit-xor, digit, bits-lt, bits-at, b
 use Rattle.algebra.specs.Naturals.{Σℕ}
 use Rattle.algebra.specs.Laws.Naturals.{Σℕ-none, Σℕ-add, Σℕ-mul, Σℕ-cong, Σℕ-one, Σℕ-swap, Σℕ-parity}
 use Rattle.algebra.specs.Laws.Search.{some-false}
-use Rattle.words.specs.Words.{letter, has, beyond, shared, odd, times, combined}
+use Rattle.words.specs.Words.{letter, has, letters, beyond, shared, odd, times, combined}
 use Rattle.words.specs.Laws.Letters.{one-letter, no-letter, beyond-none, within}
 
 -- ---- the loop
@@ -111,24 +112,37 @@ combined-own w ws h = bits-cong 16 (λ i l. rw (none i, mod-eq-of-lt (bit-lt w i
         = Σℕ-none (length ws) (λ j. letter 0 j * letter (getD ws j 0) i) (λ j l. rw (zero-div (2 ^ j)) (zero-mul (letter (getD ws j 0) i))) in
         omega (arith, s)
 
-pub combined-one : (j : ℕ) (ws : List ℕ) → j < length ws → length ws ≤ 16 → getD ws j 0 < 2 ^ 16 → combined 0 (2 ^ j) ws ≡ getD ws j 0
-unfolding combined times
-combined-one j ws h few small = bits-cong 16 (λ i l. rw (once i, mod-eq-of-lt (bit-lt w i)) refl) ∙ bits-all 16 w small
-  where
-    w : ℕ
-    w = getD ws j 0
+-- one of the words
+module _ (j : ℕ) (ws : List ℕ) (h : j < length ws) (few : length ws ≤ 16) where
+  digit-of : (b : Bool) (m : ℕ) → cond b 1 0 * m ≡ cond b m 0
+  digit-of true m = omega arith
+  digit-of false m = omega arith
 
-    digit-of : (b : Bool) (m : ℕ) → cond b 1 0 * m ≡ cond b m 0
-    digit-of true m = omega arith
-    digit-of false m = omega arith
+  once : (i : ℕ) → times 0 (2 ^ j) ws i ≡ letter (getD ws j 0) i
+  unfolding times
+  once i =
+      let s : Σℕ (length ws) (λ m. letter (2 ^ j) m * letter (getD ws m 0) i) ≡ letter (getD ws j 0) i
+      = Σℕ-cong (length ws) (λ m l. rw (one-letter j m (omega (arith, h, few)) (omega (arith, l, few))) (digit-of (eqb j m) (letter (getD ws m 0) i)))
+      ∙ Σℕ-one (length ws) j (λ m. letter (getD ws m 0) i) h in
+      let z : letter 0 i ≡ 0 = rw (zero-div (2 ^ i)) refl in
+      omega (arith, s, z)
 
-    once : (i : ℕ) → times 0 (2 ^ j) ws i ≡ letter w i
-    once i =
-        let s : Σℕ (length ws) (λ m. letter (2 ^ j) m * letter (getD ws m 0) i) ≡ letter w i
-        = Σℕ-cong (length ws) (λ m l. rw (one-letter j m (omega (arith, h, few)) (omega (arith, l, few))) (digit-of (eqb j m) (letter (getD ws m 0) i)))
-        ∙ Σℕ-one (length ws) j (λ m. letter (getD ws m 0) i) h in
-        let z : letter 0 i ≡ 0 = rw (zero-div (2 ^ i)) refl in
-        omega (arith, s, z)
+  has-own : (i : ℕ) → odd (times 0 (2 ^ j) ws i) ≡ has (getD ws j 0) i
+  has-own i = rw (once i, mod-eq-of-lt (bit-lt (getD ws j 0) i)) refl
+
+  pub combined-one : getD ws j 0 < 2 ^ 16 → combined 0 (2 ^ j) ws ≡ getD ws j 0
+  unfolding combined
+  combined-one small = bits-cong 16 (λ i l. has-own i) ∙ bits-all 16 (getD ws j 0) small
+
+  pub letters-one-of : letters (combined 0 (2 ^ j) ws) ≡ letters (getD ws j 0)
+  unfolding letters
+  letters-one-of = Σℕ-cong 16 (λ i l. same i l)
+    where
+      same : (i : ℕ) → i < 16 → letter (combined 0 (2 ^ j) ws) i ≡ letter (getD ws j 0) i
+      same i l =
+          let w = combined 0 (2 ^ j) ws in
+          sym (digit (letter w i) (bit-lt w i)) ∙ ap (λ (b : Bool). cond b 1 0) (combined-at 0 (2 ^ j) ws i l ∙ has-own i)
+          ∙ digit (letter (getD ws j 0) i) (bit-lt (getD ws j 0) i)
 
 -- ---- odd or even
 

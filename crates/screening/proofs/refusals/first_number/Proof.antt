@@ -1,6 +1,4 @@
 use mathlib.Core.Path.{refl}
-use borrow.Author.Tests.{not-true, not-false}
-use lib.Dec.{eqb}
 use Rattle.screening.proofs.refusals.first_number.Statement.{statement}
 use Rattle.screening.proofs.refusals.first_number.Tie as tie
 
@@ -10,6 +8,6 @@ first-number-spec =
     (tie.spec
     (λ c. rw (c .if1 .taken) refl)
     (λ c. rw (c .before .if1 .left, c .if2 .taken) refl)
-    (λ c. rw (c .before .before .if1 .left, c .before .if2 .left, not-true (eqb (c .before .before .before .args .table) 0) (c .if3 .taken)) refl)
-    (λ c. rw (c .before .before .before .if1 .left, c .before .before .if2 .left, not-false (eqb (c .before .before .before .before .args .table) 0) (c .before .if3 .left), c .if4 .taken) refl)
-    (λ c. rw (c .before .before .before .if1 .left, c .before .before .if2 .left, not-false (eqb (c .before .before .before .before .args .table) 0) (c .before .if3 .left), c .if4 .left) refl))
+    (λ c. rw (c .before .before .if1 .left, c .before .if2 .left, c .if3 .taken) refl)
+    (λ c. rw (c .before .before .before .if1 .left, c .before .before .if2 .left, c .before .if3 .left, c .if4 .taken) refl)
+    (λ c. rw (c .before .before .before .if1 .left, c .before .before .if2 .left, c .before .if3 .left, c .if4 .left) refl))

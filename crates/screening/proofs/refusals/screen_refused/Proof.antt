@@ -31,4 +31,4 @@ screen-refused-spec =
     let meeting = marking .before .before in
     let forming = meeting .before in
     judged _ (ok (forming .before .before .before .before)) _ _ _ _ (forming .factor-words .ensures)
-    (meeting .do-meet .ensures) (marking .is-main-marked .ensures) (marking .before .table-refused .ensures) (c .first-number .ensures)))
+    (meeting .effects-meet .ensures) (marking .is-main-marked .ensures) (marking .before .table-refused .ensures) (c .first-number .ensures)))

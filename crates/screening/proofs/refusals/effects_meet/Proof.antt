@@ -1,11 +1,11 @@
 use mathlib.Core.Path.{sym}
 use native.Mathlib.Omega.{arith}
 use lib.Seq.{length-take-le}
-use Rattle.screening.proofs.refusals.do_meet.Statement.{statement}
-use Rattle.screening.proofs.refusals.do_meet.Tie as tie
+use Rattle.screening.proofs.refusals.effects_meet.Statement.{statement}
+use Rattle.screening.proofs.refusals.effects_meet.Tie as tie
 
-pub do-meet-spec : {M : Type 1} → statement M
-do-meet-spec =
+pub effects-meet-spec : {M : Type 1} → statement M
+effects-meet-spec =
     tie.close
     (tie.spec
     (λ c. omega arith)
