@@ -10,6 +10,7 @@
 --   Fractions   fractions with a common denominator
 --   Bits        binary digits
 --   Size        the size of sums and products of integers
+--   Quotients   division of an integer by a natural number
 --   Machine     what fits a machine's integer
 --   Signs       the size of a signed value, as code forms it
 --   Tab         the list of a function's first n values
@@ -24,6 +25,7 @@
 --   Turns       a list whose places are written one after the other
 --   Spread      the same where each turn writes places that lie a fixed distance apart
 --   Fill        a list that is written place by place
+--   Copied      a list that is copied to another
 --   Sorted      terms added to places by their keys
 --   Parts       a list that is worked part by part
 --   Collected   those that pass a test, counted, and written one after the other
@@ -37,6 +39,7 @@ pub mod Products
 pub mod Fractions
 pub mod Bits
 pub mod Size
+pub mod Quotients
 pub mod Machine
 pub mod Signs
 pub mod Tab
@@ -48,6 +51,7 @@ pub mod Gathered
 pub mod Turns
 pub mod Spread
 pub mod Fill
+pub mod Copied
 pub mod Sorted
 pub mod Parts
 pub mod Collected

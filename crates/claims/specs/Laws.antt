@@ -1,7 +1,7 @@
 -- The proofs of the claims: a file for each, by the claim's name.
 --
 --   LowestNumber, Refusals, Letters, HighMinusLow, CheckNumbers, AnyOrder, Steps, SumOfSquares, TableAddsUp, OneWalk, ThreeBlocks,
---   EveryBlocking, Screening, Starred, WrongPrograms
+--   EveryBlocking, Screening, ReturnTrip, Starred, WrongPrograms
 pub mod LowestNumber
 pub mod Refusals
 pub mod Letters
@@ -15,5 +15,6 @@ pub mod OneWalk
 pub mod ThreeBlocks
 pub mod EveryBlocking
 pub mod Screening
+pub mod ReturnTrip
 pub mod Starred
 pub mod WrongPrograms

@@ -13,6 +13,7 @@
 --   ThreeBlocks    demand 2: three-level plans in three blocks
 --   EveryBlocking  every way to block a small plan
 --   Screening      the screening profile
+--   ReturnTrip     demand 2: readings back from totals
 --   Starred        the starred runs, as one fact
 --   WrongPrograms  the programs that have to break their statements
 --   Examples       worked examples
@@ -30,6 +31,7 @@ pub mod OneWalk
 pub mod ThreeBlocks
 pub mod EveryBlocking
 pub mod Screening
+pub mod ReturnTrip
 pub mod Starred
 pub mod WrongPrograms
 pub mod Examples

@@ -24,6 +24,7 @@ use Rattle.aliases.specs.Alias.{aliasRefusals, aliasRefused}
 use Rattle.blockings.specs.Blockings.{blockingsRefusals, blockingsRefused}
 use Rattle.estimates.specs.Estimate.{estimateRefusals, estimateRefused}
 use Rattle.yates.specs.Calls.{passRefusals, passRefused, totalsRefusals, totalsRefused}
+use Rattle.recovery.specs.Calls.{recoverRefusals, recoverRefused}
 use Rattle.steps.specs.Step.{stepRefusals, stepRefused}
 use Rattle.anova.specs.Table.{wrongLengths, tableRefusals, tableRefused}
 use Rattle.screening.specs.Screening.{screenRefusals, screenRefused}
@@ -69,6 +70,8 @@ pub record LowestNumber : Type 0 where
   pub step : (p : Plan) (from to : List ℤ) → Lowest (stepRefused p from to) (onPlan p (stepRefusals p from to))
   -- the totals call is ours, with the step's refusals
   pub totals : (p : Plan) (readings column : List ℤ) → Lowest (totalsRefused p readings column) (onPlan p (totalsRefusals p readings column))
+  -- L15: "14, no such readings exist, after 11; no 12 here"
+  pub recover : (p : Plan) (ts column : List ℤ) → Lowest (recoverRefused p ts column) (onPlan p (recoverRefusals p ts column))
   -- L11: "the table 11, 12, 13"
   pub table : (p : Plan) (readings : List ℤ) (marks : List ℕ) (column : List ℤ) (rows : List ℕ)
       → Lowest (tableRefused p readings marks column rows) (onPlan p (tableRefusals p readings marks column rows))
@@ -86,6 +89,8 @@ pub record LowestNumber : Type 0 where
       → Lowest (passRefused (wholePlan levels k 1) f column) (onPlan (wholePlan levels k 1) (passRefusals (wholePlan levels k 1) f column))
   pub totals-C : (levels k r : ℕ) (readings column : List ℤ)
       → Lowest (totalsRefused (wholePlan levels k r) readings column) (onPlan (wholePlan levels k r) (totalsRefusals (wholePlan levels k r) readings column))
+  pub recover-C : (levels k r : ℕ) (ts column : List ℤ)
+      → Lowest (recoverRefused (wholePlan levels k r) ts column) (onPlan (wholePlan levels k r) (recoverRefusals (wholePlan levels k r) ts column))
   pub table-C : (levels k r : ℕ) (readings : List ℤ) (marks : List ℕ) (column : List ℤ) (rows figures : List ℕ) (checks : List ℤ)
       → Lowest (callRefused (wholePlan levels k r) readings marks column rows figures checks)
       (onPlan (wholePlan levels k r) (tableRefusalsC (wholePlan levels k r) readings marks column rows figures checks))

@@ -3,7 +3,7 @@
 --
 --   theNumbers                 the thirteen numbers, and those that have joined them
 --   OneOfTheNumbers n          a number that refuses, and so is not 0, has a place among these
---   OnPlan p                   THE CLAIM on the calls that take a plan: check, run, alias, estimate, pass, step, totals, table, screen
+--   OnPlan p                   THE CLAIM on the calls that take a plan: check, run, alias, estimate, pass, step, totals, recover, table, screen
 --   OnBlockings k b column     on the blocking call
 --   OnSheet sheet              on those that take a sheet: reader, marks, print
 --   ForC                       on the table call for C; the others for C have the numbers and columns of the first
@@ -20,6 +20,7 @@ use Rattle.aliases.specs.Alias.{aliasRefused}
 use Rattle.blockings.specs.Blockings.{blockingsRefused, blockingsColumn}
 use Rattle.estimates.specs.Estimate.{estimateRefused}
 use Rattle.yates.specs.Calls.{passRefused, passColumn, totalsRefused, totalsColumn}
+use Rattle.recovery.specs.Calls.{recoverRefused, recoverColumn}
 use Rattle.steps.specs.Step.{stepRefused, stepColumn}
 use Rattle.anova.specs.Table.{tableRefused, tableTotals, tableRows}
 use Rattle.screening.specs.Screening.{screenRefused, screenTotals, screenRows}
@@ -27,9 +28,9 @@ use Rattle.sheet.specs.Sheet.{readRefused, readColumn, marksRefused, marksOf}
 use Rattle.printing.specs.Printed.{printRefused}
 use Rattle.exported.specs.Handed.{callRefused, callTotals, callRows, callFigures, callChecks}
 
--- D1.6, N16 to N18, N21
+-- D1.6, N14, N16 to N18, N21
 abbrev pub theNumbers : List ℕ
-theNumbers = 1 ∷ 2 ∷ 3 ∷ 4 ∷ 5 ∷ 6 ∷ 7 ∷ 8 ∷ 9 ∷ 10 ∷ 11 ∷ 12 ∷ 13 ∷ 16 ∷ 17 ∷ 18 ∷ 21 ∷ []
+theNumbers = 1 ∷ 2 ∷ 3 ∷ 4 ∷ 5 ∷ 6 ∷ 7 ∷ 8 ∷ 9 ∷ 10 ∷ 11 ∷ 12 ∷ 13 ∷ 14 ∷ 16 ∷ 17 ∷ 18 ∷ 21 ∷ []
 
 abbrev pub OneOfTheNumbers : ℕ → Type 0
 OneOfTheNumbers n = (n ≡ 0 → ⊥) → place theNumbers n ≤ length theNumbers
@@ -44,12 +45,14 @@ pub record OnPlan (p : Plan) : Type 0 where
   pub pass : (f : ℕ) (column : List ℤ) → OneOfTheNumbers (passRefused p f column)
   pub step : (from to : List ℤ) → OneOfTheNumbers (stepRefused p from to)
   pub totals : (readings column : List ℤ) → OneOfTheNumbers (totalsRefused p readings column)
+  pub recover : (ts column : List ℤ) → OneOfTheNumbers (recoverRefused p ts column)
   pub table : (readings : List ℤ) (marks : List ℕ) (column : List ℤ) (rows : List ℕ) → OneOfTheNumbers (tableRefused p readings marks column rows)
   pub screen : (readings : List ℤ) (marks : List ℕ) (column : List ℤ) (rows : List ℕ) → OneOfTheNumbers (screenRefused p readings marks column rows)
   -- D1.8: "and then writes nothing at all": the slices at exit are those at entry
   pub pass-unwritten : (f : ℕ) (column : List ℤ) → (passRefused p f column ≡ 0 → ⊥) → passColumn p f column ≡ column
   pub step-unwritten : (from to : List ℤ) → (stepRefused p from to ≡ 0 → ⊥) → stepColumn p from to ≡ to
   pub totals-unwritten : (readings column : List ℤ) → (totalsRefused p readings column ≡ 0 → ⊥) → totalsColumn p readings column ≡ column
+  pub recover-unwritten : (ts column : List ℤ) → (recoverRefused p ts column ≡ 0 → ⊥) → recoverColumn p ts column ≡ column
   pub table-unwritten : (readings : List ℤ) (marks : List ℕ) (column : List ℤ) (rows : List ℕ)
       → (tableRefused p readings marks column rows ≡ 0 → ⊥)
       → (tableTotals p readings marks column rows ≡ column) × (tableRows p readings marks column rows ≡ rows)
@@ -73,7 +76,7 @@ pub record OnSheet (sheet : List ℕ) : Type 0 where
   -- D1.7: "(the marks call with an empty part)"
   pub marks-empty : (marksRefused sheet ≡ 0 → ⊥) → marksOf sheet ≡ []
 
--- ---- the table call for C; the pass and the totals for C have the numbers and columns of those above
+-- ---- the table call for C; the pass, the totals and the recovery for C have the numbers and columns of those above
 
 pub record ForC (p : Plan) (readings : List ℤ) (marks : List ℕ) (totals : List ℤ) (rows figures : List ℕ) (checks : List ℤ) : Type 0 where
   pub number : OneOfTheNumbers (callRefused p readings marks totals rows figures checks)

@@ -3,6 +3,7 @@
 --   wrongLength p n                    refusal 11: a column of n places is not N long
 --   wrongReadings p n                  refusal 11: n readings are not N times r
 --   anyBeyond limit xs                 refusal 12: a column that has a value beyond a limit
+--   lengthsRefused p wrong             the first number by the plan and by whether a length is wrong
 --   lengthsThenValues wrong limit xs   the refusals, besides those of the plan, of a call that reads the column xs and writes another
 --   columnsRefusals limit p xs ys      those of one that reads values, and writes the column ys
 --   columnsRefused limit p xs ys       its first number that applies, 0 where it is done
@@ -36,6 +37,10 @@ wrongReadings p n = not (eqb n (allReadings p))
 -- N12: "12 with these limits", of a column
 unfoldable pub anyBeyond : ℕ → List ℤ → Bool
 anyBeyond limit xs = some (length xs) (λ i. isBeyond limit (read xs i))
+
+-- N11
+unfoldable pub lengthsRefused : Plan → Bool → ℕ
+lengthsRefused p wrong = withPlan p (refusal 11 wrong ∷ [])
 
 -- N11, N12: a call that reads one column and writes another goes by their lengths, and by the values that it reads; the column that it
 -- writes may hold any

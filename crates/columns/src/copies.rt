@@ -1,4 +1,4 @@
-// Readings as the values of a column.
+// Readings as the values of a column, and the values of one column to another.
 ghost use mathlib.Core.Path.{_≡_};
 ghost use lib.ListN.{length};
 ghost use Rattle.columns.specs.Copies.{copied};
@@ -20,5 +20,17 @@ pub fn copy(readings: &[i32], column: &mut [i64])
 {
     if readings.len() == column.len() {
         put_readings(readings, column);
+    }
+}
+
+// The values of a column to another of as many places.
+pub fn copy_values(from: &[i64], to: &mut [i64])
+    requires { ⌜ length (now from) ≡ length (now to) ⌝ }
+    ensures { λ _. ⌜ now (to .exit) ≡ now (from .entry) ⌝ }
+{
+    let mut i = 0;
+    while i < from.len() {
+        to[i] = from[i];
+        i += 1;
     }
 }

@@ -9,12 +9,11 @@ use plan::lowest;
 use sizes::reading_count;
 use sizes::runs;
 ghost use Rattle.contrasts.specs.Limits.{valueLimit};
-ghost use Rattle.columns.specs.Inner.Judged.{lengthsRefused};
-ghost use Rattle.columns.specs.Refusals.{wrongLength, columnsRefused, readingsRefused};
+ghost use Rattle.columns.specs.Refusals.{wrongLength, lengthsRefused, columnsRefused, readingsRefused};
 
 // The first number that applies to the plan and to the lengths of the two columns, and 0 where none does. The one that is read is to have
 // `count` places.
-fn lengths_refused(p: Plan, count: usize, read: usize, written: usize) -> u8
+pub fn lengths_refused(p: Plan, count: usize, read: usize, written: usize) -> u8
     ensures { λ r. ⌜ r ≡ lengthsRefused p (not (eqb read count) || wrongLength p written) ⌝ }
 {
     let n = lowest(p);

@@ -15,6 +15,7 @@
 --   Stretches      a pass stretch by stretch
 --   Lists          the theorems over columns that are lists
 --   Within         bounds on all values of a list
+--   Undo           the sums back from totals, one factor after the other
 --   Replicated     plans of k factors that are alike
 --   TwoLevels      two levels, in the words of the rules
 --   ThreeLevels    three levels, in the words of the rules
@@ -41,6 +42,7 @@ pub mod Rows
 pub mod Stretches
 pub mod Lists
 pub mod Within
+pub mod Undo
 pub mod Replicated
 pub mod TwoLevels
 pub mod ThreeLevels

@@ -13,6 +13,7 @@
 --   Limits      the limits of readings, values and numerators
 --   Repeats     runs that are made more than once: run sums, and squares within runs
 --   Columns     the definitions over columns that are lists
+--   Recovery    readings back from totals
 --   Contrast    the readings of some runs less those of the others
 --   Examples    the worked examples, computed
 --   Laws        the theorems
@@ -28,6 +29,7 @@ pub mod Blocks
 pub mod Limits
 pub mod Repeats
 pub mod Columns
+pub mod Recovery
 pub mod Contrast
 pub mod Examples
 pub mod Laws

@@ -3,6 +3,7 @@ ghost use mathlib.Core.Path.{_≡_};
 ghost use lib.ListN.{length};
 use anova::Figures;
 use anova::Table;
+use columns::copy_values;
 use plan::Plan;
 ghost use Rattle.exported.specs.Handed.{figureNumbers, checkNumbers, wrongRoom, Handed};
 
@@ -21,17 +22,6 @@ pub fn wrong_room(figures: usize, checks: usize) -> bool
 }
 
 fn put_unsigned(from: &[u64], to: &mut [u64])
-    requires { ⌜ length (now from) ≡ length (now to) ⌝ }
-    ensures { λ _. ⌜ now (to .exit) ≡ now (from .entry) ⌝ }
-{
-    let mut i = 0;
-    while i < from.len() {
-        to[i] = from[i];
-        i += 1;
-    }
-}
-
-fn put_signed(from: &[i64], to: &mut [i64])
     requires { ⌜ length (now from) ≡ length (now to) ⌝ }
     ensures { λ _. ⌜ now (to .exit) ≡ now (from .entry) ⌝ }
 {
@@ -75,7 +65,7 @@ fn put_checks(f: Figures, checks: &mut [i64])
 {
     let both = f.checks;
     let numbers = [both.totals, both.readings];
-    put_signed(&numbers, checks);
+    copy_values(&numbers, checks);
 }
 
 // The table call, where there is room for figures and checks.

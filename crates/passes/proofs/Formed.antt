@@ -25,6 +25,7 @@ use Rattle.contrasts.specs.Passes.{passes, count}
 use Rattle.contrasts.specs.Laws.Both.{bothOver, BothStretches, FirstStretches}
 use Rattle.contrasts.specs.Laws.Replicated.{size-alike, spacing-alike}
 use Rattle.contrasts.specs.Laws.Levels.{some-levels}
+use Rattle.contrasts.specs.Laws.Small.{value-mild}
 use Rattle.contrasts.specs.Laws.Limits.{values-fit}
 use Rattle.contrasts.specs.Laws.Lists.{tab-read, pass-over, passes-list, passes-more, order-list}
 use Rattle.contrasts.specs.Laws.Within.{within-tab}
@@ -72,7 +73,7 @@ module _ {l k : ℕ} {xs : List ℤ} (pre : PassReadings l k xs) where
 
     module _ (low : f < k) where
       pub all-ready : Stretches l s ys
-      all-ready = in-stretches l f k s ys (pre .kind) low (w .apart) (all-long ∙ pre .whole) all-small
+      all-ready = in-stretches l f k s ys (pre .kind) low (w .apart) (all-long ∙ pre .whole) (value-mild ys all-small)
 
       pub spacing-fits : s * l ≤ length xs
       spacing-fits = rw (w .apart, pre .whole, ← (pow-suc l f)) (pow-le-pow-right (some-levels l (pre .kind)) low)

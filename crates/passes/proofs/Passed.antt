@@ -16,8 +16,7 @@ use Rattle.algebra.specs.Laws.Parts.{part, length-part, Making, making-none, ro
 use Rattle.contrasts.specs.Factors.{ofLevels}
 use Rattle.contrasts.specs.Laws.Within.{within-part}
 use Rattle.contrasts.specs.Laws.Stretches.{passOver, length-over, stretch-alone}
-use Rattle.passes.specs.Ready.{Stretches}
-use Rattle.passes.specs.Inner.Lent.{Stretch}
+use Rattle.passes.specs.Ready.{Stretch, Stretches}
 
 abbrev pub Passing : ℕ → ℕ → List ℤ → ℕ → List ℤ → Type 0
 Passing levels h xs start ys = Making (levels * h) (passOver h (ofLevels levels) xs) xs start ys

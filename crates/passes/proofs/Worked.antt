@@ -17,9 +17,9 @@ use Rattle.contrasts.specs.Columns.{read}
 use Rattle.contrasts.specs.Factors.{two, three, ofLevels}
 use Rattle.contrasts.specs.Passes.{passAt}
 use Rattle.contrasts.specs.Laws.Stretches.{passOver, stretch-value}
-use Rattle.contrasts.specs.Laws.Small.{Mild, mild-small}
+use Rattle.contrasts.specs.Laws.Small.{Mild}
 use Rattle.contrasts.specs.Laws.Sets.{turn-two, turn-three}
-use Rattle.passes.specs.Inner.Lent.{Stretch}
+use Rattle.passes.specs.Ready.{Stretch}
 
 abbrev pub Stretched : ℕ → ℕ → List ℤ → ℕ → List ℤ → Type 0
 Stretched levels h xs i ys = Turned levels h (passAt h (ofLevels levels) (read xs)) (read xs) i ys
@@ -40,7 +40,7 @@ module _ {levels h : ℕ} {xs : List ℤ} (pre : Stretch levels h xs) where
       still d k n e = sym (unread (pos 0) w low d k) ∙ ap (read ys) e
 
       mild-at : (d : ℕ) → d < levels → (n : ℕ) → i + d * h ≡ n → Mild (read ys n)
-      mild-at d k n e = mild-small (record { small = rw (← (still d k n e)) (pre .within (i + d * h)) })
+      mild-at d k n e = record { mild = rw (← (still d k n e)) (pre .within (i + d * h)) }
 
 module _ {h : ℕ} {xs : List ℤ} (pre : Stretch 2 h xs) {i : ℕ} {ys : List ℤ} (w : Stretched 2 h xs i ys) (low : i < h) where
   pub pair : Mild (read ys i) × Mild (read ys (i + h))

@@ -1,6 +1,7 @@
 -- What the passes ask of the columns that they are lent. What they leave is `passOver` and `totalsOf` of `contrasts`.
 --
---   Stretches levels h xs           a column of one or more stretches of a factor whose values lie h apart
+--   Stretch levels h xs             one stretch of a factor whose values lie h apart, with room for one more pass
+--   Stretches levels h xs           a column of one or more such stretches
 --   PassReadings levels k xs        readings or run sums of a plan of k factors, within a limit that leaves room for all passes
 --   RunReadings levels k r xs ys    readings of a plan of k factors whose runs are made r times, and a column with a place for each run
 use mathlib.Core.Path.{_≡_}
@@ -9,9 +10,15 @@ use Prim.Native.Nat.{ℕ, _*_, _<_, _≤_, _^_}
 use lib.IntN.{ℤ}
 use lib.ListN.{length, replicate}
 use Rattle.contrasts.specs.Columns.{AllWithin}
-use Rattle.contrasts.specs.Limits.{valueLimit}
 use Rattle.contrasts.specs.Factors.{ofLevels}
 use Rattle.contrasts.specs.Laws.Limits.{Passable}
+use Rattle.contrasts.specs.Laws.Small.{mildLimit}
+
+pub record Stretch (levels h : ℕ) (xs : List ℤ) : Type 0 where
+  pub kind : ofLevels levels .levels ≡ levels
+  pub some : 0 < h
+  pub whole : length xs ≡ levels * h
+  pub within : AllWithin mildLimit xs
 
 pub record Stretches (levels h : ℕ) (xs : List ℤ) : Type 0 where
   pub kind : ofLevels levels .levels ≡ levels
@@ -19,7 +26,7 @@ pub record Stretches (levels h : ℕ) (xs : List ℤ) : Type 0 where
   pub count : ℕ
   pub more : 0 < count
   pub whole : length xs ≡ count * (levels * h)
-  pub within : AllWithin valueLimit xs
+  pub within : AllWithin mildLimit xs
 
 pub record PassReadings (levels k : ℕ) (xs : List ℤ) : Type 0 where
   pub kind : ofLevels levels .levels ≡ levels

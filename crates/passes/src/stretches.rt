@@ -2,8 +2,7 @@
 ghost use mathlib.Core.Path.{_≡_};
 ghost use Rattle.contrasts.specs.Factors.{two, three, ofLevels};
 ghost use Rattle.contrasts.specs.Laws.Stretches.{passOver};
-ghost use Rattle.passes.specs.Ready.{Stretches};
-ghost use Rattle.passes.specs.Inner.Lent.{Stretch};
+ghost use Rattle.passes.specs.Ready.{Stretch, Stretches};
 
 // The pairs of a stretch at two levels: first and second become their sum, and first minus second.
 fn work_pairs(part: &mut [i64], spacing: usize)

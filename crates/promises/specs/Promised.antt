@@ -8,6 +8,7 @@
 --   promisedBlockings                 the blocking call
 --   promisedPass, promisedStep        the pass, and the step
 --   promisedTotals                    the totals of all effects
+--   promisedRecover                   the readings back from totals
 --   promisedTable                     the table
 --   promisedScreen                    the table of the screening profile
 --   promisedEstimate                  the estimate
@@ -27,6 +28,7 @@ use Rattle.aliases.specs.Alias.{aliasRefused, aliasValues}
 use Rattle.blockings.specs.Blockings.{blockingsOf, blockingsRefused, blockingsColumn}
 use Rattle.steps.specs.Step.{stepRefused, stepColumn}
 use Rattle.yates.specs.Calls.{passRefused, passColumn, totalsRefused, totalsColumn}
+use Rattle.recovery.specs.Calls.{recoverRefused, recoverColumn}
 use Rattle.estimates.specs.Estimate.{Value, estimateRefused, estimateValue}
 use Rattle.anova.specs.declared.types.Figures.{Figures}
 use Rattle.anova.specs.Table.{tableRefused, tableFigures, tableTotals, tableRows}
@@ -95,6 +97,13 @@ abbrev pub promisedTotals : Plan → List ℤ → List ℤ → Left
 promisedTotals p readings totals = record {
   answer = outcome (totalsRefused p readings totals) tt;
   column = totalsColumn p readings totals;
+}
+
+-- T32 to T34
+abbrev pub promisedRecover : Plan → List ℤ → List ℤ → Left
+promisedRecover p totals column = record {
+  answer = outcome (recoverRefused p totals column) tt;
+  column = recoverColumn p totals column;
 }
 
 -- V11 to V13

@@ -19,7 +19,7 @@ ghost use Rattle.columns.specs.Refusals.{answerOutcome};
 ghost use Rattle.anova.specs.Table.{tableOutcome};
 ghost use Rattle.estimates.specs.Estimate.{estimateOutcome};
 ghost use Rattle.promises.specs.Promised.{promisedCheck, promisedRun, promisedAlias, promisedBlockings, promisedPass, promisedStep, promisedTotals};
-ghost use Rattle.promises.specs.Promised.{promisedTable, promisedScreen, promisedEstimate};
+ghost use Rattle.promises.specs.Promised.{promisedRecover, promisedTable, promisedScreen, promisedEstimate};
 ghost use Rattle.promises.specs.Promised.{promisedRead, promisedMarks, promisedPrint};
 
 fn check(p: Plan) -> Check
@@ -66,6 +66,13 @@ fn totals(p: Plan, readings: &[i32], column: &mut [i64]) -> Answer
     ensures { λ _. ⌜ now (column .exit) ≡ promisedTotals p (now (readings .entry)) (now (column .entry)) .column ⌝ }
 {
     yates::totals(p, readings, column)
+}
+
+fn recover(p: Plan, totals: &[i64], column: &mut [i32]) -> Answer
+    ensures { λ r. ⌜ answerOutcome r ≡ promisedRecover p (now (totals .entry)) (now (column .entry)) .answer ⌝ }
+    ensures { λ _. ⌜ now (column .exit) ≡ promisedRecover p (now (totals .entry)) (now (column .entry)) .column ⌝ }
+{
+    recovery::recover(p, totals, column)
 }
 
 fn table(p: Plan, readings: &[i32], marks: &[u8], column: &mut [i64], rows: &mut [u64]) -> Table

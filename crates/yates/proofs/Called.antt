@@ -10,6 +10,7 @@ use lib.ListN.{length-replicate, getD-replicate}
 use Rattle.contrasts.specs.Columns.{passOf}
 use Rattle.contrasts.specs.Factors.{ofLevels}
 use Rattle.contrasts.specs.Laws.Lists.{pass-over}
+use Rattle.contrasts.specs.Laws.Small.{value-mild}
 use Rattle.contrasts.specs.Laws.Stretches.{passOver}
 use Rattle.plan.specs.declared.types.Plan.{Plan}
 use Rattle.plan.specs.Check.{spacingAt}
@@ -25,7 +26,7 @@ module _ {p : Plan} {f : ℕ} {xs : List ℤ} (a : PassAdmitted p f xs) {s : ℕ
   pass-ready =
       in-stretches (p .levels) f (p .k) s xs (plan-kind p (a .plan)) (a .base)
       (e ∙ spacing-is p f (a .plan) (a .base) ∙ spacing-power p f (accepted p (a .plan) .levels) (a .base))
-      (as-power p (a .plan) (a .whole)) (a .within)
+      (as-power p (a .plan) (a .whole)) (value-mild xs (a .within))
 
   pub pass-made : {ys : List ℤ} → ys ≡ passOver s (ofLevels (p .levels)) xs → ys ≡ passOf (factorsOf p) f xs
   unfolding factorsOf

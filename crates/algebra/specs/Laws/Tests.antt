@@ -11,14 +11,16 @@
 --   every-at               a test that passes at each number below n passes at any one of them
 --   eqb-digits             two numbers are equal where their lowest digits are, and the rest
 --   cond-*, cond-*ℤ-cond   a product of two numbers, each under a test, is under both tests
---   eqZ→eq                 integers that the test `eqZ` finds equal are equal
+--   eqZ→eq, eqZ-true       integers that the test `eqZ` finds equal are equal
+--   eq-eqZ, ne-eqZ         and it finds so exactly of equal ones
+--   both-ways              two tests fail alike where each fails if the other does
 use mathlib.Core.Path.{_≡_, refl, sym, _∙_, ap}
 use mathlib.Core.Bool.{Bool, true, false, not, cond, _&&_, _||_, true≢false}
 use Prim.Native.Nat.{ℕ, zero, suc, _+_, _*_, _/_, _%_, _<_}
 use native.Mathlib.Nat.{div-add-mod', mul-zero, zero-mul}
 use native.Mathlib.Omega.{arith}
 use native.Mathlib.Decide.{ℕ-discrete, decLt}
-use borrow.Author.Tests.{lt-ltb, le-ltb, le-leb, lt-leb, eq-eqb, ne-eqb}
+use borrow.Author.Tests.{lt-ltb, le-ltb, le-leb, lt-leb, eq-eqb, ne-eqb, eqb-true}
 use lib.Dec.{T, eqb, eqb→eq, ltb}
 use lib.IntN.{ℤ, pos, negsuc, _*ℤ_, *ℤ-zero, zero-*ℤ}
 use Rattle.algebra.specs.Tests.{every, eqZ}
@@ -96,3 +98,22 @@ eqZ→eq (pos a) (pos b) t = ap pos (eqb→eq a b t)
 eqZ→eq (pos a) (negsuc b) t = absurd t
 eqZ→eq (negsuc a) (pos b) t = absurd t
 eqZ→eq (negsuc a) (negsuc b) t = ap negsuc (eqb→eq a b t)
+
+pub eqZ-true : (a b : ℤ) → eqZ a b ≡ true → a ≡ b
+eqZ-true (pos a) (pos b) e = ap pos (eqb-true a b e)
+eqZ-true (pos a) (negsuc b) e = absurd (true≢false (sym e))
+eqZ-true (negsuc a) (pos b) e = absurd (true≢false (sym e))
+eqZ-true (negsuc a) (negsuc b) e = ap negsuc (eqb-true a b e)
+
+pub eq-eqZ : (a b : ℤ) → a ≡ b → eqZ a b ≡ true
+eq-eqZ (pos a) b e = rw (← e) (eq-eqb a a refl)
+eq-eqZ (negsuc a) b e = rw (← e) (eq-eqb a a refl)
+
+pub ne-eqZ : (a b : ℤ) → (a ≡ b → ⊥) → eqZ a b ≡ false
+ne-eqZ a b h = fails (eqZ a b) (λ e. h (eqZ-true a b e))
+
+pub both-ways : (a b : Bool) → (a ≡ false → b ≡ false) → (b ≡ false → a ≡ false) → a ≡ b
+both-ways true true f g = refl
+both-ways true false f g = g refl
+both-ways false true f g = sym (f refl)
+both-ways false false f g = refl

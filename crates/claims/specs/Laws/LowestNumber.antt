@@ -21,6 +21,7 @@ use Rattle.aliases.specs.Alias.{aliasRefusals, aliasRefused}
 use Rattle.blockings.specs.Blockings.{blockingsRefusals, blockingsRefused}
 use Rattle.estimates.specs.Estimate.{estimateRefusals, estimateRefused}
 use Rattle.yates.specs.Calls.{passRefusals, passRefused, totalsRefusals}
+use Rattle.recovery.specs.Calls.{recoverRefusals, recoverRefused}
 use Rattle.steps.specs.Step.{stepRefusals}
 use Rattle.anova.specs.Table.{wrongLengths, tableRefusals, tableRefused}
 use Rattle.screening.specs.Screening.{screenRefusals, screenRefused}
@@ -65,7 +66,7 @@ of-table p readings marks column rows figures checks = by (wrongRoom (length fig
     by false = refl
 
 pub lowest-number : LowestNumber
-unfolding planRefused runRefused aliasRefused estimateRefused blockingsRefused passRefused columnsRefused readingsRefused tableRefused screenRefused readRefused marksRefused rank
+unfolding planRefused runRefused aliasRefused estimateRefused blockingsRefused passRefused columnsRefused readingsRefused recoverRefused tableRefused screenRefused readRefused marksRefused rank
 lowest-number =
     record {
       check = λ p. is-lowest (planRefusals p) tt;
@@ -76,6 +77,7 @@ lowest-number =
       pass = λ p f column. lowest-with-plan p (passRefusals p f column) tt;
       step = λ p from to. lowest-with-plan p (stepRefusals p from to) tt;
       totals = λ p readings column. lowest-with-plan p (totalsRefusals p readings column) tt;
+      recover = λ p ts column. lowest-with-plan p (recoverRefusals p ts column) tt;
       table = λ p readings marks column rows. lowest-with-plan p (tableRefusals p readings marks column rows) tt;
       screen = λ p readings marks column rows. lowest-with-plan p (screenRefusals p readings marks column rows) tt;
       reader = λ sheet room. of-sheet (fieldsOf sheet) (ltb room (allReadings (planIn (fieldsOf sheet))));
@@ -83,6 +85,7 @@ lowest-number =
       print = λ sheet. rw (of-bytes sheet) (is-lowest (onBytes sheet) tt);
       pass-C = λ levels k f column. lowest-with-plan (wholePlan levels k 1) (passRefusals (wholePlan levels k 1) f column) tt;
       totals-C = λ levels k r readings column. lowest-with-plan (wholePlan levels k r) (totalsRefusals (wholePlan levels k r) readings column) tt;
+      recover-C = λ levels k r ts column. lowest-with-plan (wholePlan levels k r) (recoverRefusals (wholePlan levels k r) ts column) tt;
       table-C = λ levels k r readings marks column rows figures checks.
           rw (of-table (wholePlan levels k r) readings marks column rows figures checks)
           (lowest-with-plan (wholePlan levels k r) (tableRefusalsC (wholePlan levels k r) readings marks column rows figures checks) tt);

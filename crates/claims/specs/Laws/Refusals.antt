@@ -22,6 +22,7 @@ use Rattle.aliases.specs.Alias.{aliasRefusals, aliasRefused}
 use Rattle.blockings.specs.Blockings.{blockingsRefusals, blockingsRefused, blockingsColumn}
 use Rattle.estimates.specs.Estimate.{estimateRefusals, estimateRefused}
 use Rattle.yates.specs.Calls.{passRefusals, passRefused, passColumn, totalsRefusals, totalsColumn}
+use Rattle.recovery.specs.Calls.{recoverRefusals, recoverRefused, recoverColumn}
 use Rattle.steps.specs.Step.{stepRefusals, stepColumn}
 use Rattle.anova.specs.Table.{tableRefusals, tableRefused, tableTotals, tableRows}
 use Rattle.screening.specs.Screening.{screenRefusals, screenRefused, screenTotals, screenRows}
@@ -56,7 +57,7 @@ by-plan p further t = by (ℕ-discrete (planRefused p) 0)
     by (no e) = rw (← (plan-first p further refl e)) (lowest-known (planRefusals p) tt)
 
 pub on-any-plan : (p : Plan) → OnPlan p
-unfolding planRefused runRefused aliasRefused estimateRefused passRefused passColumn stepColumn columnsRefused readingsRefused totalsColumn tableRefused tableTotals tableRows screenRefused screenTotals screenRows known
+unfolding planRefused runRefused aliasRefused estimateRefused passRefused passColumn stepColumn columnsRefused readingsRefused totalsColumn recoverRefused recoverColumn tableRefused tableTotals tableRows screenRefused screenTotals screenRows known
 on-any-plan p =
     record {
       check = lowest-known (planRefusals p) tt;
@@ -66,11 +67,13 @@ on-any-plan p =
       pass = λ f column. by-plan p (passRefusals p f column) tt;
       step = λ from to. by-plan p (stepRefusals p from to) tt;
       totals = λ readings column. by-plan p (totalsRefusals p readings column) tt;
+      recover = λ ts column. by-plan p (recoverRefusals p ts column) tt;
       table = λ readings marks column rows. by-plan p (tableRefusals p readings marks column rows) tt;
       screen = λ readings marks column rows. by-plan p (screenRefusals p readings marks column rows) tt;
       pass-unwritten = λ f column n. sym (unwritten _ _ column n);
       step-unwritten = λ from to n. sym (unwritten _ _ to n);
       totals-unwritten = λ readings column n. sym (unwritten _ _ column n);
+      recover-unwritten = λ ts column n. sym (unwritten _ _ column n);
       table-unwritten = λ readings marks column rows n. (sym (unwritten _ _ column n), sym (unwritten _ _ rows n));
       screen-unwritten = λ readings marks column rows n. (sym (unwritten _ _ column n), sym (unwritten _ _ rows n));
     }

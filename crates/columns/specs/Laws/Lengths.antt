@@ -2,24 +2,24 @@
 --
 --   wrong, right            what the code's comparison with `runs` says of an accepted plan
 --   by-runs, by-readings    the number by the lengths, where the code compares with `runs` and with `reading_count`
---   by-lengths              a number by the lengths alone is that of the columns
---   by-values               where there is none, the values decide
+--   by-lengths              a number by the lengths alone is that of the call
+--   by-rest                 where there is none, its other refusals decide
+--   by-none                 and the plan is accepted, and no length is wrong
 use mathlib.Core.Path.{_≡_, refl, sym, _∙_}
 use mathlib.Core.Bool.{Bool, true, false, cond, not, _||_}
-use mathlib.Core.List.{List}
+use mathlib.Core.List.{List, _∷_}
 use Prim.Native.Nat.{ℕ}
 use native.Mathlib.Decide.{ℕ-discrete}
 use native.Mathlib.Omega.{arith}
 use borrow.Author.Tests.{eq-eqb, ne-eqb}
 use lib.Dec.{eqb}
-use lib.IntN.{ℤ}
 use Rattle.plan.specs.declared.types.Plan.{Plan}
 use Rattle.plan.specs.Check.{planRefused, withPlan, runCount, readingCount}
+use Rattle.plan.specs.Outcome.{Refusal, refusal, lowest}
 use Rattle.plan.specs.Plan.{runsOf}
 use Rattle.plan.specs.Laws.Answers.{passed, plan-passed, plan-first, after-plan}
 use Rattle.plan.specs.Laws.Sizes.{run-count, reading-count}
-use Rattle.columns.specs.Inner.Judged.{lengthsRefused}
-use Rattle.columns.specs.Refusals.{wrongLength, wrongReadings, anyBeyond, lengthsThenValues}
+use Rattle.columns.specs.Refusals.{wrongLength, wrongReadings, lengthsRefused}
 
 module _ (p : Plan) (ok : planRefused p ≡ 0) {n : ℕ} (e : n ≡ runCount p) (m : ℕ) where
   pub wrong : (m ≡ n → ⊥) → wrongLength p m ≡ true
@@ -48,8 +48,8 @@ module _ (p : Plan) (read written : ℕ) {n r : ℕ} (number : r ≡ lengthsRefu
   unfolding wrongReadings
   by-readings e = number ∙ same p _ _ (λ ok. rw (e, reading-count p ok) refl)
 
-module _ (p : Plan) (wrong : Bool) (limit : ℕ) (xs : List ℤ) where
-  pub by-lengths : {n : ℕ} → n ≡ lengthsRefused p wrong → (n ≡ 0 → ⊥) → n ≡ withPlan p (lengthsThenValues wrong limit xs)
+module _ (p : Plan) (wrong : Bool) (rest : List Refusal) where
+  pub by-lengths : {n : ℕ} → n ≡ lengthsRefused p wrong → (n ≡ 0 → ⊥) → n ≡ withPlan p (refusal 11 wrong ∷ rest)
   unfolding lengthsRefused
   by-lengths {n} e h = by (ℕ-discrete (planRefused p) 0)
     where
@@ -57,13 +57,20 @@ module _ (p : Plan) (wrong : Bool) (limit : ℕ) (xs : List ℤ) where
       refusal-11 true m d = d
       refusal-11 false m d = absurd (h d)
 
-      by : Dec (planRefused p ≡ 0) → n ≡ withPlan p (lengthsThenValues wrong limit xs)
-      by (yes d) = refusal-11 wrong (cond (anyBeyond limit xs) 12 0) (e ∙ after-plan p _ d) ∙ sym (after-plan p _ d)
+      by : Dec (planRefused p ≡ 0) → n ≡ withPlan p (refusal 11 wrong ∷ rest)
+      by (yes d) = refusal-11 wrong (lowest rest) (e ∙ after-plan p _ d) ∙ sym (after-plan p _ d)
       by (no d) = e ∙ sym (plan-first p _ refl d) ∙ plan-first p _ refl d
 
-  pub by-values : lengthsRefused p wrong ≡ 0 → withPlan p (lengthsThenValues wrong limit xs) ≡ cond (anyBeyond limit xs) 12 0
+  pub by-rest : lengthsRefused p wrong ≡ 0 → withPlan p (refusal 11 wrong ∷ rest) ≡ lowest rest
   unfolding lengthsRefused
-  by-values e =
+  by-rest e =
       let q = plan-passed p _ e in
       let l11 = passed wrong 11 _ (omega arith) (q .1) in
       after-plan p _ (q .0) ∙ rw (l11 .0) refl
+
+-- no number by the lengths
+pub by-none : (p : Plan) (wrong : Bool) → lengthsRefused p wrong ≡ 0 → (planRefused p ≡ 0) × (wrong ≡ false)
+unfolding lengthsRefused
+by-none p wrong e =
+    let q = plan-passed p _ e in
+    (q .0, passed wrong 11 _ (omega arith) (q .1) .0)

@@ -3,6 +3,7 @@
 --   reach F          the most by which a pass or step of F multiplies the largest value: the largest sum of sizes in a row
 --   growth Fs        the most by which passes that repeat no factor do
 --   Within n M x     no value at the places below n exceeds M in size
+--   sized            the sizes of products with such values
 --   row-bound        a sum by a row
 --   bound-passes     after any calls that repeat no factor
 --   bound-each       and after each of them
@@ -40,7 +41,7 @@ growth (F ∷ Fs) = max 1 (reach F) * growth Fs
 abbrev pub Within : ℕ → ℕ → Column → Type 0
 Within n M x = (r : ℕ) → r < n → natAbs (x r) ≤ M
 
-sized : (n M : ℕ) (c y : ℕ → ℤ) → Within n M y → Σℕ n (λ j. natAbs (c j *ℤ y j)) ≤ Σℕ n (λ j. natAbs (c j)) * M
+pub sized : (n M : ℕ) (c y : ℕ → ℤ) → Within n M y → Σℕ n (λ j. natAbs (c j *ℤ y j)) ≤ Σℕ n (λ j. natAbs (c j)) * M
 unfolding Σℕ
 sized zero M c y h = omega arith
 sized (suc n) M c y h =

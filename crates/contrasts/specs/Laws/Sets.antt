@@ -21,11 +21,10 @@ use Rattle.algebra.specs.Laws.Size.{natAbs-+ℤ, natAbs-sub, natAbs-*ℤ}
 use Rattle.algebra.specs.Laws.Machine.{fits, wrap, back}
 use Rattle.algebra.specs.Laws.Spread.{Turned, opened, put, closed}
 use Rattle.algebra.specs.Sum.{Σ}
-use Rattle.contrasts.specs.Limits.{valueLimit}
 use Rattle.contrasts.specs.Factors.{two, three}
 use Rattle.contrasts.specs.Laws.TwoLevels as twice
 use Rattle.contrasts.specs.Laws.ThreeLevels as thrice
-use Rattle.contrasts.specs.Laws.Small.{Mild, room, held}
+use Rattle.contrasts.specs.Laws.Small.{mildLimit, Mild, room, held}
 
 -- ---- two levels
 
@@ -72,7 +71,7 @@ module _ {h i : ℕ} {f g : ℕ → ℤ} {ys : List ℤ} (w : Turned 2 h f g i y
 
 -- of a middle that is counted up to twice, "twice middle" being the case that the turn has
 module _ (m : ℕ) (le : m ≤ 2) where
-  scaled-size : {b : ℤ} → Mild b → natAbs (pos m *ℤ b) ≤ 2 * (4 * valueLimit)
+  scaled-size : {b : ℤ} → Mild b → natAbs (pos m *ℤ b) ≤ 2 * mildLimit
   scaled-size {b} sb = rw (natAbs-*ℤ (pos m) b) (mul-le-mul le (sb .mild))
 
   pub scaled-fits : {b : ℤ} → Mild b → SFits w64 (pos m *ℤ wrap b)

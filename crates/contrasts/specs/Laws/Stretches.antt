@@ -1,7 +1,10 @@
 -- T6, T7: "the column falls into consecutive stretches [..] and each stretch is worked by itself. In it, values [..] places apart belong together."
 --
 --   pass-is            the pass of a position is the pass of its factor at that spacing
---   pass-value         what the pass writes at the place p + d s, where p is the place of stretch q at the offset i
+--   byRows s l c x     what a place gets by the rows c, each of l values that lie s apart; a pass is one of this kind
+--   rows-value         what it is at the place p + d s, where p is the place of stretch q at the offset i
+--   rows-alone         several stretches by themselves get what they get in the column
+--   pass-value         so what the pass writes there
 --   passOver s F xs    the pass of F at the spacing s over a whole list; length-over is its length
 --   stretch-value      what the pass of one stretch writes at the place i + d s
 --   several-alone      the pass of several stretches by themselves is those stretches of the pass of the column
@@ -22,7 +25,7 @@ use Rattle.algebra.specs.Laws.Tab.{length-tab, getD-tab, is-tab}
 use Rattle.contrasts.specs.Columns.{read}
 use Rattle.contrasts.specs.Factor.{Factor}
 use Rattle.contrasts.specs.Totals.{Column, size}
-use Rattle.contrasts.specs.Passes.{spacing, passAt, passFrom, pass}
+use Rattle.contrasts.specs.Passes.{spacing, digitAt, withDigit, passAt, passFrom, pass}
 
 pass-from-at : (s : ℕ) (Fs : List Factor) (f : ℕ) (G : Factor) (x : Column) → f < length Fs → passFrom s Fs f x ≡ passAt (s * spacing Fs f) (getD Fs f G) x
 unfolding passFrom size
@@ -34,20 +37,72 @@ pass-from-at s (F ∷ Fs) (suc f) G x h =
 pub pass-is : (Fs : List Factor) (f : ℕ) (G : Factor) (x : Column) → f < length Fs → pass Fs f x ≡ passAt (spacing Fs f) (getD Fs f G) x
 pass-is Fs f G x h = pass-from-at 1 Fs f G x h ∙ rw (one-mul (spacing Fs f))
 
+-- ---- what a place gets by the row of its digit, where values s apart belong together, l of them
+
+abbrev pub byRows : ℕ → ℕ → (ℕ → ℕ → ℤ) → Column → Column
+byRows s l c x i = Σ l (λ j. c (digitAt s l i) j *ℤ x (withDigit s l j i))
+
+pub rows-value : (s l : ℕ) (c : ℕ → ℕ → ℤ) (x : Column) (q i p : ℕ) → p ≡ q * (l * s) + i → i < s → (d : ℕ) → d < l
+    → byRows s l c x (p + d * s) ≡ Σ l (λ j. c d j *ℤ x (p + j * s))
+rows-value s l c x q i p e h d k = rw here (Σ-ext l (λ j. rw (digits-div (q * l + d) h, digits-mod q k, there j)))
+  where
+    here : p + d * s ≡ (q * l + d) * s + i
+    here = omega arith
+
+    there : (j : ℕ) → (q * l + d) * s + i - d * s + j * s ≡ p + j * s
+    there j = omega arith
+
+module _ (s l : ℕ) (c : ℕ → ℕ → ℤ) (k m : ℕ) (xs : List ℤ) (some : 0 < s) (some-digit : 0 < l) (room : k * (l * s) + m * (l * s) ≤ length xs) where
+  -- at the digit d and the offset i of the stretch t of these
+  place-value : (t d i : ℕ) → t < m → d < l → i < s
+      → byRows s l c (read xs) (k * (l * s) + (t * (l * s) + i + d * s))
+      ≡ byRows s l c (read (part (m * (l * s)) (k * (l * s)) xs)) (t * (l * s) + i + d * s)
+  place-value t d i ht hd hi =
+      ap (byRows s l c (read xs)) (along d)
+      ∙ rows-value s l c (read xs) (k + t) i ((k + t) * (l * s) + i) refl hi d hd
+      ∙ Σ-cong l (λ j hj. ap (λ z. c d j *ℤ z)
+      (ap (read xs) (sym (along j))
+      ∙ sym (getD-part (m * (l * s)) (k * (l * s)) xs (pos 0) (t * (l * s) + i + j * s) (inside j hj))))
+      ∙ sym (rows-value s l c (read (part (m * (l * s)) (k * (l * s)) xs)) t i (t * (l * s) + i) refl hi d hd)
+    where
+      along : (j : ℕ) → k * (l * s) + (t * (l * s) + i + j * s) ≡ (k + t) * (l * s) + i + j * s
+      along j = omega arith
+
+      inside : (j : ℕ) → j < l → t * (l * s) + i + j * s < m * (l * s)
+      inside j hj =
+          let a : j * s + i < l * s = digits-lt hj hi in
+          let b : t * (l * s) + (j * s + i) < m * (l * s) = digits-lt ht a in
+          omega (arith, b)
+
+  pub rows-alone : tab (length (part (m * (l * s)) (k * (l * s)) xs)) (byRows s l c (read (part (m * (l * s)) (k * (l * s)) xs)))
+      ≡ part (m * (l * s)) (k * (l * s)) (tab (length xs) (byRows s l c (read xs)))
+  rows-alone =
+      sym (is-tab (pos 0) (part w from (tab (length xs) (byRows s l c (read xs)))) (length (part w from xs)) (byRows s l c (read (part w from xs)))
+      (length-part w from (tab (length xs) (byRows s l c (read xs))) (rw (length-tab (length xs) (byRows s l c (read xs))) room) ∙ sym (length-part w from xs room))
+      (λ j h. let h′ : j < w = rw (length-part w from xs room) at h in
+      getD-part w from (tab (length xs) (byRows s l c (read xs))) (pos 0) j h′
+      ∙ getD-tab (pos 0) (length xs) (byRows s l c (read xs)) (from + j) (omega (arith, room, h′))
+      ∙ rw (← (there j)) (place-value (j / (l * s)) (j % (l * s) / s) (j % (l * s) % s) (div-lt-iff-lt-mul wide .1 h′)
+      (div-lt-iff-lt-mul some .1 (mod-lt j wide)) (mod-lt (j % (l * s)) some))))
+    where
+      w : ℕ
+      w = m * (l * s)
+
+      from : ℕ
+      from = k * (l * s)
+
+      wide : 0 < l * s
+      wide = mul-pos some-digit some
+
+      there : (j : ℕ) → j / (l * s) * (l * s) + j % (l * s) % s + j % (l * s) / s * s ≡ j
+      there j = omega (arith, div-add-mod' j (l * s), div-add-mod' (j % (l * s)) s)
+
+-- ---- the pass
+
 pub pass-value : (s : ℕ) (F : Factor) (x : Column) (q i p : ℕ) → p ≡ q * (F .levels * s) + i → i < s → (d : ℕ) → d < F .levels
     → passAt s F x (p + d * s) ≡ Σ (F .levels) (λ j. F .coef d j *ℤ x (p + j * s))
 unfolding passAt
-pass-value s F x q i p e h d k =
-    rw (here (F .levels) e)
-    (Σ-ext (F .levels) (λ j. rw (digits-div (q * F .levels + d) h, digits-mod q k, there (F .levels) e j)))
-  where
-    here : (l : ℕ) → p ≡ q * (l * s) + i → p + d * s ≡ (q * l + d) * s + i
-    here l e = omega arith
-
-    there : (l : ℕ) → p ≡ q * (l * s) + i → (j : ℕ) → (q * l + d) * s + i - d * s + j * s ≡ p + j * s
-    there l e j = omega arith
-
--- ---- stretches of a list
+pass-value s F x q i p e h d k = rows-value s (F .levels) (F .coef) x q i p e h d k
 
 unfoldable pub passOver : ℕ → Factor → List ℤ → List ℤ
 passOver s F xs = tab (length xs) (passAt s F (read xs))
@@ -61,51 +116,10 @@ pub stretch-value : (s : ℕ) (F : Factor) (x : Column) (d i : ℕ) → d < F .l
     → passAt s F x (i + d * s) ≡ Σ (F .levels) (λ j. F .coef d j *ℤ x (i + j * s))
 stretch-value s F x d i hd hi = pass-value s F x 0 i i (omega arith) hi d hd
 
-module _ (s : ℕ) (F : Factor) (k m : ℕ) (xs : List ℤ) (some : 0 < s) (room : k * (F .levels * s) + m * (F .levels * s) ≤ length xs) where
-  -- at the digit d and the offset i of the stretch t of these
-  place-value : (t d i : ℕ) → t < m → d < F .levels → i < s
-      → passAt s F (read xs) (k * (F .levels * s) + (t * (F .levels * s) + i + d * s))
-      ≡ passAt s F (read (part (m * (F .levels * s)) (k * (F .levels * s)) xs)) (t * (F .levels * s) + i + d * s)
-  place-value t d i ht hd hi =
-      ap (passAt s F (read xs)) (along (F .levels) d)
-      ∙ pass-value s F (read xs) (k + t) i ((k + t) * (F .levels * s) + i) refl hi d hd
-      ∙ Σ-cong (F .levels) (λ j hj. ap (λ z. F .coef d j *ℤ z)
-      (ap (read xs) (sym (along (F .levels) j))
-      ∙ sym (getD-part (m * (F .levels * s)) (k * (F .levels * s)) xs (pos 0) (t * (F .levels * s) + i + j * s) (inside j hj))))
-      ∙ sym (pass-value s F (read (part (m * (F .levels * s)) (k * (F .levels * s)) xs)) t i (t * (F .levels * s) + i) refl hi d hd)
-    where
-      along : (l j : ℕ) → k * (l * s) + (t * (l * s) + i + j * s) ≡ (k + t) * (l * s) + i + j * s
-      along l j = omega arith
-
-      inside : (j : ℕ) → j < F .levels → t * (F .levels * s) + i + j * s < m * (F .levels * s)
-      inside j hj =
-          let a : j * s + i < F .levels * s = digits-lt hj hi in
-          let b : t * (F .levels * s) + (j * s + i) < m * (F .levels * s) = digits-lt ht a in
-          omega (arith, b)
-
-  pub several-alone : passOver s F (part (m * (F .levels * s)) (k * (F .levels * s)) xs)
-      ≡ part (m * (F .levels * s)) (k * (F .levels * s)) (passOver s F xs)
-  unfolding passOver
-  several-alone =
-      sym (is-tab (pos 0) (part w from (tab (length xs) (passAt s F (read xs)))) (length (part w from xs)) (passAt s F (read (part w from xs)))
-      (length-part w from (tab (length xs) (passAt s F (read xs))) (rw (length-tab (length xs) (passAt s F (read xs))) room) ∙ sym (length-part w from xs room))
-      (λ j h. let h′ : j < w = rw (length-part w from xs room) at h in
-      getD-part w from (tab (length xs) (passAt s F (read xs))) (pos 0) j h′
-      ∙ getD-tab (pos 0) (length xs) (passAt s F (read xs)) (from + j) (omega (arith, room, h′))
-      ∙ rw (← (there j)) (place-value (j / (F .levels * s)) (j % (F .levels * s) / s) (j % (F .levels * s) % s) (div-lt-iff-lt-mul wide .1 h′)
-      (div-lt-iff-lt-mul some .1 (mod-lt j wide)) (mod-lt (j % (F .levels * s)) some))))
-    where
-      w : ℕ
-      w = m * (F .levels * s)
-
-      from : ℕ
-      from = k * (F .levels * s)
-
-      wide : 0 < F .levels * s
-      wide = mul-pos (F .some-level) some
-
-      there : (j : ℕ) → j / (F .levels * s) * (F .levels * s) + j % (F .levels * s) % s + j % (F .levels * s) / s * s ≡ j
-      there j = omega (arith, div-add-mod' j (F .levels * s), div-add-mod' (j % (F .levels * s)) s)
+pub several-alone : (s : ℕ) (F : Factor) (k m : ℕ) (xs : List ℤ) → 0 < s → k * (F .levels * s) + m * (F .levels * s) ≤ length xs
+    → passOver s F (part (m * (F .levels * s)) (k * (F .levels * s)) xs) ≡ part (m * (F .levels * s)) (k * (F .levels * s)) (passOver s F xs)
+unfolding passOver passAt
+several-alone s F k m xs some room = rows-alone s (F .levels) (F .coef) k m xs some (F .some-level) room
 
 pub stretch-alone : (s : ℕ) (F : Factor) (k : ℕ) (xs : List ℤ) → 0 < s → k * (F .levels * s) + F .levels * s ≤ length xs
     → passOver s F (part (F .levels * s) (k * (F .levels * s)) xs) ≡ part (F .levels * s) (k * (F .levels * s)) (passOver s F xs)

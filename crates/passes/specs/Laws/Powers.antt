@@ -11,11 +11,11 @@ use lib.ListN.{length}
 use lib.Pow.{pow-add}
 use Rattle.contrasts.specs.Columns.{AllWithin}
 use Rattle.contrasts.specs.Factors.{ofLevels}
-use Rattle.contrasts.specs.Limits.{valueLimit}
 use Rattle.contrasts.specs.Laws.Levels.{some-levels}
+use Rattle.contrasts.specs.Laws.Small.{mildLimit}
 use Rattle.passes.specs.Ready.{Stretches}
 
-pub in-stretches : (l f k s : ℕ) (xs : List ℤ) → ofLevels l .levels ≡ l → f < k → s ≡ l ^ f → length xs ≡ l ^ k → AllWithin valueLimit xs
+pub in-stretches : (l f k s : ℕ) (xs : List ℤ) → ofLevels l .levels ≡ l → f < k → s ≡ l ^ f → length xs ≡ l ^ k → AllWithin mildLimit xs
     → Stretches l s xs
 in-stretches l f k s xs kind low apart whole within =
     record {

@@ -2,7 +2,7 @@ use mathlib.Core.Path.{_≡_, refl, sym, _∙_}
 use borrow.Author.Tests.{eq-eqb, ne-eqb}
 use Rattle.plan.specs.Check.{planRefused}
 use Rattle.plan.specs.Laws.Answers.{plan-first, after-plan}
-use Rattle.columns.specs.Inner.Judged.{lengthsRefused}
+use Rattle.columns.specs.Refusals.{lengthsRefused}
 use Rattle.columns.specs.Laws.Lengths.{wrong, right}
 use Rattle.columns.proofs.refusals.lengths_refused.Statement.{statement}
 use Rattle.columns.proofs.refusals.lengths_refused.Tie as tie

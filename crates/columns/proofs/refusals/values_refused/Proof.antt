@@ -2,9 +2,8 @@ use mathlib.Core.Path.{_≡_, refl, sym, _∙_}
 use mathlib.Core.Bool.{_||_}
 use lib.ListN.{length}
 use Rattle.algebra.specs.Laws.Tests.{is}
-use Rattle.columns.specs.Inner.Judged.{lengthsRefused}
-use Rattle.columns.specs.Laws.Lengths.{by-runs, by-lengths, by-values}
-use Rattle.columns.specs.Refusals.{wrongLength, columnsRefused}
+use Rattle.columns.specs.Laws.Lengths.{by-runs, by-lengths, by-rest}
+use Rattle.columns.specs.Refusals.{wrongLength, lengthsRefused, columnsRefused}
 use Rattle.columns.proofs.refusals.values_refused.Statement.{statement}
 use Rattle.columns.proofs.refusals.values_refused.Tie as tie
 
@@ -23,11 +22,11 @@ values-refused-spec =
     (tie.spec
     (λ c κs. tt)
     (λ c κs. tt)
-    (λ c. by-lengths _ _ _ _ (by-plan (c .before)) (c .if1 .taken))
+    (λ c. by-lengths _ _ _ (by-plan (c .before)) (c .if1 .taken))
     (λ c κs. tt)
     (λ c.
     let lengths-fine = sym (by-plan (c .before .before .before)) ∙ c .before .before .if1 .left in
-    sym (by-values _ _ _ _ lengths-fine ∙ rw (is (c .before .any-value-beyond .ensures) (c .if2 .taken)) refl))
+    sym (by-rest _ _ _ lengths-fine ∙ rw (is (c .before .any-value-beyond .ensures) (c .if2 .taken)) refl))
     (λ c.
     let lengths-fine = sym (by-plan (c .before .before .before)) ∙ c .before .before .if1 .left in
-    sym (by-values _ _ _ _ lengths-fine ∙ rw (is (c .before .any-value-beyond .ensures) (c .if2 .left)) refl)))
+    sym (by-rest _ _ _ lengths-fine ∙ rw (is (c .before .any-value-beyond .ensures) (c .if2 .left)) refl)))

@@ -2,7 +2,7 @@ use mathlib.Core.Path.{refl}
 use Prim.Native.Nat.{_-_}
 use native.Mathlib.Omega.{arith}
 use lib.ListN.{length}
-use Rattle.exported.proofs.Copied.{Copying, copying-none, copying-long, copying-more, copying-all}
+use Rattle.algebra.specs.Laws.Copied.{Copying, copying-none, copying-long, copying-more, copying-all}
 use Rattle.exported.proofs.handed.put_unsigned.Statement.{statement}
 use Rattle.exported.proofs.handed.put_unsigned.Tie as tie
 

@@ -1,14 +1,14 @@
--- The loops that copy numbers to a lent slice.
+-- A loop that copies a list to another of the same length.
 --
---   Copying z xs old i ys                      the first i numbers are copied; z is what a read past the end of a list gives
+--   Copying z xs old i ys                      the first i entries are copied; z is what a read past the end of a list gives
 --   copying-none, copying-more, copying-all    before the first, after one more, after the last
 --   copying-long                               the length
 use mathlib.Core.Path.{_≡_, refl, sym, _∙_}
 use mathlib.Core.List.{List}
 use Prim.Native.Nat.{ℕ, _+_, _<_, _≤_}
 use lib.ListN.{length, getD, set}
 use Rattle.algebra.specs.Laws.Fill.{Filled, filled-none, filled-long, filled-more, filled-all}
 use Rattle.algebra.specs.Laws.Tab.{is-tab}
 
 module _ {A : Type 0} where
   pub record Copying (z : A) (xs old : List A) (i : ℕ) (ys : List A) : Type 0 where

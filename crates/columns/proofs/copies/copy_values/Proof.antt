@@ -3,9 +3,9 @@ use native.Mathlib.Omega.{arith}
 use lib.IntN.{pos}
 use lib.ListN.{length}
 use Rattle.algebra.specs.Laws.Machine.{kept}
-use Rattle.exported.proofs.Copied.{Copying, copying-none, copying-long, copying-more, copying-all}
-use Rattle.exported.proofs.handed.put_signed.Statement.{statement}
-use Rattle.exported.proofs.handed.put_signed.Tie as tie
+use Rattle.algebra.specs.Laws.Copied.{Copying, copying-none, copying-long, copying-more, copying-all}
+use Rattle.columns.proofs.copies.copy_values.Statement.{statement}
+use Rattle.columns.proofs.copies.copy_values.Tie as tie
 
 abbrev Inv-loop : tie.InvT-loop
 Inv-loop from to₀ i₀ to i = Copying (pos 0) from to₀ i to
@@ -13,8 +13,8 @@ Inv-loop from to₀ i₀ to i = Copying (pos 0) from to₀ i to
 abbrev μ-loop : tie.MeasureT-loop
 μ-loop from to₀ i₀ to i = length from - i
 
-pub put-signed-spec : {M : Type 1} → statement M
-put-signed-spec =
+pub copy-values-spec : {M : Type 1} → statement M
+copy-values-spec =
     tie.close
     (tie.spec
     Inv-loop

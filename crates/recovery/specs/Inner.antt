@@ -1,4 +1,6 @@
 -- What the inner functions ask of what they are handed, and what they leave; no promise of a call.
 --
---   Judged   what is judged first
-pub mod Judged
+--   Lent       what they are lent
+--   Answered   what they answer
+pub mod Lent
+pub mod Answered

@@ -1,0 +1,87 @@
+-- The loop that divides sums, and the one that puts readings.
+--
+--   Dividing D M zs i any ys                        the first i sums are quotients, and `any` is whether one of them is missed
+--   dividing-none, dividing-more, dividing-all      before the first, after one more, after the last
+--   dividing-long, dividing-still                   the length, and the next sum is still there
+--   product-fits                                    the denominator times a quotient fits
+--   narrowed-fits, narrowed                         a value that a pass admits, as an i32
+use mathlib.Core.Path.{_≡_, refl, sym, _∙_, ap}
+use mathlib.Core.Bool.{Bool, false, _||_}
+use mathlib.Core.List.{List}
+use Prim.Native.Nat.{ℕ, _+_, _*_, _^_, _<_, _≤_}
+use native.Mathlib.Omega.{arith}
+use lib.Dec.{lit<}
+use lib.IntN.{ℤ, pos, natAbs, _*ℤ_}
+use lib.ListN.{length, set}
+use lib.Signed.{quotZ}
+use mir.Facts.{toZ-ofZ}
+use mir.Syntax.{w32}
+use mir.Val.{SFits, toZ, ofZ}
+use Rattle.algebra.specs.Laws.Fill.{Filled, filled-none, filled-long, filled-old, filled-more, filled-all}
+use Rattle.algebra.specs.Laws.Machine.{wrap, back, fits-half}
+use Rattle.algebra.specs.Laws.Quotients.{quot-back, quot-within}
+use Rattle.algebra.specs.Laws.Searching.{Seen, seen-none, seen-more, seen-all}
+use Rattle.contrasts.specs.Columns.{read}
+use Rattle.contrasts.specs.Limits.{valueLimit}
+use Rattle.contrasts.specs.Laws.Recovery.{missed, anyMissed, quotients}
+use Rattle.contrasts.specs.Laws.Small.{mildLimit, room}
+use Rattle.recovery.specs.Inner.Lent.{Sums}
+
+pub record Dividing (D M : ℕ) (zs : List ℤ) (i : ℕ) (any : Bool) (ys : List ℤ) : Type 0 where
+  pub filled : Filled (length zs) (λ j. quotZ (read zs j) (pos D)) (read zs) i ys
+  pub seen : Seen (λ j. missed D M (read zs j) (quotZ (read zs j) (pos D))) (length zs) i any
+
+pub dividing-none : (D M : ℕ) (zs : List ℤ) → Dividing D M zs 0 false zs
+dividing-none D M zs = record {
+  filled = filled-none (pos 0) (length zs) (λ j. quotZ (read zs j) (pos D)) (read zs) zs refl (λ j h. refl);
+  seen = seen-none (λ j. missed D M (read zs j) (quotZ (read zs j) (pos D))) (length zs);
+}
+
+module _ {D M : ℕ} {zs : List ℤ} {i : ℕ} {any : Bool} {ys : List ℤ} (w : Dividing D M zs i any ys) where
+  pub dividing-long : length ys ≡ length zs
+  dividing-long = filled-long (pos 0) (w .filled)
+
+  pub dividing-all : length ys ≤ i → (any ≡ anyMissed D M zs) × (ys ≡ quotients D zs)
+  unfolding anyMissed quotients
+  dividing-all h =
+      let e : length zs ≤ i = omega (arith, dividing-long) in
+      (seen-all (w .seen) e, filled-all (pos 0) (w .filled) e)
+
+  module _ (more : i < length ys) where
+    inside : i < length zs
+    inside = omega (arith, dividing-long)
+
+    pub dividing-still : read ys i ≡ read zs i
+    dividing-still = filled-old (pos 0) (w .filled) i (omega arith) inside
+
+    pub dividing-more : {q : ℤ} → q ≡ quotZ (read ys i) (pos D) → {t : Bool} → t ≡ missed D M (read ys i) q → Dividing D M zs (i + 1) (any || t) (set ys i q)
+    dividing-more e f = record {
+      filled = filled-more (pos 0) (w .filled) inside (e ∙ rw dividing-still refl);
+      seen = seen-more (w .seen) inside (f ∙ rw (e, dividing-still) refl);
+    }
+
+half : valueLimit < 2 ^ 31
+unfolding valueLimit
+half = lit< tt
+
+module _ {D M : ℕ} {zs : List ℤ} (pre : Sums D M zs) (i : ℕ) where
+  pub sum-size : natAbs (read zs i) < 2 ^ 63
+  sum-size = omega (arith, room, pre .room, pre .within i)
+
+  pub reading-size : natAbs (quotZ (read zs i) (pos D)) < 2 ^ 63
+  reading-size = omega (arith, half, quot-within D valueLimit (read zs i) (pre .within i))
+
+  pub product-size : natAbs (pos D *ℤ quotZ (read zs i) (pos D)) < 2 ^ 63
+  product-size = omega (arith, sum-size, quot-back D (read zs i))
+
+-- ---- a value as a reading
+
+module _ (z : ℤ) (h : natAbs z ≤ valueLimit) where
+  held : wrap z ≡ z
+  held = back z (omega (arith, half, h))
+
+  pub narrowed-fits : SFits w32 (wrap z)
+  narrowed-fits = rw held (fits-half z (omega (arith, half, h)))
+
+  pub narrowed : toZ w32 (ofZ w32 (wrap z)) ≡ z
+  narrowed = toZ-ofZ narrowed-fits ∙ held

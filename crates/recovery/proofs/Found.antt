@@ -1,0 +1,116 @@
+-- What the parts of the call are lent, and what they find.
+--
+--   few                    a plan has at most 1,024 runs
+--   denominator-few        and its denominator is at most 46,656
+--   worked                 the column that is lent besides
+--   summable               the totals can be summed
+--   divisible              and the sums divided
+--   missing                a quotient is missed where there are no readings
+--   narrow                 and else the quotients are readings
+--   refused-14, done       the answer of the call in both cases
+use mathlib.Core.Path.{_≡_, refl, sym, _∙_, ap}
+use mathlib.Core.Logic.{_⊎_, inl, inr}
+use mathlib.Core.Bool.{Bool, true, false}
+use mathlib.Core.List.{List}
+use Prim.Native.Nat.{ℕ, _*_, _^_, _<_, _≤_}
+use native.Mathlib.Nat.{mul-le-mul-right, pow-le-pow-right, le-trans}
+use native.Mathlib.Omega.{arith}
+use lib.Dec.{lit<, lit≤}
+use lib.IntN.{ℤ}
+use lib.ListN.{length, replicate}
+use Rattle.contrasts.specs.Columns.{AllWithin}
+use Rattle.contrasts.specs.Factors.{two, three, ofLevels}
+use Rattle.contrasts.specs.Limits.{valueLimit, mostTwo, mostThree}
+use Rattle.contrasts.specs.Recovery.{readingsBack, noReadings}
+use Rattle.contrasts.specs.Totals.{size, denominator}
+use Rattle.contrasts.specs.Laws.Divisors.{denominator-pos}
+use Rattle.contrasts.specs.Laws.Recovery.{anyMissed, quotients, quotients-back, judged, back-found}
+use Rattle.contrasts.specs.Laws.Replicated.{denominator-alike}
+use Rattle.contrasts.specs.Laws.Small.{mildLimit}
+use Rattle.contrasts.specs.Laws.Undo.{sumsFrom, sums-back, all-within, gentle-alike}
+use Rattle.plan.specs.declared.types.Plan.{Plan}
+use Rattle.plan.specs.Check.{planRefused}
+use Rattle.plan.specs.Limits.{runLimit}
+use Rattle.plan.specs.Outcome.{Outcome, given, refused}
+use Rattle.plan.specs.Plan.{factorsOf, runsOf}
+use Rattle.plan.specs.Laws.Accepted.{accepted}
+use Rattle.plan.specs.Laws.Answers.{stopped, completed}
+use Rattle.plan.specs.Laws.Limits.{run-admitted}
+use Rattle.plan.specs.Laws.Sizes.{factors-two, factors-three, as-power, plan-kind, runs-few}
+use Rattle.recovery.specs.Calls.{recoverRefused, recoverColumn}
+use Rattle.recovery.specs.Inner.Answered.{Answered}
+use Rattle.recovery.specs.Inner.Lent.{Summable, Sums, Narrow, Lent, Worked}
+use Rattle.recovery.specs.Laws.Judged.{Lengths, by-readings}
+use Rattle.recovery.proofs.Summed.{kind-gentle}
+
+pub denominator-few : (p : Plan) → planRefused p ≡ 0 → denominator (factorsOf p) ≤ 46_656
+denominator-few p ok = by (accepted p ok .levels)
+  where
+    by : (p .levels ≡ 2) ⊎ (p .levels ≡ 3) → denominator (factorsOf p) ≤ 46_656
+    unfolding mostTwo mostThree two three
+    by (inl e) =
+        rw (factors-two p e, denominator-alike (p .k) two)
+        (le-trans (pow-le-pow-right {n = 2} (lit< tt) (accepted p ok .factors .1)) (lit≤ tt))
+    by (inr e) =
+        rw (factors-three p e, denominator-alike (p .k) three)
+        (le-trans (pow-le-pow-right {n = 6} (lit< tt) (accepted p ok .factors .2 e)) (lit≤ tt))
+
+most-sum : 46_656 * valueLimit ≤ mildLimit
+unfolding valueLimit mildLimit
+most-sum = lit≤ tt
+
+module _ {p : Plan} {ts ys : List ℤ} (l : Lent p ts ys) where
+  pub lengths : Lengths p ts ys
+  lengths = record { plan = l .plan; whole = l .whole; same = l .same }
+
+  pub few : length ts ≤ 1024
+  few = rw (l .whole) (runs-few p (l .plan))
+
+  roomy : denominator (factorsOf p) * valueLimit ≤ mildLimit
+  roomy = le-trans (mul-le-mul-right valueLimit (denominator-few p (l .plan))) most-sum
+
+  pub summable : Summable (p .levels) (p .k) ts
+  unfolding factorsOf
+  summable = record {
+    kind = plan-kind p (l .plan);
+    whole = as-power p (l .plan) (l .whole);
+    roomy = rw (← (denominator-alike (p .k) (ofLevels (p .levels)))) roomy;
+    within = l .within;
+  }
+
+  module _ {zs : List ℤ} (so : zs ≡ sumsFrom 1 (factorsOf p) ts) where
+    pub divisible : runLimit p < 2 ^ 31 → Sums (denominator (factorsOf p)) (runLimit p) zs
+    unfolding factorsOf
+    divisible small = record {
+      some = denominator-pos (factorsOf p);
+      fits = omega (arith, denominator-few p (l .plan));
+      narrow = small;
+      within = rw so (all-within 1 (factorsOf p) valueLimit ts (gentle-alike (p .k) (ofLevels (p .levels)) (kind-gentle (p .levels))) (l .within));
+      room = roomy;
+    }
+
+    pub missing : {b : Bool} → b ≡ anyMissed (denominator (factorsOf p)) (runLimit p) zs → b ≡ noReadings (factorsOf p) (runLimit p) ts
+    missing e = e ∙ judged (factorsOf p) ts zs (so ∙ sums-back (factorsOf p) ts (l .whole)) (runLimit p) (l .whole)
+
+    pub found : {qs : List ℤ} → qs ≡ quotients (denominator (factorsOf p)) zs → qs ≡ readingsBack (factorsOf p) ts
+    found e = e ∙ quotients-back (factorsOf p) ts zs (so ∙ sums-back (factorsOf p) ts (l .whole))
+
+  module _ (e : noReadings (factorsOf p) (runLimit p) ts ≡ false) where
+    pub narrow : {qs : List ℤ} → qs ≡ readingsBack (factorsOf p) ts → Narrow qs ys
+    narrow d =
+        let f = back-found (factorsOf p) (runLimit p) ts (l .whole) e in
+        rw d (record { same = f .long ∙ sym (l .same); within = λ i. le-trans (f .small i) (run-admitted p (l .plan)) })
+
+    pub done : {new : List ℤ} → new ≡ readingsBack (factorsOf p) ts → Answered p ts ys new (given tt)
+    unfolding recoverColumn
+    done d =
+        let z : recoverRefused p ts ys ≡ 0 = by-readings lengths ∙ rw e refl in
+        let r = completed tt (readingsBack (factorsOf p) ts) ys z d in
+        record { answer = r .0; column = r .1 }
+
+pub refused-14 : {p : Plan} {ts ys : List ℤ} → Lengths p ts ys → noReadings (factorsOf p) (runLimit p) ts ≡ true → Answered p ts ys ys (refused 14)
+unfolding recoverColumn
+refused-14 {p} {ts} {ys} l e =
+    let z : 14 ≡ recoverRefused p ts ys = sym (by-readings l ∙ rw e refl) in
+    let r = stopped tt (readingsBack (factorsOf p) ts) ys z (λ d. absurd (omega (arith, d))) in
+    record { answer = r .0; column = r .1 }

@@ -1,0 +1,60 @@
+// The recovery call.
+ghost use mathlib.Core.Path.{_≡_};
+use super::quotients::divide;
+use super::quotients::put;
+use super::sums::sum_back;
+use columns::Answer;
+use columns::any_value_beyond;
+use columns::copy_values;
+use columns::lengths_refused;
+use plan::Plan;
+use sizes::reading_limit;
+use sizes::runs;
+ghost use Rattle.plan.specs.Outcome.{outcome};
+ghost use Rattle.columns.specs.Refusals.{answerOutcome};
+ghost use Rattle.recovery.specs.Calls.{recoverRefused, recoverColumn};
+ghost use Rattle.recovery.specs.Inner.Answered.{Answered};
+ghost use Rattle.recovery.specs.Inner.Lent.{Lent, Worked};
+
+// The most runs of a plan.
+const MOST: usize = 1024;
+
+// The readings of totals that a pass admits, worked in a column that is lent besides.
+fn work(p: Plan, totals: &[i64], column: &mut [i64], readings: &mut [i32]) -> Answer
+    requires { ⌜ Worked p (now totals) (now column) (now readings) ⌝ }
+    ensures { λ r. ⌜ Answered p (now (totals .entry)) (now (readings .entry)) (now (readings .exit)) (answerOutcome r) ⌝ }
+{
+    copy_values(totals, column);
+    let denominator = sum_back(p.levels as usize, p.k as usize, column);
+    let limit = p.repeats as u32 * reading_limit(p);
+    if divide(column, denominator, limit) {
+        return Answer::Refused(14);
+    }
+    put(column, readings);
+    Answer::Done
+}
+
+// The same, with that column.
+fn lend(p: Plan, totals: &[i64], readings: &mut [i32]) -> Answer
+    requires { ⌜ Lent p (now totals) (now readings) ⌝ }
+    ensures { λ r. ⌜ Answered p (now (totals .entry)) (now (readings .entry)) (now (readings .exit)) (answerOutcome r) ⌝ }
+{
+    let mut column = [0i64; MOST];
+    let n = totals.len();
+    work(p, totals, &mut column[..n], readings)
+}
+
+// The readings that have these totals. A total beyond what a pass admits is the total of no readings.
+pub fn recover(p: Plan, totals: &[i64], readings: &mut [i32]) -> Answer
+    ensures { λ r. ⌜ answerOutcome r ≡ outcome (recoverRefused p (now (totals .entry)) (now (readings .entry))) tt ⌝ }
+    ensures { λ _. ⌜ now (readings .exit) ≡ recoverColumn p (now (totals .entry)) (now (readings .entry)) ⌝ }
+{
+    let n = lengths_refused(p, runs(p), totals.len(), readings.len());
+    if n != 0 {
+        return Answer::Refused(n);
+    }
+    if any_value_beyond(totals) {
+        return Answer::Refused(14);
+    }
+    lend(p, totals, readings)
+}

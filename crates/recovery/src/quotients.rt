@@ -1,0 +1,49 @@
+// The sums over the denominator: readings, where all are whole and within the limit.
+ghost use mathlib.Core.Path.{_≡_};
+ghost use Prim.Native.Nat.{_<_, _^_};
+ghost use lib.IntN.{pos, natAbs, _*ℤ_};
+use sizes::is_beyond;
+ghost use Rattle.contrasts.specs.Laws.Recovery.{missed, anyMissed, quotients};
+ghost use Rattle.recovery.specs.Inner.Lent.{Sums, Narrow};
+
+// Whether a sum is not the denominator times the reading, or this is beyond the limit.
+fn is_missed(sum: i64, reading: i64, denominator: u32, limit: u32) -> bool
+    requires { ⌜ natAbs (pos denominator *ℤ reading) < 2 ^ 63 ⌝ }
+    ensures { λ r. ⌜ r ≡ missed denominator limit sum reading ⌝ }
+{
+    if denominator as i64 * reading != sum {
+        return true;
+    }
+    is_beyond(reading, limit)
+}
+
+// Each sum becomes its quotient. The answer says whether one of them is missed.
+pub fn divide(column: &mut [i64], denominator: u32, limit: u32) -> bool
+    requires { ⌜ Sums denominator limit (now column) ⌝ }
+    ensures { λ r. ⌜ r ≡ anyMissed denominator limit (now (column .entry)) ⌝ }
+    ensures { λ _. ⌜ now (column .exit) ≡ quotients denominator (now (column .entry)) ⌝ }
+{
+    let over = denominator as i64;
+    let mut any = false;
+    let mut i = 0;
+    while i < column.len() {
+        let sum = column[i];
+        let reading = sum / over;
+        any = any | is_missed(sum, reading, denominator, limit);
+        column[i] = reading;
+        i += 1;
+    }
+    any
+}
+
+// The readings, as they are lent.
+pub fn put(column: &[i64], readings: &mut [i32])
+    requires { ⌜ Narrow (now column) (now readings) ⌝ }
+    ensures { λ _. ⌜ now (readings .exit) ≡ now (column .entry) ⌝ }
+{
+    let mut i = 0;
+    while i < column.len() {
+        readings[i] = column[i] as i32;
+        i += 1;
+    }
+}
