@@ -6,7 +6,7 @@
 --   product-fits                                    the denominator times a quotient fits
 --   narrowed-fits, narrowed                         a value that a pass admits, as an i32
 use mathlib.Core.Path.{_≡_, refl, sym, _∙_, ap}
-use mathlib.Core.Bool.{Bool, false, _||_}
+use mathlib.Core.Bool.{Bool, true, false, _||_}
 use mathlib.Core.List.{List}
 use Prim.Native.Nat.{ℕ, _+_, _*_, _^_, _<_, _≤_}
 use native.Mathlib.Omega.{arith}
@@ -15,17 +15,43 @@ use lib.IntN.{ℤ, pos, natAbs, _*ℤ_}
 use lib.ListN.{length, set}
 use lib.Signed.{quotZ}
 use mir.Facts.{toZ-ofZ}
-use mir.Syntax.{w32}
+use mir.Syntax.{w32, w64}
 use mir.Val.{SFits, toZ, ofZ}
+use mir.ValLaws.{toZ-pos}
 use Rattle.algebra.specs.Laws.Fill.{Filled, filled-none, filled-long, filled-old, filled-more, filled-all}
-use Rattle.algebra.specs.Laws.Machine.{wrap, back, fits-half}
+use Rattle.algebra.specs.Laws.Machine.{fits, wrap, back, fits-half}
 use Rattle.algebra.specs.Laws.Quotients.{quot-back, quot-within}
 use Rattle.algebra.specs.Laws.Searching.{Seen, seen-none, seen-more, seen-all}
+use Rattle.algebra.specs.Laws.Tests.{eq-eqZ, ne-eqZ}
 use Rattle.contrasts.specs.Columns.{read}
 use Rattle.contrasts.specs.Limits.{valueLimit}
 use Rattle.contrasts.specs.Laws.Recovery.{missed, anyMissed, quotients}
 use Rattle.contrasts.specs.Laws.Small.{mildLimit, room}
+use Rattle.plan.specs.Limits.{isBeyond}
 use Rattle.recovery.specs.Inner.Lent.{Sums}
+
+-- ---- one sum and its quotient, as code compares them
+
+module _ {D : ℕ} {z q : ℤ} (fits-D : D < 2 ^ 63) (fits-z : SFits w64 z) (fits-q : SFits w64 q) (small : natAbs (pos D *ℤ q) < 2 ^ 63) where
+  pub product-fits : SFits w64 (toZ w64 D *ℤ wrap q)
+  product-fits = rw (toZ-pos w64 D fits-D, toZ-ofZ fits-q) (fits (pos D *ℤ q) small)
+
+  product-is : wrap (toZ w64 D *ℤ wrap q) ≡ pos D *ℤ q
+  product-is = toZ-ofZ product-fits ∙ rw (toZ-pos w64 D fits-D, toZ-ofZ fits-q) refl
+
+  pub not-exact : (M : ℕ) → (ofZ w64 (toZ w64 D *ℤ wrap q) ≡ ofZ w64 z → ⊥) → true ≡ missed D M z q
+  not-exact M h = rw (ne-eqZ (pos D *ℤ q) z other) refl
+    where
+      other : pos D *ℤ q ≡ z → ⊥
+      other e =
+          let same : toZ w64 D *ℤ wrap q ≡ z = rw (toZ-pos w64 D fits-D, toZ-ofZ fits-q) e in
+          h (ap (ofZ w64) same)
+
+  pub exact : (M : ℕ) → ofZ w64 (toZ w64 D *ℤ wrap q) ≡ ofZ w64 z → {b : Bool} → b ≡ isBeyond M (wrap q) → b ≡ missed D M z q
+  unfolding isBeyond
+  exact M e d = d ∙ rw (toZ-ofZ fits-q, eq-eqZ (pos D *ℤ q) z (sym product-is ∙ ap (toZ w64) e ∙ toZ-ofZ fits-z)) refl
+
+-- ---- the loop
 
 pub record Dividing (D M : ℕ) (zs : List ℤ) (i : ℕ) (any : Bool) (ys : List ℤ) : Type 0 where
   pub filled : Filled (length zs) (λ j. quotZ (read zs j) (pos D)) (read zs) i ys

@@ -44,10 +44,10 @@ use Rattle.recovery.specs.Laws.Judged.{Lengths, by-readings}
 use Rattle.recovery.proofs.Summed.{kind-gentle}
 
 pub denominator-few : (p : Plan) → planRefused p ≡ 0 → denominator (factorsOf p) ≤ 46_656
+unfolding mostTwo mostThree two three
 denominator-few p ok = by (accepted p ok .levels)
   where
     by : (p .levels ≡ 2) ⊎ (p .levels ≡ 3) → denominator (factorsOf p) ≤ 46_656
-    unfolding mostTwo mostThree two three
     by (inl e) =
         rw (factors-two p e, denominator-alike (p .k) two)
         (le-trans (pow-le-pow-right {n = 2} (lit< tt) (accepted p ok .factors .1)) (lit≤ tt))

@@ -58,10 +58,10 @@ module _ {h : ℕ} {xs : List ℤ} (pre : Stretches 3 h xs) where
 
     pub summing-more : (zs : List ℤ) → zs ≡ sumsOver h three (part (start + 3 * h - start) start ys)
         → Summing h xs (start + 3 * h) (take start ys ++ (zs ++ drop (start + 3 * h - start) (drop start ys)))
+    unfolding three
     summing-more zs e = joined m more zs (e ∙ ap (sumsOver h three) (next m more) ∙ alone)
       where
         alone : sumsOver h three (part (3 * h) (m .parts * (3 * h)) xs) ≡ part (3 * h) (m .parts * (3 * h)) (sumsOver h three xs)
-        unfolding three
         alone = sums-alone h three (m .parts) xs (pre .some) (room-from m more)
 
 -- ---- all factors
@@ -100,7 +100,7 @@ module _ {l k : ℕ} {ts : List ℤ} (pre : Summable l k ts) where
     mild i =
         le-trans
         (rw (w .so) (all-within (l ^ f) (replicate (k - f) (ofLevels l)) valueLimit ts (gentle-alike (k - f) (ofLevels l) (kind-gentle l)) (pre .within) i))
-        (le-trans (mul-le-mul-right valueLimit (rw (denominator-alike (k - f) (ofLevels l)) (pow-le-pow-right (ofLevels l .some-common) (omega arith)))) (pre .roomy))
+        (le-trans (mul-le-mul-right {m = denominator (replicate (k - f) (ofLevels l))} {n = ofLevels l .common ^ k} valueLimit (rw (denominator-alike (k - f) (ofLevels l)) (pow-le-pow-right (ofLevels l .some-common) (omega arith)))) (pre .roomy))
 
     pub all-done : f ≤ 0 → (d ≡ denominator (replicate k (ofLevels l))) × (ys ≡ sumsFrom 1 (replicate k (ofLevels l)) ts)
     all-done h =

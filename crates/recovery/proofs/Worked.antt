@@ -92,6 +92,7 @@ module _ {h : ℕ} {xs : List ℤ} (pre : Stretch 3 h xs) where
           (set (set (set ys i (wrap (wrap (wrap (pos 2 *ℤ wrap a) +ℤ wrap (pos 3 *ℤ wrap b)) +ℤ wrap c)))
           (i + h) (wrap (wrap (pos 2 *ℤ wrap a) -ℤ wrap (pos 2 *ℤ wrap c))))
           (i + 2 * h) (wrap (wrap (wrap (pos 2 *ℤ wrap a) -ℤ wrap (pos 3 *ℤ wrap b)) +ℤ wrap c)))
+      unfolding three
       stretch-three =
           let t = closed (pos 0) inside
           (put (pos 0) inside 2 (lit< tt) (put (pos 0) inside 1 (lit< tt) (put (pos 0) inside 0 (lit< tt) (opened (pos 0) w) _ one-is) _ two-is) _ three-is) in

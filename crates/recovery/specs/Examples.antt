@@ -72,12 +72,12 @@ unfolding recoverColumn recoverRefused withPlan planRefused badLevels badFactors
 twice-back = refl
 
 -- N14: the totals of 3, 5, 4, 8, one of them changed by 1, and by 2; each of them plus 2 to the power 62, where a sum that wraps would find
--- 3, 5, 4, 8; and at three levels 10, -1, -5, one changed by 1, by 2 and by 3
+-- 3, 5, 4, 8; and at three levels 10, -1, -5, one of them changed by 1, 1 and 3, where the first sum is 14, 15 and 15, no multiple of 6
 none : recoverRefused four (pos 20 ∷ neg 6 ∷ neg 4 ∷ pos 3 ∷ []) quadruple
     ∷ recoverRefused four (pos 20 ∷ neg 6 ∷ neg 2 ∷ pos 2 ∷ []) quadruple
     ∷ recoverRefused four (pos (2 ^ 62 + 20) ∷ pos (2 ^ 62 - 6) ∷ pos (2 ^ 62 - 4) ∷ pos (2 ^ 62 + 2) ∷ []) quadruple
     ∷ recoverRefused three-runs (pos 11 ∷ neg 1 ∷ neg 5 ∷ []) triple
-    ∷ recoverRefused three-runs (pos 10 ∷ pos 1 ∷ neg 5 ∷ []) triple
+    ∷ recoverRefused three-runs (pos 10 ∷ pos 0 ∷ neg 5 ∷ []) triple
     ∷ recoverRefused three-runs (pos 10 ∷ neg 1 ∷ neg 2 ∷ []) triple
     ∷ []
     ≡ 14 ∷ 14 ∷ 14 ∷ 14 ∷ 14 ∷ 14 ∷ []
