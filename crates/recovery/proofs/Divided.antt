@@ -1,9 +1,10 @@
 -- The loop that divides sums, and the one that puts readings.
 --
+--   product-fits, not-exact, exact                  the denominator times a quotient beside the sum, as code compares them
 --   Dividing D M zs i any ys                        the first i sums are quotients, and `any` is whether one of them is missed
 --   dividing-none, dividing-more, dividing-all      before the first, after one more, after the last
 --   dividing-long, dividing-still                   the length, and the next sum is still there
---   product-fits                                    the denominator times a quotient fits
+--   quotient-fits, product-size, divided            a turn of it
 --   narrowed-fits, narrowed                         a value that a pass admits, as an i32
 use mathlib.Core.Path.{_≡_, refl, sym, _∙_, ap}
 use mathlib.Core.Bool.{Bool, true, false, _||_}
@@ -90,15 +91,33 @@ half : valueLimit < 2 ^ 31
 unfolding valueLimit
 half = lit< tt
 
-module _ {D M : ℕ} {zs : List ℤ} (pre : Sums D M zs) (i : ℕ) where
-  pub sum-size : natAbs (read zs i) < 2 ^ 63
-  sum-size = omega (arith, room, pre .room, pre .within i)
+module _ {D M : ℕ} {zs : List ℤ} (pre : Sums D M zs) {i : ℕ} {any : Bool} {ys : List ℤ} (w : Dividing D M zs i any ys) (more : i < length ys) where
+  sum-within : natAbs (read ys i) ≤ D * valueLimit
+  sum-within = rw (dividing-still w more) (pre .within i)
 
-  pub reading-size : natAbs (quotZ (read zs i) (pos D)) < 2 ^ 63
-  reading-size = omega (arith, half, quot-within D valueLimit (read zs i) (pre .within i))
+  sum-size : natAbs (read ys i) < 2 ^ 63
+  sum-size = omega (arith, room, pre .room, sum-within)
 
-  pub product-size : natAbs (pos D *ℤ quotZ (read zs i) (pos D)) < 2 ^ 63
-  product-size = omega (arith, sum-size, quot-back D (read zs i))
+  quotient-size : natAbs (quotZ (read ys i) (pos D)) < 2 ^ 63
+  quotient-size = omega (arith, half, quot-within D valueLimit (read ys i) sum-within)
+
+  quotient-held : quotZ (wrap (read ys i)) (toZ w64 D) ≡ quotZ (read ys i) (pos D)
+  quotient-held = rw (back (read ys i) sum-size, toZ-pos w64 D (omega (arith, pre .fits))) refl
+
+  pub quotient-fits : (0 < D) × SFits w64 (quotZ (wrap (read ys i)) (toZ w64 D))
+  quotient-fits = (pre .some, rw quotient-held (fits (quotZ (read ys i) (pos D)) quotient-size))
+
+  quotient-is : wrap (quotZ (wrap (read ys i)) (toZ w64 D)) ≡ quotZ (read ys i) (pos D)
+  quotient-is = rw quotient-held (back (quotZ (read ys i) (pos D)) quotient-size)
+
+  pub product-size : natAbs (pos D *ℤ wrap (quotZ (wrap (read ys i)) (toZ w64 D))) < 2 ^ 63
+  product-size = rw quotient-is (omega (arith, sum-size, quot-back D (read ys i)))
+
+  pub divided : {t : Bool} → t ≡ missed D M (wrap (read ys i)) (wrap (quotZ (wrap (read ys i)) (toZ w64 D)))
+      → Dividing D M zs (i + 1) (any || t) (set ys i (wrap (quotZ (wrap (read ys i)) (toZ w64 D))))
+  divided e =
+      dividing-more w more quotient-is
+      (e ∙ ap (λ z. missed D M z (wrap (quotZ (wrap (read ys i)) (toZ w64 D)))) (back (read ys i) sum-size))
 
 -- ---- a value as a reading
 

@@ -123,6 +123,12 @@ module _ {l k : ℕ} {ts : List ℤ} (pre : Summable l k ts) where
       next-over : d * ofLevels l .common ≡ ofLevels l .common ^ (k - (f - 1))
       next-over = rw (w .over, count) (sym (pow-suc (ofLevels l .common) (k - f)))
 
+      pub next-fits : d * ofLevels l .common < 2 ^ 32
+      unfolding valueLimit mildLimit
+      next-fits =
+          let le : ofLevels l .common ^ (k - (f - 1)) ≤ ofLevels l .common ^ k = pow-le-pow-right (ofLevels l .some-common) (omega arith) in
+          rw next-over (omega (arith, le, pre .roomy))
+
       pub all-more : {zs : List ℤ} → zs ≡ sumsOver (s / l) (ofLevels l) ys → AllSummed l k ts (d * ofLevels l .common) (s / l) (f - 1) zs
       unfolding sumsFrom
       all-more e =
