@@ -1,13 +1,12 @@
 -- What the parts of the call are lent, and what they find.
 --
---   few                    a plan has at most 1,024 runs
---   denominator-few        and its denominator is at most 46,656
---   worked                 the column that is lent besides
---   summable               the totals can be summed
---   divisible              and the sums divided
---   missing                a quotient is missed where there are no readings
---   narrow                 and else the quotients are readings
---   refused-14, done       the answer of the call in both cases
+--   denominator-few          the denominator of a plan is at most 46,656
+--   summable, divisible      the totals can be summed, and the sums divided
+--   missing, found           a quotient is missed where there are no readings; the quotients are the readings back
+--   lengths, few             an accepted plan and columns of N places; at most 1,024
+--   judgeable                the column that is lent besides
+--   narrow                   where there are readings they fit the column for them
+--   refused-14, done         the answer of the call in both cases
 use mathlib.Core.Path.{_≡_, refl, sym, _∙_, ap}
 use mathlib.Core.Logic.{_⊎_, inl, inr}
 use mathlib.Core.Bool.{Bool, true, false}
@@ -18,10 +17,11 @@ use native.Mathlib.Omega.{arith}
 use lib.Dec.{lit<, lit≤}
 use lib.IntN.{ℤ}
 use lib.ListN.{length, replicate}
-use Rattle.contrasts.specs.Columns.{AllWithin}
+use Rattle.algebra.specs.Tab.{tab}
+use Rattle.contrasts.specs.Columns.{read}
 use Rattle.contrasts.specs.Factors.{two, three, ofLevels}
 use Rattle.contrasts.specs.Limits.{valueLimit, mostTwo, mostThree}
-use Rattle.contrasts.specs.Recovery.{readingsBack, noReadings}
+use Rattle.contrasts.specs.Recovery.{backSum, readingsBack, noReadings}
 use Rattle.contrasts.specs.Totals.{size, denominator}
 use Rattle.contrasts.specs.Laws.Divisors.{denominator-pos}
 use Rattle.contrasts.specs.Laws.Recovery.{anyMissed, quotients, quotients-back, judged, back-found}
@@ -39,7 +39,7 @@ use Rattle.plan.specs.Laws.Limits.{run-admitted}
 use Rattle.plan.specs.Laws.Sizes.{factors-two, factors-three, as-power, plan-kind, runs-few}
 use Rattle.recovery.specs.Calls.{recoverRefused, recoverColumn}
 use Rattle.recovery.specs.Inner.Answered.{Answered}
-use Rattle.recovery.specs.Inner.Lent.{Summable, Sums, Narrow, Lent, Worked}
+use Rattle.recovery.specs.Inner.Lent.{Summable, Sums, Narrow, Judgeable, Lent}
 use Rattle.recovery.specs.Laws.Judged.{Lengths, by-readings}
 use Rattle.recovery.proofs.Summed.{kind-gentle}
 
@@ -55,9 +55,47 @@ denominator-few p ok = by (accepted p ok .levels)
         rw (factors-three p e, denominator-alike (p .k) three)
         (le-trans (pow-le-pow-right {n = 6} (lit< tt) (accepted p ok .factors .2 e)) (lit≤ tt))
 
+half : valueLimit < 2 ^ 31
+unfolding valueLimit
+half = lit< tt
+
 most-sum : 46_656 * valueLimit ≤ mildLimit
 unfolding valueLimit mildLimit
 most-sum = lit≤ tt
+
+module _ {p : Plan} {ts xs : List ℤ} (l : Judgeable p ts xs) where
+  roomy : denominator (factorsOf p) * valueLimit ≤ mildLimit
+  roomy = le-trans (mul-le-mul-right valueLimit (denominator-few p (l .plan))) most-sum
+
+  pub summable : {zs : List ℤ} → zs ≡ ts → Summable (p .levels) (p .k) zs
+  unfolding factorsOf
+  summable e = rw e (record {
+    kind = plan-kind p (l .plan);
+    whole = as-power p (l .plan) (l .whole);
+    roomy = rw (← (denominator-alike (p .k) (ofLevels (p .levels)))) roomy;
+    within = l .within;
+  })
+
+  -- the sums of the totals, over their denominator and beside the limit of a run sum, as code has these numbers
+  module _ {zs : List ℤ} {D M : ℕ} (so : zs ≡ sumsFrom 1 (factorsOf p) ts) (over : D ≡ denominator (factorsOf p)) (limit : M ≡ runLimit p) where
+    sums : zs ≡ tab (runsOf p) (backSum (factorsOf p) (read ts))
+    sums = so ∙ sums-back (factorsOf p) ts (l .whole)
+
+    pub divisible : Sums D M zs
+    unfolding factorsOf
+    divisible = rw (over, limit) (record {
+      some = denominator-pos (factorsOf p);
+      fits = omega (arith, denominator-few p (l .plan));
+      narrow = omega (arith, run-admitted p (l .plan), half);
+      within = rw so (all-within 1 (factorsOf p) valueLimit ts (gentle-alike (p .k) (ofLevels (p .levels)) (kind-gentle (p .levels))) (l .within));
+      room = roomy;
+    })
+
+    pub missing : {b : Bool} → b ≡ anyMissed D M zs → b ≡ noReadings (factorsOf p) (runLimit p) ts
+    missing e = e ∙ rw (over, limit) (judged (factorsOf p) ts zs sums (runLimit p) (l .whole))
+
+    pub found : {qs : List ℤ} → qs ≡ quotients D zs → qs ≡ readingsBack (factorsOf p) ts
+    found e = e ∙ rw over (quotients-back (factorsOf p) ts zs sums)
 
 module _ {p : Plan} {ts ys : List ℤ} (l : Lent p ts ys) where
   pub lengths : Lengths p ts ys
@@ -66,34 +104,8 @@ module _ {p : Plan} {ts ys : List ℤ} (l : Lent p ts ys) where
   pub few : length ts ≤ 1024
   few = rw (l .whole) (runs-few p (l .plan))
 
-  roomy : denominator (factorsOf p) * valueLimit ≤ mildLimit
-  roomy = le-trans (mul-le-mul-right valueLimit (denominator-few p (l .plan))) most-sum
-
-  pub summable : Summable (p .levels) (p .k) ts
-  unfolding factorsOf
-  summable = record {
-    kind = plan-kind p (l .plan);
-    whole = as-power p (l .plan) (l .whole);
-    roomy = rw (← (denominator-alike (p .k) (ofLevels (p .levels)))) roomy;
-    within = l .within;
-  }
-
-  module _ {zs : List ℤ} (so : zs ≡ sumsFrom 1 (factorsOf p) ts) where
-    pub divisible : runLimit p < 2 ^ 31 → Sums (denominator (factorsOf p)) (runLimit p) zs
-    unfolding factorsOf
-    divisible small = record {
-      some = denominator-pos (factorsOf p);
-      fits = omega (arith, denominator-few p (l .plan));
-      narrow = small;
-      within = rw so (all-within 1 (factorsOf p) valueLimit ts (gentle-alike (p .k) (ofLevels (p .levels)) (kind-gentle (p .levels))) (l .within));
-      room = roomy;
-    }
-
-    pub missing : {b : Bool} → b ≡ anyMissed (denominator (factorsOf p)) (runLimit p) zs → b ≡ noReadings (factorsOf p) (runLimit p) ts
-    missing e = e ∙ judged (factorsOf p) ts zs (so ∙ sums-back (factorsOf p) ts (l .whole)) (runLimit p) (l .whole)
-
-    pub found : {qs : List ℤ} → qs ≡ quotients (denominator (factorsOf p)) zs → qs ≡ readingsBack (factorsOf p) ts
-    found e = e ∙ quotients-back (factorsOf p) ts zs (so ∙ sums-back (factorsOf p) ts (l .whole))
+  pub judgeable : {xs : List ℤ} → length xs ≡ runsOf p → Judgeable p ts xs
+  judgeable e = record { plan = l .plan; whole = l .whole; values = e; within = l .within }
 
   module _ (e : noReadings (factorsOf p) (runLimit p) ts ≡ false) where
     pub narrow : {qs : List ℤ} → qs ≡ readingsBack (factorsOf p) ts → Narrow qs ys

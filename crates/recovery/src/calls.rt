@@ -8,26 +8,37 @@ use columns::any_value_beyond;
 use columns::copy_values;
 use columns::lengths_refused;
 use plan::Plan;
-use sizes::reading_limit;
+use sizes::run_limit;
 use sizes::runs;
+ghost use Rattle.contrasts.specs.Recovery.{readingsBack, noReadings};
+ghost use Rattle.plan.specs.Limits.{runLimit};
 ghost use Rattle.plan.specs.Outcome.{outcome};
+ghost use Rattle.plan.specs.Plan.{factorsOf};
 ghost use Rattle.columns.specs.Refusals.{answerOutcome};
 ghost use Rattle.recovery.specs.Calls.{recoverRefused, recoverColumn};
 ghost use Rattle.recovery.specs.Inner.Answered.{Answered};
-ghost use Rattle.recovery.specs.Inner.Lent.{Lent, Worked};
+ghost use Rattle.recovery.specs.Inner.Lent.{Judgeable, Lent, Worked};
 
 // The most runs of a plan.
 const MOST: usize = 1024;
 
-// The readings of totals that a pass admits, worked in a column that is lent besides.
+// The column that could have the totals, which a pass admits; and whether there are no readings.
+fn judge(p: Plan, totals: &[i64], column: &mut [i64]) -> bool
+    requires { ⌜ Judgeable p (now totals) (now column) ⌝ }
+    ensures { λ r. ⌜ r ≡ noReadings (factorsOf p) (runLimit p) (now (totals .entry)) ⌝ }
+    ensures { λ _. ⌜ now (column .exit) ≡ readingsBack (factorsOf p) (now (totals .entry)) ⌝ }
+{
+    copy_values(totals, column);
+    let denominator = sum_back(p.levels as usize, p.k as usize, column);
+    divide(column, denominator, run_limit(p))
+}
+
+// The call on such totals, worked in a column that is lent besides.
 fn work(p: Plan, totals: &[i64], column: &mut [i64], readings: &mut [i32]) -> Answer
     requires { ⌜ Worked p (now totals) (now column) (now readings) ⌝ }
     ensures { λ r. ⌜ Answered p (now (totals .entry)) (now (readings .entry)) (now (readings .exit)) (answerOutcome r) ⌝ }
 {
-    copy_values(totals, column);
-    let denominator = sum_back(p.levels as usize, p.k as usize, column);
-    let limit = p.repeats as u32 * reading_limit(p);
-    if divide(column, denominator, limit) {
+    if judge(p, totals, column) {
         return Answer::Refused(14);
     }
     put(column, readings);

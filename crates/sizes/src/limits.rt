@@ -1,7 +1,7 @@
-// How large a reading of a plan may be, and whether a number is beyond a limit.
+// How large a reading and a run sum of a plan may be, and whether a number is beyond a limit.
 ghost use mathlib.Core.Path.{_≡_};
 use plan::Plan;
-ghost use Rattle.plan.specs.Limits.{readingLimit, isBeyond};
+ghost use Rattle.plan.specs.Limits.{readingLimit, runLimit, isBeyond};
 
 const TWO_READING_LIMIT: u32 = 1_000_000;
 
@@ -16,6 +16,13 @@ pub fn reading_limit(p: Plan) -> u32
     } else {
         THREE_READING_LIMIT
     }
+}
+
+// The limit of a run sum either way.
+pub fn run_limit(p: Plan) -> u32
+    ensures { λ r. ⌜ r ≡ runLimit p ⌝ }
+{
+    p.repeats as u32 * reading_limit(p)
 }
 
 // Whether a number is beyond a limit either way.

@@ -1,6 +1,7 @@
 -- The limits of a plan.
 --
 --   limit-two, limit-three      the limit of readings, by the levels
+--   reading-most                it is at most 1,000,000
 --   plan-roomy                  of an accepted plan: from run sums within their limit values and numerators do not leave theirs
 --   plan-rounds                 nor do the numbers of the rounds of the check
 --   some-reading, reading-fits  the limit of readings is not 0, and fits an i32
@@ -34,6 +35,10 @@ pub limit-three : (p : Plan) → (p .levels ≡ 2 → ⊥) → readingLimit p �
 unfolding readingLimit
 limit-three p h = rw (ne-eqb (p .levels) 2 h) refl
 
+pub reading-most : (p : Plan) → readingLimit p ≤ 1_000_000
+unfolding readingLimit twoReadingLimit threeReadingLimit
+reading-most p = either (eqb (p .levels) 2) twoReadingLimit threeReadingLimit (λ n. n ≤ 1_000_000) (λ _. lit≤ tt) (λ _. lit≤ tt)
+
 module _ (p : Plan) (z : planRefused p ≡ 0) where
   abbrev ok : Accepted p
   ok = accepted p z
@@ -56,11 +61,8 @@ module _ (p : Plan) (z : planRefused p ≡ 0) where
   plan-rounds e = rw (limit-three p (omega arith)) (three-rounds (p .k) (p .repeats) (ok .factors .2 e) (ok .repeats .0) (few-three e))
 
   pub run-admitted : runLimit p ≤ valueLimit
-  unfolding readingLimit twoReadingLimit threeReadingLimit valueLimit
-  run-admitted =
-      let reading : readingLimit p ≤ 1_000_000
-      = either (eqb (p .levels) 2) twoReadingLimit threeReadingLimit (λ n. n ≤ 1_000_000) (λ _. lit≤ tt) (λ _. lit≤ tt) in
-      omega (arith, mul-le-mul (some-repeat p z .1) reading)
+  unfolding valueLimit
+  run-admitted = omega (arith, mul-le-mul (some-repeat p z .1) (reading-most p))
 
 -- ---- of any plan
 

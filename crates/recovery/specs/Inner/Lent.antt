@@ -1,10 +1,11 @@
 -- What the inner functions ask of what they are lent.
 --
---   Summable levels k xs     a column of levels to the power k values, such as a pass admits, of at most as many factors as a plan may have
+--   Summable levels k xs     a column of levels to the power k values, such as a pass admits, whose sums leave room
 --   Sums D M zs              sums that are no larger than D times what a pass admits; numbers D and M that fit
 --   Narrow xs ys             values such as a pass admits, and as many places for readings
---   Lent p ts ys             N totals of an accepted plan, such as a pass admits, and as many places for readings
---   Worked p ts xs ys        the same, and as many places for values
+--   Judgeable p ts xs        N totals of an accepted plan, such as a pass admits, and as many places for values
+--   Lent p ts ys             the same, with places for readings
+--   Worked p ts xs ys        the same, with places for both
 use mathlib.Core.Path.{_≡_}
 use mathlib.Core.List.{List}
 use Prim.Native.Nat.{ℕ, _*_, _^_, _<_, _≤_}
@@ -12,7 +13,7 @@ use lib.IntN.{ℤ}
 use lib.ListN.{length}
 use Rattle.contrasts.specs.Columns.{AllWithin}
 use Rattle.contrasts.specs.Factors.{ofLevels}
-use Rattle.contrasts.specs.Limits.{valueLimit, mostTwo, mostThree}
+use Rattle.contrasts.specs.Limits.{valueLimit}
 use Rattle.contrasts.specs.Laws.Small.{mildLimit}
 use Rattle.plan.specs.declared.types.Plan.{Plan}
 use Rattle.plan.specs.Check.{planRefused}
@@ -34,6 +35,12 @@ pub record Sums (D M : ℕ) (zs : List ℤ) : Type 0 where
 pub record Narrow (xs ys : List ℤ) : Type 0 where
   pub same : length xs ≡ length ys
   pub within : AllWithin valueLimit xs
+
+pub record Judgeable (p : Plan) (ts xs : List ℤ) : Type 0 where
+  pub plan : planRefused p ≡ 0
+  pub whole : length ts ≡ runsOf p
+  pub values : length xs ≡ runsOf p
+  pub within : AllWithin valueLimit ts
 
 pub record Lent (p : Plan) (ts ys : List ℤ) : Type 0 where
   pub plan : planRefused p ≡ 0
