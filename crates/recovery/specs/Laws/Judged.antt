@@ -1,6 +1,7 @@
 -- What is judged on the way is what the call promises.
 --
 --   Lengths                 an accepted plan, and two columns of N places
+--   judged-lengths          so they are where the plan and the lengths give no number
 --   by-readings             the number of the call is then 14 or none, by whether there are readings
 --   beyond                  totals beyond what a pass admits are those of no readings
 --   Recovered, recovered    what is known of a call that is done
@@ -25,14 +26,23 @@ use Rattle.plan.specs.Limits.{runLimit}
 use Rattle.plan.specs.Plan.{factorsOf, runsOf}
 use Rattle.plan.specs.Laws.Answers.{passed, plan-passed, after-plan}
 use Rattle.plan.specs.Laws.Limits.{plan-roomy}
-use Rattle.columns.specs.Refusals.{wrongLength, anyBeyond}
+use Rattle.columns.specs.Refusals.{wrongLength, lengthsRefused, anyBeyond}
 use Rattle.columns.specs.Laws.Admitted.{none-beyond, as-long, not-wrong}
+use Rattle.columns.specs.Laws.Lengths.{by-none}
 use Rattle.recovery.specs.Calls.{recoverRefused}
 
 pub record Lengths (p : Plan) (ts column : List ℤ) : Type 0 where
   pub plan : planRefused p ≡ 0
   pub whole : length ts ≡ runsOf p
   pub same : length column ≡ runsOf p
+
+-- so it is where the plan and the lengths give no number
+pub judged-lengths : (p : Plan) (ts column : List ℤ) → lengthsRefused p (wrongLength p (length ts) || wrongLength p (length column)) ≡ 0
+    → Lengths p ts column
+judged-lengths p ts column e =
+    let q = by-none p (wrongLength p (length ts) || wrongLength p (length column)) e in
+    let n = neither (wrongLength p (length ts)) (wrongLength p (length column)) (q .1) in
+    record { plan = q .0; whole = as-long p (length ts) (n .0); same = as-long p (length column) (n .1) }
 
 pub by-readings : {p : Plan} {ts column : List ℤ} → Lengths p ts column
     → recoverRefused p ts column ≡ cond (noReadings (factorsOf p) (runLimit p) ts) 14 0
