@@ -117,12 +117,12 @@ module _ {p : Plan} {ts ys : List ℤ} (l : Lent p ts ys) where
     unfolding recoverColumn
     done d =
         let z : recoverRefused p ts ys ≡ 0 = by-readings lengths ∙ rw e refl in
-        let r = completed tt (readingsBack (factorsOf p) ts) ys z d in
+        let r = completed tt (readingsBack (factorsOf p) ts) _ z d in
         record { answer = r .0; column = r .1 }
 
 pub refused-14 : {p : Plan} {ts ys : List ℤ} → Lengths p ts ys → noReadings (factorsOf p) (runLimit p) ts ≡ true → Answered p ts ys ys (refused 14)
 unfolding recoverColumn
 refused-14 {p} {ts} {ys} l e =
     let z : 14 ≡ recoverRefused p ts ys = sym (by-readings l ∙ rw e refl) in
-    let r = stopped tt (readingsBack (factorsOf p) ts) ys z (λ d. absurd (omega (arith, d))) in
+    let r = stopped tt (readingsBack (factorsOf p) ts) _ z (λ d. absurd (omega (arith, d))) in
     record { answer = r .0; column = r .1 }

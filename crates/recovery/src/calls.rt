@@ -19,6 +19,9 @@ ghost use Rattle.recovery.specs.Calls.{recoverRefused, recoverColumn};
 ghost use Rattle.recovery.specs.Inner.Answered.{Answered};
 ghost use Rattle.recovery.specs.Inner.Lent.{Judgeable, Lent, Worked};
 
+// The refusal where no such readings exist.
+const NO_READINGS: u8 = 14;
+
 // The most runs of a plan.
 const MOST: usize = 1024;
 
@@ -39,7 +42,7 @@ fn work(p: Plan, totals: &[i64], column: &mut [i64], readings: &mut [i32]) -> An
     ensures { λ r. ⌜ Answered p (now (totals .entry)) (now (readings .entry)) (now (readings .exit)) (answerOutcome r) ⌝ }
 {
     if judge(p, totals, column) {
-        return Answer::Refused(14);
+        return Answer::Refused(NO_READINGS);
     }
     put(column, readings);
     Answer::Done
@@ -65,7 +68,7 @@ pub fn recover(p: Plan, totals: &[i64], readings: &mut [i32]) -> Answer
         return Answer::Refused(n);
     }
     if any_value_beyond(totals) {
-        return Answer::Refused(14);
+        return Answer::Refused(NO_READINGS);
     }
     lend(p, totals, readings)
 }
