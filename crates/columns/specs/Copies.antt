@@ -1,4 +1,4 @@
--- What the copy of readings leaves.
+-- What the copies of readings and of values leave.
 --
 --   copied xs ys    xs in the place of ys, if they have one length, and else ys
 use mathlib.Core.Bool.{cond}

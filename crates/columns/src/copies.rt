@@ -23,8 +23,7 @@ pub fn copy(readings: &[i32], column: &mut [i64])
     }
 }
 
-// The values of a column to another of as many places.
-pub fn copy_values(from: &[i64], to: &mut [i64])
+fn put_values(from: &[i64], to: &mut [i64])
     requires { ⌜ length (now from) ≡ length (now to) ⌝ }
     ensures { λ _. ⌜ now (to .exit) ≡ now (from .entry) ⌝ }
 {
@@ -32,5 +31,14 @@ pub fn copy_values(from: &[i64], to: &mut [i64])
     while i < from.len() {
         to[i] = from[i];
         i += 1;
+    }
+}
+
+// The values of a column are copied to another of as many places; one of another length stays as it was.
+pub fn copy_values(from: &[i64], to: &mut [i64])
+    ensures { λ _. ⌜ now (to .exit) ≡ copied (now (from .entry)) (now (to .entry)) ⌝ }
+{
+    if from.len() == to.len() {
+        put_values(from, to);
     }
 }

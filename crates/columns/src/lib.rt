@@ -7,7 +7,7 @@
 //   values_refused(p, from, to)              the first number of a call that reads a column of values and writes another
 //   readings_refused(p, readings, totals)    and of one that reads readings
 //   copy(readings, column)                   readings as the values of a column
-//   copy_values(from, to)                    the values of a column to another of as many places
+//   copy_values(from, to)                    the values of a column to another
 //   Answer                                   done, or the number of the refusal
 mod bits;
 mod copies;

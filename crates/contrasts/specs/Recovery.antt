@@ -17,11 +17,11 @@ use Rattle.contrasts.specs.Columns.{read}
 use Rattle.contrasts.specs.Factor.{Factor}
 use Rattle.contrasts.specs.Totals.{Column, size, coef*, total, denominator, weight*}
 
--- T32: of the totals of readings this is the denominator times the reading of run r (`recover`)
+-- T32: of the totals of readings this is the denominator times the reading of run r (law `recover`, Laws/Recovery.antt)
 unfoldable pub backSum : List Factor → Column → Column
 backSum Fs t r = Σ (size Fs) (λ e. pos (weight* Fs e) *ℤ (t e *ℤ coef* Fs e r))
 
--- T32: "Given a plan and N totals, write the N readings."; a quotient that is not whole is cut off, and then has other totals
+-- T32: "Given a plan and N totals, write the N readings."; a quotient that is not whole is cut off, and then the column has other totals
 unfoldable pub readingsBack : List Factor → List ℤ → List ℤ
 readingsBack Fs ts = tab (size Fs) (λ r. quotZ (backSum Fs (read ts) r) (pos (denominator Fs)))
 

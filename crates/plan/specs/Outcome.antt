@@ -28,7 +28,7 @@ lowest (refusal n holds ∷ rest) = cond holds n (lowest rest)
 -- ---- the order of checks
 
 -- L12: "an order of checks named in a request goes before lowest first". It is one order for all calls: 16 comes "after 8" (request 7),
--- 21 "after 16" (request 12), 15 "after 11; then 12" (request 5), and all other numbers lowest first
+-- 21 "after 16" (request 12), 15 "after 11; then 12" (request 5), 14 "after 11" (request 2), and all other numbers lowest first
 abbrev pub order : List ℕ
 order = 1 ∷ 2 ∷ 3 ∷ 4 ∷ 5 ∷ 6 ∷ 7 ∷ 8 ∷ 16 ∷ 21 ∷ 9 ∷ 10 ∷ 11 ∷ 15 ∷ 12 ∷ 13 ∷ 14 ∷ 17 ∷ 18 ∷ 19 ∷ 20 ∷ []
 

@@ -25,7 +25,7 @@ const NO_READINGS: u8 = 14;
 // The most runs of a plan.
 const MOST: usize = 1024;
 
-// The column that could have the totals, which a pass admits; and whether there are no readings.
+// Of totals that a pass admits: the one column that could have them, and whether it is none of readings within the limit.
 fn judge(p: Plan, totals: &[i64], column: &mut [i64]) -> bool
     requires { ⌜ Judgeable p (now totals) (now column) ⌝ }
     ensures { λ r. ⌜ r ≡ noReadings (factorsOf p) (runLimit p) (now (totals .entry)) ⌝ }
@@ -36,7 +36,7 @@ fn judge(p: Plan, totals: &[i64], column: &mut [i64]) -> bool
     divide(column, denominator, run_limit(p))
 }
 
-// The call on such totals, worked in a column that is lent besides.
+// Judges such totals in a working column, and writes the readings where there are any.
 fn work(p: Plan, totals: &[i64], column: &mut [i64], readings: &mut [i32]) -> Answer
     requires { ⌜ Worked p (now totals) (now column) (now readings) ⌝ }
     ensures { λ r. ⌜ Answered p (now (totals .entry)) (now (readings .entry)) (now (readings .exit)) (answerOutcome r) ⌝ }
@@ -48,7 +48,7 @@ fn work(p: Plan, totals: &[i64], column: &mut [i64], readings: &mut [i32]) -> An
     Answer::Done
 }
 
-// The same, with that column.
+// The same, with a working column on the stack.
 fn lend(p: Plan, totals: &[i64], readings: &mut [i32]) -> Answer
     requires { ⌜ Lent p (now totals) (now readings) ⌝ }
     ensures { λ r. ⌜ Answered p (now (totals .entry)) (now (readings .entry)) (now (readings .exit)) (answerOutcome r) ⌝ }
@@ -58,7 +58,8 @@ fn lend(p: Plan, totals: &[i64], readings: &mut [i32]) -> Answer
     work(p, totals, &mut column[..n], readings)
 }
 
-// The readings that have these totals. A total beyond what a pass admits is the total of no readings.
+// Writes the readings that have these totals; where runs are made more than once, the sums of runs. A total beyond what a pass admits is that
+// of no readings.
 pub fn recover(p: Plan, totals: &[i64], readings: &mut [i32]) -> Answer
     ensures { λ r. ⌜ answerOutcome r ≡ outcome (recoverRefused p (now (totals .entry)) (now (readings .entry))) tt ⌝ }
     ensures { λ _. ⌜ now (readings .exit) ≡ recoverColumn p (now (totals .entry)) (now (readings .entry)) ⌝ }

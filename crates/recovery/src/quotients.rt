@@ -6,7 +6,7 @@ use sizes::is_beyond;
 ghost use Rattle.contrasts.specs.Laws.Recovery.{missed, anyMissed, quotients};
 ghost use Rattle.recovery.specs.Inner.Lent.{Sums, Narrow};
 
-// Whether a sum is not the denominator times the reading, or this is beyond the limit.
+// Whether a sum is not the denominator times the reading, or the reading is beyond the limit.
 fn is_missed(sum: i64, reading: i64, denominator: u32, limit: u32) -> bool
     requires { ⌜ natAbs (pos denominator *ℤ reading) < 2 ^ 63 ⌝ }
     ensures { λ r. ⌜ r ≡ missed denominator limit sum reading ⌝ }
@@ -17,7 +17,7 @@ fn is_missed(sum: i64, reading: i64, denominator: u32, limit: u32) -> bool
     is_beyond(reading, limit)
 }
 
-// Each sum becomes its quotient. The answer says whether one of them is missed.
+// Each sum becomes its quotient, also after one that is missed. The answer says whether any is.
 pub fn divide(column: &mut [i64], denominator: u32, limit: u32) -> bool
     requires { ⌜ Sums denominator limit (now column) ⌝ }
     ensures { λ r. ⌜ r ≡ anyMissed denominator limit (now (column .entry)) ⌝ }
@@ -36,7 +36,7 @@ pub fn divide(column: &mut [i64], denominator: u32, limit: u32) -> bool
     any
 }
 
-// The readings, as they are lent.
+// The values of a column as readings; each fits.
 pub fn put(column: &[i64], readings: &mut [i32])
     requires { ⌜ Narrow (now column) (now readings) ⌝ }
     ensures { λ _. ⌜ now (readings .exit) ≡ now (column .entry) ⌝ }

@@ -9,7 +9,8 @@ ghost use Rattle.contrasts.specs.Laws.Undo.{sumsOver, sumsFrom};
 ghost use Rattle.passes.specs.Ready.{Stretch, Stretches};
 ghost use Rattle.recovery.specs.Inner.Lent.{Summable};
 
-// The triples of a stretch at three levels.
+// The triples of a stretch at three levels: first, middle and third become twice first plus three times middle plus third, twice first less twice
+// third, and twice first less three times middle plus third.
 fn sum_triples(part: &mut [i64], spacing: usize)
     requires { ⌜ Stretch 3 spacing (now part) ⌝ }
     ensures { λ _. ⌜ now (part .exit) ≡ sumsOver spacing three (now (part .entry)) ⌝ }
@@ -74,7 +75,7 @@ fn common(levels: usize) -> u32
     if levels == 2 { 2 } else { 6 }
 }
 
-// The sums of all k factors, the last one first. The answer is the denominator, by which they are too large.
+// The sums of all k factors, the last one first. The answer is the denominator, over which they are to be taken.
 pub fn sum_back(levels: usize, k: usize, column: &mut [i64]) -> u32
     requires { ⌜ Summable levels k (now column) ⌝ }
     ensures { λ r. ⌜ r ≡ denominator (replicate k (ofLevels levels)) ⌝ }

@@ -1,6 +1,6 @@
 -- Division of an integer by a natural number n, which cuts off.
 --
---   natAbs-quot    the size of a quotient
+--   natAbs-quot    the size of a quotient is the quotient of the size
 --   quot-within    it is at most M where the number's is at most n times M
 --   quot-back      n times the quotient is no larger than the number
 --   quot-times     where n is not 0, n times an integer over n is that integer

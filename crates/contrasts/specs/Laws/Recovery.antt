@@ -1,8 +1,8 @@
 -- Readings back from totals.
 --
 --   recover          each reading, times the denominator, is the weighted sum of the totals by its coefficients
---   total-backs      the totals of such sums are the denominator times what was given
---   back-sums        the sums of the totals of a column are the denominator times the column
+--   sums-total       the totals of such sums are the denominator times what was given
+--   column-sums      the sums of the totals of a column are the denominator times the column
 --   readings-back    so a column that has the totals is the readings back
 --   Fitting          a column within a limit that has the totals
 --   back-found       SOUND: where there is no refusal, the readings back are one
@@ -13,7 +13,8 @@
 --   missed D M z q    q, the quotient of z and D, is not exact, or beyond M
 --   anyMissed D M zs  so of some number of a list
 --   quotients D zs    the quotients of a list
---   judged            a quotient of the sums back is missed exactly where there are no readings
+--   quotients-back    those of the sums back are the readings back
+--   judged            one of them is missed exactly where there are no readings
 use mathlib.Core.Path.{_≡_, refl, sym, _∙_, ap}
 use mathlib.Core.Bool.{Bool, true, false, not, _||_}
 use mathlib.Core.List.{List}
@@ -57,9 +58,9 @@ recover Fs x r h =
     ∙ squares Fs x (δ r)
     ∙ ap (λ z. pos (denominator Fs) *ℤ z) (Σ-ext (size Fs) (λ j. *ℤ-comm (x j) (δ r j)) ∙ Σ-at (size Fs) r x h)
 
-pub total-backs : (Fs : List Factor) (t : Column) (e : ℕ) → e < size Fs → total Fs (backSum Fs t) e ≡ pos (denominator Fs) *ℤ t e
+pub sums-total : (Fs : List Factor) (t : Column) (e : ℕ) → e < size Fs → total Fs (backSum Fs t) e ≡ pos (denominator Fs) *ℤ t e
 unfolding total backSum
-total-backs Fs t e h =
+sums-total Fs t e h =
     Σ-ext n (λ r. sym (Σ-mul-r (coef* Fs e r) n (λ c. w c *ℤ (t c *ℤ coef* Fs c r))))
     ∙ Σ-swap n n (λ r c. (w c *ℤ (t c *ℤ coef* Fs c r)) *ℤ coef* Fs e r)
     ∙ Σ-cong n (λ c k.
@@ -85,13 +86,13 @@ unfolding total
 total-times Fs c x e = Σ-ext (size Fs) (λ r. *ℤ-assoc c (x r) (coef* Fs e r)) ∙ Σ-mul c (size Fs) (λ r. x r *ℤ coef* Fs e r)
 
 -- where the denominator times a column are the sums, the column has the totals
-back-total : (Fs : List Factor) (t x : Column) → ((r : ℕ) → r < size Fs → pos (denominator Fs) *ℤ x r ≡ backSum Fs t r)
+exact-total : (Fs : List Factor) (t x : Column) → ((r : ℕ) → r < size Fs → pos (denominator Fs) *ℤ x r ≡ backSum Fs t r)
     → (e : ℕ) → e < size Fs → total Fs x e ≡ t e
-back-total Fs t x exact e h =
+exact-total Fs t x exact e h =
     cancel (denominator Fs) (denominator-pos Fs) (total Fs x e) (t e)
     (sym (total-times Fs (pos (denominator Fs)) x e)
     ∙ total-cong Fs (λ r. pos (denominator Fs) *ℤ x r) (backSum Fs t) e exact
-    ∙ total-backs Fs t e h)
+    ∙ sums-total Fs t e h)
 
 back-cong : (Fs : List Factor) (t u : Column) (r : ℕ) → ((e : ℕ) → e < size Fs → t e ≡ u e) → backSum Fs t r ≡ backSum Fs u r
 unfolding backSum
@@ -109,9 +110,9 @@ module _ (Fs : List Factor) (ts : List ℤ) where
   read-back r h = getD-tab (pos 0) (size Fs) (λ r. quotZ (backSum Fs (read ts) r) (pos (denominator Fs))) r h
 
   module _ (ys : List ℤ) (have : totalsOf Fs ys ≡ ts) where
-    pub back-sums : (r : ℕ) → r < size Fs → backSum Fs (read ts) r ≡ pos (denominator Fs) *ℤ read ys r
+    pub column-sums : (r : ℕ) → r < size Fs → backSum Fs (read ts) r ≡ pos (denominator Fs) *ℤ read ys r
     unfolding totalsOf
-    back-sums r h =
+    column-sums r h =
         rw (← have) (back-cong Fs (read (tab (size Fs) (total Fs (read ys)))) (total Fs (read ys)) r
         (λ e k. getD-tab (pos 0) (size Fs) (total Fs (read ys)) e k)
         ∙ recover Fs (read ys) r h)
@@ -120,7 +121,7 @@ module _ (Fs : List Factor) (ts : List ℤ) where
     unfolding readingsBack
     readings-back long =
         sym (is-tab (pos 0) ys (size Fs) (λ r. quotZ (backSum Fs (read ts) r) (pos (denominator Fs))) long
-        (λ r h. rw (back-sums r h) (sym (quot-times (denominator Fs) (denominator-pos Fs) (read ys r)))))
+        (λ r h. rw (column-sums r h) (sym (quot-times (denominator Fs) (denominator-pos Fs) (read ys r)))))
 
 -- ---- with a limit
 
@@ -195,7 +196,7 @@ module _ (Fs : List Factor) (ts zs : List ℤ) (so : zs ≡ tab (size Fs) (backS
         rw own-length
         (some-false (size Fs) (λ i. missed (denominator Fs) M (read zs i) (quotZ (read zs i) (pos (denominator Fs))))
         (λ r h. rw (own r h, ← (read-back Fs ts r h))
-        (none (ap not (eq-eqZ _ _ (sym (back-sums Fs ts (readingsBack Fs ts) (f .same) r h)))) (le-ltb M (natAbs (read (readingsBack Fs ts) r)) (f .small r)))))
+        (none (ap not (eq-eqZ _ _ (sym (column-sums Fs ts (readingsBack Fs ts) (f .same) r h)))) (le-ltb M (natAbs (read (readingsBack Fs ts) r)) (f .small r)))))
 
     fitting : anyMissed (denominator Fs) M zs ≡ false → Fitting Fs M ts (readingsBack Fs ts)
     unfolding anyMissed totalsOf
@@ -205,7 +206,7 @@ module _ (Fs : List Factor) (ts zs : List ℤ) (so : zs ≡ tab (size Fs) (backS
           (λ r h. ltb-false M (natAbs (read (readingsBack Fs ts) r)) (at r (rw (length-back Fs ts) at h) .1));
       same =
           sym (is-tab (pos 0) ts (size Fs) (total Fs (read (readingsBack Fs ts))) long
-          (λ r h. sym (back-total Fs (read ts) (read (readingsBack Fs ts)) whole r h)));
+          (λ r h. sym (exact-total Fs (read ts) (read (readingsBack Fs ts)) whole r h)));
     }
       where
         at : (r : ℕ) → r < size Fs → (not (eqZ (pos (denominator Fs) *ℤ read (readingsBack Fs ts) r) (backSum Fs (read ts) r)) ≡ false)

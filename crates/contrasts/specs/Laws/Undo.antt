@@ -14,7 +14,7 @@
 --   sums-back            so the sums of all factors are those of the definition
 --   gentle F, allGentle Fs       the test that a factor's sums are no larger than its common denominator times the largest value, and of all
 --   two-gentle .. five-gentle    the four factors pass it; gentle-alike so do k that are alike
---   sums-within, all-within      so are the sums of one factor, and of all
+--   sum-within, sums-within, all-within    so each sum of a factor, all of one, and those of all factors are within that
 --   undo-stretch, sums-alone     stretch by stretch
 --   sums-two             at two levels the sums are the pass
 --   first-sum, middle-sum, third-sum    at three levels, as code forms them
@@ -51,7 +51,7 @@ use Rattle.contrasts.specs.Laws.Bounds.{sized}
 use Rattle.contrasts.specs.Laws.Digits.{total-cong}
 use Rattle.contrasts.specs.Laws.Lists.{tab-read, pass-over, order-list}
 use Rattle.contrasts.specs.Laws.Order.{inOrder, in-order}
-use Rattle.contrasts.specs.Laws.Recovery.{total-backs, readings-back}
+use Rattle.contrasts.specs.Laws.Recovery.{sums-total, readings-back}
 use Rattle.contrasts.specs.Laws.Stretches.{byRows, rows-value, rows-alone, passOver, length-over}
 use Rattle.contrasts.specs.Laws.Within.{within-tab}
 
@@ -284,17 +284,17 @@ module _ (Fs : List Factor) (ts : List ℤ) (long : length ts ≡ size Fs) where
   sums-totals =
       sym (passes-from Fs (sumsFrom 1 Fs ts) (length-from 1 Fs ts ∙ long)) ∙ passes-sums 1 1 Fs ts (lit< tt) (omega (arith, long))
 
-  backs-totals : totalsOf Fs (tab (size Fs) (backSum Fs (read ts))) ≡ times (pos (denominator Fs)) ts
+  definition-totals : totalsOf Fs (tab (size Fs) (backSum Fs (read ts))) ≡ times (pos (denominator Fs)) ts
   unfolding totalsOf
-  backs-totals =
+  definition-totals =
       rw long (tab-cong (pos 0) (size Fs) (total Fs (read (tab (size Fs) (backSum Fs (read ts))))) (λ i. pos (denominator Fs) *ℤ read ts i) (λ e h.
       total-cong Fs (read (tab (size Fs) (backSum Fs (read ts)))) (backSum Fs (read ts)) e (λ r k. getD-tab (pos 0) (size Fs) (backSum Fs (read ts)) r k)
-      ∙ total-backs Fs (read ts) e h))
+      ∙ sums-total Fs (read ts) e h))
 
   pub sums-back : sumsFrom 1 Fs ts ≡ tab (size Fs) (backSum Fs (read ts))
   sums-back =
       sym (readings-back Fs (times (pos (denominator Fs)) ts) (sumsFrom 1 Fs ts) sums-totals (length-from 1 Fs ts ∙ long))
-      ∙ readings-back Fs (times (pos (denominator Fs)) ts) (tab (size Fs) (backSum Fs (read ts))) backs-totals (length-tab (size Fs) (backSum Fs (read ts)))
+      ∙ readings-back Fs (times (pos (denominator Fs)) ts) (tab (size Fs) (backSum Fs (read ts))) definition-totals (length-tab (size Fs) (backSum Fs (read ts)))
 
 -- ---- how large the sums are
 

@@ -1,4 +1,6 @@
+use mathlib.Core.Path.{_∙_, ap}
 use borrow.Author.Needs.{needs}
+use Rattle.yates.specs.Calls.{passRefused, passColumn}
 use Rattle.exported.proofs.Told.{told}
 use Rattle.exported.proofs.yates_pass.Statement.{statement}
 use Rattle.exported.proofs.yates_pass.Tie as tie
@@ -15,9 +17,9 @@ yates-pass-spec =
     (λ c.
     let whole-is = c .before .before .before .before .before .whole .ensures in
     let pass-is = c .before .before .before .pass .ensures in
-    rw (← whole-is) (told (c .enum-told .given .1) (pass-is .0), pass-is .1))
+    (told (c .enum-told .given .1) (pass-is .0) ∙ ap (λ p. passRefused p _ _) whole-is, pass-is .1 ∙ ap (λ p. passColumn p _ _) whole-is))
     (λ c. search needs)
     (λ c.
     let whole-is = c .before .before .before .before .before .before .whole .ensures in
     let pass-is = c .before .before .before .before .pass .ensures in
-    rw (← whole-is) (told (c .before .n .given .1) (pass-is .0), pass-is .1)))
+    (told (c .before .n .given .1) (pass-is .0) ∙ ap (λ p. passRefused p _ _) whole-is, pass-is .1 ∙ ap (λ p. passColumn p _ _) whole-is)))

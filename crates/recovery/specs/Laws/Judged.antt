@@ -5,7 +5,7 @@
 --   by-readings             the number of the call is then 14 or none, by whether there are readings
 --   beyond                  totals beyond what a pass admits are those of no readings
 --   Recovered, recovered    what is known of a call that is done
---   recovers                and that this is all that it asks
+--   recovers                where the lengths are right, any fitting column is what is recovered
 use mathlib.Core.Path.{_≡_, refl, sym, _∙_, ap}
 use mathlib.Core.Bool.{Bool, true, false, cond, _||_, true≢false}
 use mathlib.Core.List.{List}

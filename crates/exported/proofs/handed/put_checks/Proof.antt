@@ -1,6 +1,7 @@
 use mathlib.Core.Path.{_∙_}
 use borrow.Author.Needs.{needs}
 use Rattle.algebra.specs.Laws.Machine.{kept}
+use Rattle.columns.specs.Laws.Copies.{copied-over}
 use Rattle.exported.proofs.handed.put_checks.Statement.{statement}
 use Rattle.exported.proofs.handed.put_checks.Tie as tie
 
@@ -9,9 +10,9 @@ put-checks-spec =
     tie.close
     (tie.spec
     (λ c. search needs)
-    (λ c κs. search needs)
+    (λ c κs. tt)
     (λ c. search needs)
     (λ c.
     let args = c .before .before .before .before .before .before .args in
     let struct-told-given = c .before .before .before .before .struct-told .given in
-    c .before .put-signed .ensures ∙ rw (kept (args .f .checks .totals) (struct-told-given .0 .1), kept (args .f .checks .readings) (struct-told-given .1 .0 .1))))
+    copied-over _ (c .before .before .before .before .before .before .pre) (c .before .copy-values .ensures) ∙ rw (kept (args .f .checks .totals) (struct-told-given .0 .1), kept (args .f .checks .readings) (struct-told-given .1 .0 .1))))
