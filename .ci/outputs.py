@@ -5,6 +5,8 @@
 #                                 published/amcp.py, published/yates.py
 #   crates/worked_totals/stdout   steps, totals and passes of the published examples, at the limits and with repeats:
 #                                 published/examples.py
+#   crates/worked_readings/stdout readings back from totals, and refusals: cases/recovery_answers.py
+#   crates/worked_readings/stdin  the records of these, which that program reads
 #   crates/worked_answers/stdout  refused and accepted tables, estimates, aliases, effects, runs and blockings:
 #                                 cases/answers.py; then the screening call: cases/screening_answers.py
 #   crates/worked_answers/stdin   the records of these, which that program reads
@@ -21,8 +23,9 @@
 # Each of these files also checks what it lists against rules/. Beside them published/analyses.py compares published
 # analyses of variance with rules/table.py, published/daniel.py published aliases with rules/totals.py, rules/blockings.py
 # its lists of block words with the plan check of rules/totals.py, rules/screening.py what meets in small plans with what
-# their words say, cases/screen_cases.py counts the kinds of sheets that it makes, and cases/csv_cases.py tries
-# tools/csv_sheet.py and compares the sheets of examples/ with the lines that they are made from.
+# their words say, rules/recovery.py what it solves with the formula that divides by the divisors, cases/screen_cases.py
+# counts the kinds of sheets that it makes, and cases/csv_cases.py tries tools/csv_sheet.py and compares the sheets of
+# examples/ with the lines that they are made from.
 #
 # Defined here:
 #   PROGRAMS, INPUTS, OTHERS   which file makes and checks what
@@ -34,24 +37,26 @@ from pathlib import Path
 ROOT = Path(__file__).resolve().parent.parent
 sys.path.insert(0, str(ROOT))
 
-from reference.cases import answers, csv_cases, screen_cases, screening_answers, sheet_cases, text_cases
+from reference.cases import (answers, csv_cases, recovery_answers, screen_cases, screening_answers, sheet_cases,
+                             text_cases)
 from reference.published import amcp, analyses, daniel, examples, yates
-from reference.rules import blockings, screening
+from reference.rules import blockings, recovery, screening
 
 # Each program with the reference files that make what it must write, one after the other.
 PROGRAMS = [
     ("worked_plans", [amcp, yates]),
     ("worked_totals", [examples]),
+    ("worked_readings", [recovery_answers]),
     ("worked_answers", [answers, screening_answers]),
     ("worked_sheets", [sheet_cases]),
     ("worked_texts", [text_cases]),
 ]
 
 # Those of the programs that read an input; the same files make it.
-INPUTS = ["worked_answers", "worked_sheets", "worked_texts"]
+INPUTS = ["worked_readings", "worked_answers", "worked_sheets", "worked_texts"]
 
 # Reference files beside these that have something to check.
-OTHERS = [analyses, daniel, blockings, screening, screen_cases, csv_cases]
+OTHERS = [analyses, daniel, blockings, screening, recovery, screen_cases, csv_cases]
 
 
 def path_of(module):

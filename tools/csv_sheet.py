@@ -1,8 +1,10 @@
-# Sheets from lines of cells, such as a spreadsheet saves them, and the lines of a sheet. It is a command:
+# Sheets from lines of cells, such as a spreadsheet saves them, and the lines of a sheet; and lines of runs from lines of
+# totals. It is a command:
 #
 #   python3 tools/csv_sheet.py make FILE.csv > FILE.sheet     writes the sheet
 #   python3 tools/csv_sheet.py list FILE.sheet                writes the lines, which make the same sheet again
 #   python3 tools/csv_sheet.py screen FILE.sheet              says what screentab will answer to the sheet, and why
+#   python3 tools/csv_sheet.py recover TOTALS.csv > FILE.csv  writes the lines of the runs that have the totals, for make
 #
 # Cells are parted by commas. The first cell of a line says what the line is:
 #
@@ -16,6 +18,13 @@
 #   run,0,1,0,17        a run: the levels of A, B, C and so on, 0 for low, and the reading; each run once, in any order
 #   run,0,1,0,17,19     the same with as many readings as repeats
 #   error,AB            a row that is pooled as error
+#   total,AB,2          for recover, where there is no run: an effect by its letters, `mean` for none, and its total; each
+#                       effect once, in any order. The letters are those of base factors
+#   total,AB2,-5        the same at three levels: a letter alone is linear, digit 1, one with a 2 after it curved, digit 2
+#
+# Totals have the report's signs, low minus high: the runs 3, 5, 4, 8 have 20, -6, -4, 2 for mean, A, B, AB. Of runs that are
+# made several times they are those of the runs' sums, and only these come back: a line such as sum,0,1,0,36 has the levels
+# and the sum of the readings, which cannot be told apart any more. No sheet is made of such lines.
 #
 # Added factors and block words stand in the sheet in the order of their lines; the letters of a word may stand in any. A
 # cell that begins with # and all after it in the line is passed over, and so are blank lines and blank cells at the end of
@@ -24,18 +33,22 @@
 # Lines that make no sheet are not understood: nothing is written then but a message that names the line. Of lines that
 # make a sheet which the rules refuse the sheet is written, and a message says what factab will answer. Of a sheet that
 # is refused the list gives number and cause, and what can be read. Of a plan in which a main effect and an interaction of two
-# factors meet, which is no screening plan, the list names those that do.
+# factors meet, which is no screening plan, the list names those that do. Where the recovery call refuses a plan or its totals
+# nothing is written but a message with number and cause, which names runs that come out as no reading. After it and after
+# lines that are not understood the exit status is 1.
 #
 # What the rules say of a sheet is asked of the reference program, reference/rules. Lines and sheets on which this is
 # tried are in reference/cases/csv_cases.py.
 #
 # Defined here:
 #   NotUnderstood        why no sheet can be made
+#   Refused              why no readings have some totals
 #   make                 the sheet of lines
 #   causes               why a sheet is refused, in words
 #   screening_causes     why screentab refuses a sheet, in words
 #   screened             what screentab will answer, and why, as a line
 #   listing              the lines of a sheet
+#   recover              the lines of the runs that have the totals of lines
 #   text_of              the text of a file of lines
 
 import re
@@ -46,6 +59,7 @@ from os.path import abspath, dirname
 
 sys.path.insert(0, dirname(dirname(abspath(__file__))))
 
+from reference.rules import recovery as recovery_rules
 from reference.rules import screening as screening_rules
 from reference.rules import sheet_bytes
 from reference.rules import table as table_rules
@@ -59,8 +73,12 @@ from reference.rules.totals import MOST_READING, MOST_READINGS, Plan
 # number counts from 1; the first of the cells says what the line is.
 Line = namedtuple("Line", "number cells")
 
-# The first cells, and how many cells there are then; for a run it depends on the factors.
+# The first cells, and how many cells there are then; for a run it depends on the factors. The same where there are totals.
 CELLS = {"levels": 2, "factors": 2, "added": 3, "block": 2, "repeats": 2, "run": None, "error": 2}
+TOTAL_CELLS = {"levels": 2, "factors": 2, "added": 3, "block": 2, "repeats": 2, "total": 3, "error": 2}
+
+# The first cells of runs, and of the sums of their readings.
+RUN, SUM = "run", "sum"
 
 LETTERS = "ABCDEFGHIJKLMNOP"
 MOST_BYTE = 255
@@ -71,6 +89,13 @@ MOST_PLACES = 8
 
 class NotUnderstood(Exception):
     """Why no sheet can be made of some lines."""
+
+
+class Refused(Exception):
+    """Why no readings have the totals of some lines: the number of the recovery call, and causes."""
+
+    def __init__(self, number, found):
+        super().__init__("refused %d (%s)" % (number, "; ".join(found)))
 
 
 def stop(line, why):
@@ -88,14 +113,16 @@ def cells_of(text_line):
     return cells[:last + 1]
 
 
-def lines_of(text):
-    """The lines of a text that are not passed over."""
+def lines_of(text, counts):
+    """The lines of a text that are not passed over, by the first cells that there may be and how many cells there are then."""
     lines = [Line(number, cells_of(text_line)) for number, text_line in enumerate(text.split("\n"), 1)]
     for line in lines:
-        if line.cells and line.cells[0] not in CELLS:
-            stop(line, "'%s' is none of %s" % (line.cells[0], ", ".join(CELLS)))
-        if line.cells and CELLS[line.cells[0]] not in (None, len(line.cells)):
-            stop(line, "%d cells, wanted %d" % (len(line.cells), CELLS[line.cells[0]]))
+        if line.cells and line.cells[0] == SUM and RUN in counts:
+            stop(line, "the readings of a run are wanted, and here is their sum, from which they cannot be told")
+        if line.cells and line.cells[0] not in counts:
+            stop(line, "'%s' is none of %s" % (line.cells[0], ", ".join(counts)))
+        if line.cells and counts[line.cells[0]] not in (None, len(line.cells)):
+            stop(line, "%d cells, wanted %d" % (len(line.cells), counts[line.cells[0]]))
     return [line for line in lines if line.cells]
 
 
@@ -122,7 +149,7 @@ def only(lines, kind):
 
 def whole(line, cell, least, most):
     """The whole number of a cell."""
-    if not re.fullmatch("[+-]?[0-9]{1,18}", cell) or not least <= int(cell) <= most:
+    if not re.fullmatch("[+-]?[0-9]{1,19}", cell) or not least <= int(cell) <= most:
         stop(line, "'%s' is no whole number from %d to %d" % (cell, least, most))
     return int(cell)
 
@@ -134,13 +161,18 @@ def word(line, cell):
     return table_rules.row_number(cell)
 
 
-def three_word(line, cell):
-    """The block word of a cell at three levels, a number: a letter's digit is 1, or 2 where a 2 follows it."""
+def three_digits(line, cell):
+    """The number of a cell at three levels: a letter's digit is 1, or 2 where a 2 follows it."""
     found = re.findall("([A-P])(2?)", cell)
     letters = [letter for letter, _ in found]
     if not cell or "".join(letter + two for letter, two in found) != cell or len(set(letters)) < len(letters):
         stop(line, "'%s' is not made of different letters from A to P, each alone or with a 2 after it" % cell)
-    number = sum((2 if two else 1) * 3 ** LETTERS.index(letter) for letter, two in found)
+    return sum((2 if two else 1) * 3 ** LETTERS.index(letter) for letter, two in found)
+
+
+def three_word(line, cell):
+    """The block word of a cell at three levels."""
+    number = three_digits(line, cell)
     if number > MOST_WORD:
         stop(line, "no sheet holds the word '%s' at 3 levels" % cell)
     return number
@@ -185,7 +217,7 @@ def run_of(line, plan):
 def readings_of(lines, plan):
     """The readings, run by run."""
     found = {}
-    for line in of_kind(lines, "run"):
+    for line in of_kind(lines, RUN):
         run = run_of(line, plan)
         if run in found:
             stop(line, "the run is already in line %d" % found[run][0].number)
@@ -211,21 +243,27 @@ def marks_of(lines, k):
     return marks
 
 
-def make(text):
-    """The sheet of lines. Raises NotUnderstood where they make none."""
-    lines = lines_of(text)
+def plan_of(lines):
+    """The plan of lines, whether it is accepted or not."""
     levels, k = size_of(lines)
     added = tuple((word(line, line.cells[1]), whole(line, line.cells[2], 0, MOST_BYTE))
                   for line in of_kind(lines, "added"))
     block_word = three_word if levels == 3 else word
     blocks = tuple(block_word(line, line.cells[1]) for line in of_kind(lines, "block"))
-    plan = Plan(levels, k, added, blocks, repeats_of(lines, levels, k))
-    return sheet_bytes.write(plan, readings_of(lines, plan), marks_of(lines, k))
+    return Plan(levels, k, added, blocks, repeats_of(lines, levels, k))
+
+
+def make(text):
+    """The sheet of lines. Raises NotUnderstood where they make none."""
+    lines = lines_of(text, CELLS)
+    plan = plan_of(lines)
+    return sheet_bytes.write(plan, readings_of(lines, plan), marks_of(lines, plan.k))
 
 
 # ---- why a sheet is refused ----
 
-# By number; those of three levels, where they are others, below. docs/USING.md has the limits of 12 and 16 too.
+# By number; those of three levels, where they are others, below. docs/USING.md has the limits of 12 and 16 too. No sheet is
+# refused with 14, which is of the recovery call.
 CAUSES = {
     2: "levels other than 2 or 3",
     3: "k out of range, which is 1 to 10 at two levels and 1 to 6 at three",
@@ -238,6 +276,7 @@ CAUSES = {
     11: "readings or marks not as many as there are runs, times repeats, or rows",
     12: "a reading beyond {:,} either way at two levels, or beyond {:,} at three".format(MOST_READING[2], MOST_READING[3]),
     13: "a mark over 1, or mark 1 on the mean or a blocks row",
+    14: "no readings within the limit have the totals",
 }
 CAUSES_OF_THREE = {
     4: "at three levels an added factor, or a second block word",
@@ -275,12 +314,17 @@ def field_causes(own_sheet):
     return found + (["a field is cut short"] if rest else [])
 
 
+def repeats_text(plan):
+    """The counts for which a plan is refused with 16."""
+    return "%d runs, repeats %d" % (totals_rules.run_count(plan.levels, plan.k), plan.repeats)
+
+
 def places(refused, contents):
     """The counts, readings or marks for which a sheet is refused with 16, 11, 12 or 13."""
     plan, readings, marks = contents
     runs, rows = totals_rules.run_count(plan.levels, plan.k), table_rules.row_count(plan.k)
     if refused == 16:
-        return ["%d runs, repeats %d" % (runs, plan.repeats)]
+        return [repeats_text(plan)]
     if refused == 11:
         return ["%d readings for %d runs%s, %d marks for %d rows" % (
             len(readings), runs, " of %d each" % plan.repeats if plan.repeats > 1 else "", len(marks), rows)]
@@ -292,6 +336,11 @@ def places(refused, contents):
             if mark > 1 or mark == 1 and kinds[row] != table_rules.KEPT]
 
 
+def cause(refused, plan):
+    """What a number says of a plan, in words."""
+    return CAUSES_OF_THREE.get(refused, CAUSES[refused]) if plan.levels == 3 else CAUSES[refused]
+
+
 def causes(own_sheet):
     """Why a sheet is refused, in words; nothing for a sheet that is accepted."""
     refused = text_rules.answer(own_sheet)
@@ -299,8 +348,7 @@ def causes(own_sheet):
         return field_causes(own_sheet)
     contents = sheet_bytes.contents_of(sheet_bytes.fields_of(own_sheet))
     found = places(refused, contents) if refused in (16, 11, 12, 13) else []
-    cause = CAUSES_OF_THREE.get(refused, CAUSES[refused]) if contents.plan.levels == 3 else CAUSES[refused]
-    return [cause] + some_of(found)
+    return [cause(refused, contents.plan)] + some_of(found)
 
 
 def some_of(found):
@@ -392,9 +440,8 @@ def added_line(plan, place):
         row_label(own_word), sign, LETTERS[plan.k + place], ("odd", "even")[sign])
 
 
-def accepted_lines(plan, readings, marks):
-    """The lines of an accepted sheet."""
-    runs = totals_rules.runs_of(plan.repeats, readings)
+def accepted_lines(plan, kind, runs, marks):
+    """The lines of an accepted sheet: for each run its readings, or by their kind the sum of them alone."""
     lines = ["# %d runs, %d rows" % (len(runs), len(marks)), "levels,%d" % plan.levels, "factors,%d" % plan.k]
     lines += [added_line(plan, place) for place in range(len(plan.added))]
     met = meeting_texts(plan)
@@ -402,10 +449,12 @@ def accepted_lines(plan, readings, marks):
     lines += ["block," + block_text(plan.levels, own_word) for own_word in plan.blocks]
     lines += passed_over("lost to blocks", lost_rows(plan)) if plan.blocks else []
     lines += ["repeats,%d" % plan.repeats] if plan.repeats > 1 else []
-    lines += passed_over("after run the levels of these, then the " + count_text(plan.repeats, "reading"), LETTERS[:plan.k])
+    what = count_text(plan.repeats, "reading")
+    lines += passed_over("after %s the levels of these, then the %s" % (kind, what if kind == RUN else "sum of " + what),
+                         LETTERS[:plan.k])
     for run, own in enumerate(runs):
         names = ["# " + treatment(plan, run)] if treatment(plan, run) else []
-        lines.append(",".join(map(str, ["run", *totals_rules.digits(plan.levels, plan.k, run), *own, *names])))
+        lines.append(",".join(map(str, [kind, *totals_rules.digits(plan.levels, plan.k, run), *own, *names])))
     return lines + ["error," + row_label(row) for row, mark in enumerate(marks) if mark]
 
 
@@ -439,9 +488,71 @@ def refused_lines(refused, own_sheet):
 def listing(own_sheet):
     """The lines of a sheet."""
     refused = text_rules.answer(own_sheet)
-    contents = None if refused else sheet_bytes.contents_of(sheet_bytes.fields_of(own_sheet))
-    lines = refused_lines(refused, own_sheet) if refused else accepted_lines(*contents)
+    if refused:
+        return written(refused_lines(refused, own_sheet))
+    plan, readings, marks = sheet_bytes.contents_of(sheet_bytes.fields_of(own_sheet))
+    return written(accepted_lines(plan, RUN, totals_rules.runs_of(plan.repeats, readings), marks))
+
+
+def written(lines):
+    """Lines as a text."""
     return "".join(line + "\n" for line in lines)
+
+
+# ---- the lines of totals ----
+
+def effect_of(line, plan):
+    """The effect of a line, by its letters."""
+    cell = line.cells[1]
+    if cell == table_rules.MEAN:
+        return 0
+    effect = three_digits(line, cell) if plan.levels == 3 else word(line, cell)
+    if effect >= totals_rules.run_count(plan.levels, plan.k):
+        stop(line, "'%s' is no effect, for there are %d factors" % (cell, plan.k))
+    return effect
+
+
+def effect_label(plan, effect):
+    """The letters of an effect, as in a line."""
+    return block_text(plan.levels, effect) if effect else table_rules.MEAN
+
+
+def totals_of(lines, plan):
+    """The totals of an accepted plan, effect by effect."""
+    found = {}
+    for line in of_kind(lines, "total"):
+        effect = effect_of(line, plan)
+        if effect in found:
+            stop(line, "the total is already in line %d" % found[effect][0].number)
+        found[effect] = line, whole(line, line.cells[2], -2 ** 63, 2 ** 63 - 1)
+    for effect in range(totals_rules.run_count(plan.levels, plan.k)):
+        if effect not in found:
+            raise NotUnderstood("there is no line for the total of %s" % effect_label(plan, effect))
+    return [found[effect][1] for effect in sorted(found)]
+
+
+def missed_texts(plan, totals):
+    """The runs of an accepted plan that the totals leave without readings, and why; not all where they are many."""
+    name = RUN if plan.repeats == 1 else "the %s of run" % SUM
+    limit = "beyond {:,} either way".format(recovery_rules.most_sum(plan))
+    return some_of(["%s %s comes out as %s, %s" % (
+        name, ",".join(map(str, totals_rules.digits(plan.levels, plan.k, run))), number,
+        limit if number.denominator == 1 else "which is not whole") for run, number in recovery_rules.missed(plan, totals)])
+
+
+def recover(text):
+    """The lines of the runs that have the totals of lines, or of their sums. Raises NotUnderstood, and Refused where the
+    recovery call refuses plan or totals; the plan is judged first."""
+    lines = lines_of(text, TOTAL_CELLS)
+    plan = plan_of(lines)
+    refused = totals_rules.plan_answer(plan)
+    if refused:
+        raise Refused(refused, [cause(refused, plan)] + ([repeats_text(plan)] if refused == 16 else []))
+    totals, marks = totals_of(lines, plan), marks_of(lines, plan.k)
+    sums = recovery_rules.recovered(plan, totals)
+    if sums is None:
+        raise Refused(14, [cause(14, plan)] + missed_texts(plan, totals))
+    return written(accepted_lines(plan, RUN if plan.repeats == 1 else SUM, [[own] for own in sums], marks))
 
 
 # ---- the command ----
@@ -458,11 +569,19 @@ def text_of(path):
         return file.read()
 
 
+# What the command writes of a file, by its first argument, other than a sheet.
+WAYS = {
+    "list": lambda path: listing(bytes_of(path)),
+    "screen": lambda path: screened(bytes_of(path)) + "\n",
+    "recover": lambda path: recover(text_of(path)),
+}
+
+
 def main(way, path):
-    """Writes the lines of a sheet, what screentab will answer to it, or the sheet of lines; and of a sheet of lines that is
-    refused a message."""
+    """Writes the lines of a sheet, what screentab will answer to it, the runs that have totals, or the sheet of lines; and of a
+    sheet of lines that is refused a message."""
     if way != "make":
-        sys.stdout.write(listing(bytes_of(path)) if way == "list" else screened(bytes_of(path)) + "\n")
+        sys.stdout.write(WAYS[way](path))
         return
     own_sheet = make(text_of(path))
     sys.stdout.buffer.write(own_sheet)
@@ -472,9 +591,10 @@ def main(way, path):
 
 
 if __name__ == "__main__":
-    if len(sys.argv) != 3 or sys.argv[1] not in ("make", "list", "screen"):
-        sys.exit("csv_sheet.py make FILE.csv, csv_sheet.py list FILE.sheet, or csv_sheet.py screen FILE.sheet")
+    if len(sys.argv) != 3 or sys.argv[1] not in ("make", *WAYS):
+        sys.exit("csv_sheet.py make FILE.csv, csv_sheet.py list FILE.sheet, csv_sheet.py screen FILE.sheet, or "
+                 "csv_sheet.py recover TOTALS.csv")
     try:
         main(sys.argv[1], sys.argv[2])
-    except (NotUnderstood, OSError, UnicodeDecodeError) as why:
+    except (NotUnderstood, Refused, OSError, UnicodeDecodeError) as why:
         sys.exit("%s: %s" % (sys.argv[2], why))

@@ -1,5 +1,5 @@
-# Lines for tools/csv_sheet.py, with the message, the number of a refusal or the sheet that each must give; and the sheets
-# of the examples, which are made from such lines.
+# Lines for tools/csv_sheet.py, with the message, the number of a refusal, the sheet or the lines of runs that each must give;
+# and the sheets of the examples, which are made from such lines.
 #
 # Defined here:
 #   UNCLEAR, SAME, REFUSED   lines that are not understood, that make the sheet of the rules, that make a refused sheet
@@ -10,7 +10,11 @@
 #   REPEATS_TOLD             repeats, and what the command tells of them
 #   WORDS_TOLD               block words and added factors at three levels, and what the command tells of them
 #   SCREENED_TOLD            added factors and marks, and what the command tells of their screening
+#   UNCLEAR_TOTALS           lines of totals that are not understood
+#   RUNS_BACK                lines of totals, and the lines of runs that the command writes of them
+#   REFUSED_TOTALS           lines of totals that the recovery call refuses, and what the command tells of them
 #   EXAMPLES                 the stored examples, and the worked table of each
+#   TOTALS_EXAMPLES          the stored lines of totals, and the example whose runs come back
 #   check                    list of complaints, empty if all is well
 
 import re
@@ -22,7 +26,8 @@ from pathlib import Path
 ROOT = Path(__file__).resolve().parents[2]
 sys.path[:0] = [str(ROOT), str(ROOT / "tools")]
 
-from csv_sheet import NotUnderstood, field_causes, listing, make, places, screened, text_of
+from csv_sheet import (NotUnderstood, Refused, block_text, effect_label, field_causes, listing, make, places, recover,
+                       screened, text_of)
 from reference.cases import text_cases
 from reference.cases.answers import NINE
 from reference.published import analyses
@@ -30,6 +35,7 @@ from reference.rules import screening as screening_rules
 from reference.rules import sheet_bytes
 from reference.rules import text as text_rules
 from reference.rules import totals as totals_rules
+from reference.rules.table import row_label
 from reference.rules.totals import MOST_READING, Plan
 
 FOLDER = ROOT / "examples"
@@ -43,6 +49,7 @@ EXAMPLES = {
     "three_blocks": analyses.FIRST_Y,
     "screening": analyses.AMCP_HALF,
 }
+TOTALS_EXAMPLES = {"four_runs_totals": "four_runs", "three_levels_totals": "three_levels"}
 
 
 # ---- lines ----
@@ -270,6 +277,196 @@ ABOUT_LIMITS = [
 ]
 
 
+# Totals of the rules' examples, of which some lines are replaced below; then of nine runs, of repeats, of a blocked fraction.
+FOUR_TOTALS = ["levels,2", "factors,2", "total,mean,20", "total,A,-6", "total,B,-4", "total,AB,2", "error,AB"]
+THREE_TOTALS = ["levels,3", "factors,1", "total,mean,10", "total,A,-1", "total,A2,-5"]
+NINE_LABELS = "mean A A2 B AB A2B B2 AB2 A2B2".split()
+NINE_TOTALS = ["levels,3", "factors,2", "block,AB2"] + ["total,%s,%d" % pair for pair in zip(
+    NINE_LABELS, totals_rules.totals(3, 2, NINE))] + ["error,AB", "error,B"]
+TWICE_TOTALS = ["levels,2", "factors,2", "repeats,2"] + FOUR_TOTALS[2:]
+EIGHT_TOTALS = ["levels,2", "factors,3", "added,ABC,1", "block,AB"] + ["total,%s,%d" % pair for pair in zip(
+    "mean A B AB C AC BC ABC".split(), (36, -4, -8, 0, -16, 0, 0, 0))] + ["error,BC"]
+
+WORDS_OF_TWO = "different letters from A to P"
+NO_KIND = "'%s' is none of levels, factors, added, block, repeats, total, error"
+UNCLEAR_TOTALS = [(FOUR_TOTALS, *own) for own in (
+    (3, "run,0,0,3", "line 3: " + NO_KIND % "run"),
+    (3, "total,mean,20\nrun,0,0,3", "line 4: " + NO_KIND % "run"),
+    (3, "sum,0,0,3", "line 3: " + NO_KIND % "sum"),
+    (3, "Total,mean,20", "line 3: " + NO_KIND % "Total"),
+    (1, "", "there is no line that begins with levels"),
+    (2, "", "there is no line that begins with factors"),
+    (1, "levels,2\nlevels,2", "line 2: levels is already in line 1"),
+    (2, "factors,16", "line 2: no sheet holds the runs of 16 factors at 2 levels"),
+    (3, "", "there is no line for the total of mean"),
+    (6, "", "there is no line for the total of AB"),
+    (6, "# total,AB,2", "there is no line for the total of AB"),
+    (6, "total,AB,2\ntotal,BA,2", "line 7: the total is already in line 6"),
+    (6, "total,mean,2", "line 6: the total is already in line 3"),
+    (6, "total,AC,2", "line 6: 'AC' is no effect, for there are 2 factors"),
+    (6, "total,P,2", "line 6: 'P' is no effect, for there are 2 factors"),
+    (6, "total,AB2,2", "line 6: 'AB2' is not made of " + WORDS_OF_TWO),
+    (6, "total,ab,2", "line 6: 'ab' is not made of " + WORDS_OF_TWO),
+    (6, "total,AA,2", "line 6: 'AA' is not made of " + WORDS_OF_TWO),
+    (6, "total,3,2", "line 6: '3' is not made of " + WORDS_OF_TWO),
+    (6, "total,,2", "line 6: '' is not made of " + WORDS_OF_TWO),
+    (6, "total,Mean,2", "line 6: 'Mean' is not made of " + WORDS_OF_TWO),
+    (6, "total,AB", "line 6: 2 cells, wanted 3"),
+    (6, "total,AB,", "line 6: 2 cells, wanted 3"),
+    (6, "total,AB,2,3", "line 6: 4 cells, wanted 3"),
+    (6, "total,AB,2.0", "line 6: '2.0' is no whole number from -9223372036854775808 to 9223372036854775807"),
+    (6, "total,AB,9223372036854775808",
+     "line 6: '9223372036854775808' is no whole number from -9223372036854775808 to 9223372036854775807"),
+    (6, "total,AB,-9223372036854775809",
+     "line 6: '-9223372036854775809' is no whole number from -9223372036854775808 to 9223372036854775807"),
+    (6, "total,AB,18446744073709551618",
+     "line 6: '18446744073709551618' is no whole number from -9223372036854775808 to 9223372036854775807"),
+    (7, "error,AC", "line 7: 'AC' is no row, for there are 2 factors"),
+    (7, "error,AB\nerror,BA", "line 8: the row is already in a line above"),
+)] + [(THREE_TOTALS, *own) for own in (
+    (5, "", "there is no line for the total of A2"),
+    (5, "total,A,-5", "line 5: the total is already in line 4"),
+    (5, "total,B,-5", "line 5: 'B' is no effect, for there are 1 factors"),
+    (5, "total,A3,-5", "line 5: 'A3' is not made of " + WORDS_WANTED),
+    (5, "total,A22,-5", "line 5: 'A22' is not made of " + WORDS_WANTED),
+    (5, "total,AA2,-5", "line 5: 'AA2' is not made of " + WORDS_WANTED),
+    (5, "total,P2,-5", "line 5: 'P2' is no effect, for there are 1 factors"),
+)] + [
+    (NINE_TOTALS, 9, "", "there is no line for the total of A2B"),
+    (NINE_TOTALS, 12, "total,B2A,0", "line 12: the total is already in line 11"),
+]
+
+# Lines, and what comes back.
+FOUR_BACK = """# 4 runs, 4 rows
+levels,2
+factors,2
+# after run the levels of these, then the reading: A B
+run,0,0,3,# (1)
+run,1,0,5,# a
+run,0,1,4,# b
+run,1,1,8,# ab
+error,AB
+"""
+RUNS_BACK = [
+    (FOUR_TOTALS, FOUR_BACK),
+    (FOUR_TOTALS[::-1], FOUR_BACK),
+    (["# archived", *FOUR_TOTALS[:5], 'total, "BA" , +2 ,# of A and B', "error,BA", "repeats,1", ""], FOUR_BACK),
+    (FOUR_TOTALS[:6], FOUR_BACK.replace("error,AB\n", "")),
+    (THREE_TOTALS, """# 3 runs, 2 rows
+levels,3
+factors,1
+# after run the levels of these, then the reading: A
+run,0,2
+run,1,5
+run,2,3
+"""),
+    (NINE_TOTALS, """# 9 runs, 4 rows
+levels,3
+factors,2
+block,AB2
+# lost to blocks: 2 degrees of AB
+# after run the levels of these, then the reading: A B
+run,0,0,2,# block 0
+run,1,0,5,# block 1
+run,2,0,3,# block 2
+run,0,1,1,# block 2
+run,1,1,4,# block 0
+run,2,1,6,# block 1
+run,0,2,7,# block 1
+run,1,2,8,# block 2
+run,2,2,9,# block 0
+error,B
+error,AB
+"""),
+    (EIGHT_TOTALS, """# 8 runs, 8 rows
+levels,2
+factors,3
+added,ABC,1,# D is high when an even number of these are
+block,AB
+# lost to blocks: AB
+# after run the levels of these, then the reading: A B C
+run,0,0,0,1,# d in block 0
+run,1,0,0,2,# a in block 1
+run,0,1,0,3,# b in block 1
+run,1,1,0,4,# abd in block 0
+run,0,0,1,5,# c in block 0
+run,1,0,1,6,# acd in block 1
+run,0,1,1,7,# bcd in block 1
+run,1,1,1,8,# abc in block 0
+error,BC
+"""),
+    (TWICE_TOTALS, """# 4 runs, 4 rows
+levels,2
+factors,2
+repeats,2
+# after sum the levels of these, then the sum of 2 readings: A B
+sum,0,0,3,# (1)
+sum,1,0,5,# a
+sum,0,1,4,# b
+sum,1,1,8,# ab
+error,AB
+"""),
+    (["levels,2", "factors,1", "total,mean,0", "total,A,%d" % (-2 * MOST_READING[2])], """# 2 runs, 2 rows
+levels,2
+factors,1
+# after run the levels of these, then the reading: A
+run,0,-1000000,# (1)
+run,1,1000000,# a
+"""),
+]
+
+WORDS_OF_14 = "no readings within the limit have the totals"
+NOT_WHOLE = "%s comes out as %s, which is not whole"
+
+
+def one_factor(levels, totals, *others):
+    """Lines of totals of one factor."""
+    return ["levels,%d" % levels, "factors,1", *others] + ["total,%s,%d" % pair for pair in zip(NINE_LABELS, totals)]
+
+
+# Lines, and the message.
+REFUSED_TOTALS = [
+    (FOUR_TOTALS[:5] + ["total,AB,3"], "refused 14 (%s; %s)" % (WORDS_OF_14, "; ".join(
+        NOT_WHOLE % pair for pair in (("run 0,0", "13/4"), ("run 1,0", "19/4"), ("run 0,1", "15/4"), ("run 1,1", "33/4"))))),
+    (one_factor(3, (10, -1, -4)), "refused 14 (%s; %s)" % (WORDS_OF_14, "; ".join(
+        NOT_WHOLE % pair for pair in (("run 0", "13/6"), ("run 1", "14/3"), ("run 2", "19/6"))))),
+    (one_factor(3, (11, -1, -4)), "refused 14 (%s; %s)" % (WORDS_OF_14, "; ".join(
+        NOT_WHOLE % pair for pair in (("run 0", "5/2"), ("run 2", "7/2"))))),
+    (one_factor(2, (MOST_READING[2] + 1,) * 2),
+     "refused 14 (%s; run 0 comes out as 1000001, beyond 1,000,000 either way)" % WORDS_OF_14),
+    (one_factor(2, (0, 2 * MOST_READING[2] + 2)),
+     "refused 14 (%s; run 0 comes out as 1000001, beyond 1,000,000 either way; run 1 comes out as -1000001, beyond 1,000,000 "
+     "either way)" % WORDS_OF_14),
+    (one_factor(3, (MOST_READING[2], 0, -2 * MOST_READING[2])),
+     "refused 14 (%s; run 1 comes out as 1000000, beyond 100,000 either way)" % WORDS_OF_14),
+    (one_factor(2, (2 * MOST_READING[2] + 1,) * 2, "repeats,2"),
+     "refused 14 (%s; the sum of run 0 comes out as 2000001, beyond 2,000,000 either way)" % WORDS_OF_14),
+    (one_factor(2, (3, 0), "repeats,8"), "refused 14 (%s; %s)" % (WORDS_OF_14, "; ".join(
+        NOT_WHOLE % ("the sum of run %d" % run, "3/2") for run in range(2)))),
+    (one_factor(2, (-2 ** 63, 2 ** 63 - 2)), "refused 14 (%s; run 1 comes out as -9223372036854775807, beyond 1,000,000 "
+     "either way)" % WORDS_OF_14),
+    (EIGHT_TOTALS[:4] + ["total,mean,37"] + EIGHT_TOTALS[5:], "refused 14 (%s; %s)" % (WORDS_OF_14, "; ".join(
+        NOT_WHOLE % ("run %d,%d,%d" % (run % 2, run // 2 % 2, run // 4), "%d/8" % (8 * run + 9)) for run in range(8)))),
+    (["levels,2", "factors,4"] + ["total,%s,%d" % (row_label(row), row == 0) for row in range(16)],
+     "refused 14 (%s; %s; and others)" % (WORDS_OF_14, "; ".join(
+         NOT_WHOLE % ("run %d,%d,%d,0" % (run % 2, run // 2 % 2, run // 4), "1/16") for run in range(8)))),
+    (["levels,4", "factors,1", "total,mean,1"], "refused 2 (levels other than 2 or 3)"),
+    (["levels,2", "factors,0", "total,mean,1"],
+     "refused 3 (k out of range, which is 1 to 10 at two levels and 1 to 6 at three)"),
+    (["levels,3", "factors,7"], "refused 3 (k out of range, which is 1 to 10 at two levels and 1 to 6 at three)"),
+    (NINE_TOTALS + ["block,AB"], "refused 4 (at three levels an added factor, or a second block word)"),
+    (FOUR_TOTALS + ["block,AC"],
+     "refused 5 (a letter beyond k, an added word under two letters, a sign over 1, or an empty block word)"),
+    (FOUR_TOTALS + ["added,AB,0", "added,AB,1"], "refused 6 (two added factors with one word)"),
+    (FOUR_TOTALS + ["block,AB", "block,AB"], "refused 7 (some one or more block words combine to the empty word)"),
+    (FOUR_TOTALS + ["block,A"], "refused 8 (a confounded effect is one letter or an added factor's word)"),
+    (FOUR_TOTALS + ["repeats,3"], "refused 16 (%s; 4 runs, repeats 3)" % WORDS_OF_16),
+    (FOUR_TOTALS[:5] + ["total,AB,3", "block,A", "repeats,3"],
+     "refused 8 (a confounded effect is one letter or an added factor's word)"),
+    (FOUR_TOTALS[:5] + ["total,AC,3", "repeats,3"], "refused 16 (%s; 4 runs, repeats 3)" % WORDS_OF_16),
+]
+
+
 def lines_and_sheet(levels, reading):
     """The lines of the rules' example of so many levels with a reading of run 0, and the sheet that they must make."""
     if levels == 2:
@@ -324,12 +521,17 @@ def command_says(lines):
 
 def command_writes(way, content):
     """What the command writes of a file with some content, to standard output and to standard error."""
+    return command_ends(way, content)[:2]
+
+
+def command_ends(way, content):
+    """The same, where a message begins with the file without that, and the exit status."""
     with tempfile.TemporaryDirectory() as folder:
         path = Path(folder) / "content"
         path.write_bytes(content)
         found = subprocess.run([sys.executable, "-B", str(ROOT / "tools" / "csv_sheet.py"), way, str(path)],
                                stdout=subprocess.PIPE, stderr=subprocess.PIPE)
-    return found.stdout, found.stderr.decode()
+        return found.stdout, found.stderr.decode().replace("%s: " % path, ""), found.returncode
 
 
 def check_limits():
@@ -413,6 +615,70 @@ def check_screened():
     return complaints
 
 
+def recovered_or_message(text):
+    """The lines of runs that have the totals of lines, and else the message."""
+    try:
+        return recover(text)
+    except (NotUnderstood, Refused) as why:
+        return str(why)
+
+
+def sheet_back(text):
+    """The sheet of the runs that have the totals of lines, None where there is none."""
+    lines = recovered_or_message(text)
+    return None if message_of(lines) else make(lines)
+
+
+def total_lines(own):
+    """The lines of totals of a worked table whose runs are made once."""
+    plan = own.plan
+    return "\n".join(
+        ["levels,%d" % plan.levels, "factors,%d" % plan.k]
+        + ["added,%s,%d" % (row_label(word), sign) for word, sign in plan.added]
+        + ["block," + block_text(plan.levels, word) for word in plan.blocks]
+        + ["total,%s,%d" % (effect_label(plan, effect), total)
+           for effect, total in enumerate(totals_rules.totals(plan.levels, plan.k, own.readings))]
+        + ["error," + row_label(row) for row in own.marked])
+
+
+def check_recover():
+    """Complaints about lines of totals: messages, the lines of runs, and that those of a worked table make its sheet."""
+    complaints = []
+    for lines, number, text, message in UNCLEAR_TOTALS:
+        if recovered_or_message(replaced(number, text, lines)) != message:
+            complaints.append("%r: message %s" % (text, recovered_or_message(replaced(number, text, lines))))
+    for lines, meant in RUNS_BACK + REFUSED_TOTALS:
+        if recovered_or_message("\n".join(lines)) != meant:
+            complaints.append("%r: %s" % ("; ".join(lines), recovered_or_message("\n".join(lines))))
+    for name, own in EXAMPLES.items():
+        if own.plan.repeats == 1 and sheet_back(total_lines(own)) != text_cases.of_table(own).sheet:
+            complaints.append("%s: the runs that come back make another sheet" % name)
+    sums = "\n".join(TWICE_TOTALS)
+    if message_of(recovered_or_message(sums)) != (
+            "line 6: the readings of a run are wanted, and here is their sum, from which they cannot be told"):
+        complaints.append("a sheet of sums")
+    if message_of("\n".join(FOUR_TOTALS)) != "line 3: 'total' is none of levels, factors, added, block, repeats, run, error":
+        complaints.append("a sheet of totals")
+    return complaints
+
+
+def check_recover_command():
+    """Complaints about the command on lines of totals: what it writes, its message and its exit status."""
+    complaints = []
+    first, alone = UNCLEAR_TOTALS[0], FOUR_TOTALS[:5] + ["total,AB,3"]
+    tried = [("recover", lines, (back.encode(), "", 0)) for lines, back in (RUNS_BACK[0], RUNS_BACK[5], RUNS_BACK[7])]
+    tried += [("recover", lines, (b"", message + "\n", 1)) for lines, message in REFUSED_TOTALS[::3]]
+    tried += [("recover", replaced(*first[1:3], first[0]).split("\n"), (b"", first[3] + "\n", 1)),
+              ("make", FOUR_BACK.split("\n"), (text_cases.RULES_SHEET, "", 0)),
+              ("make", RUNS_BACK[7][1].split("\n"), (b"", message_of(RUNS_BACK[7][1]) + "\n", 1)),
+              ("make", alone, (b"", message_of("\n".join(alone)) + "\n", 1))]
+    for way, lines, meant in tried:
+        found = command_ends(way, "\n".join(lines).encode())
+        if found != meant:
+            complaints.append("%s of %r: %r" % (way, "; ".join(lines), found))
+    return complaints
+
+
 def check_listing(own):
     """Complaints about the lines of a sheet: they make it again, or give the number of its refusal and a cause."""
     refused = text_rules.answer(own.sheet)
@@ -443,9 +709,20 @@ def check_example(name, own):
     return ["examples/%s: %s" % (name, complaint) for complaint in complaints]
 
 
+def check_totals_example(name, other):
+    """Complaints about stored lines of totals: the runs that come back make the sheet of another example."""
+    lines, stored = FOLDER / (name + ".csv"), FOLDER / (other + ".sheet")
+    if not lines.exists() or sheet_back(text_of(lines)) != stored.read_bytes():
+        return ["examples/%s: absent, or its runs are not those of %s" % (name, other)]
+    return []
+
+
 def check():
     """List of all complaints about lines, the command, listings and stored examples."""
     complaints = check_make() + check_limits() + check_repeats() + check_three_words() + check_screened()
+    complaints += check_recover() + check_recover_command()
+    for name, other in TOTALS_EXAMPLES.items():
+        complaints += check_totals_example(name, other)
     for own in text_cases.SHEETS:
         complaints += check_listing(own) + check_screening(own)
     for name, own in EXAMPLES.items():

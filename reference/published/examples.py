@@ -43,6 +43,7 @@
 #   whole_readings         the readings of an example as whole numbers, in standard order of the runs
 #   sums_of                the sum of the readings of each run
 #   plan                   the plan of an example
+#   totals_shown           the totals that a source shows, mended, with the report's signs
 #   check                  list of complaints about figures and mends, empty if all is well
 #   limit_lines            what the program writes of columns about the limits
 #   repeats_line           what it writes of repeats that are allowed or not
@@ -660,6 +661,8 @@ def check_rules(example):
         complaints.append("sum of squares")
     if sum(found) != totals_rules.check_number(levels, k, sums):
         complaints.append("check sum")
+    if any(shown not in (None, total) for shown, total in zip(totals_shown(example), found)):
+        complaints.append("totals that are shown")
     return complaints
 
 
@@ -681,6 +684,17 @@ def check_printed(example, printed):
         if figure not in (LACKING, NOT_PRINTED) and (LACKING in figure or not agrees(printed, figure, number)):
             complaints.append("%s: %s is not %s" % (name, figure, number))
     return complaints
+
+
+def totals_shown(example):
+    """The totals that the source shows, each mended if it has a mend, as whole numbers with the report's signs; None where it
+    shows none."""
+    printed = next(printed for printed in example.printed if printed.kind == example.k)
+    own = mends_of(example, printed)
+    figures = [own[place].meant if place in own else figure for place, figure in enumerate(printed.text.split())]
+    return [None if figure in (LACKING, NOT_PRINTED)
+            else int(sign(example, example.k, place) * Fraction(figure) * 10 ** example.places)
+            for place, figure in enumerate(figures)]
 
 
 def whole_figures(example):
