@@ -1,6 +1,4 @@
-use mathlib.Core.Path.{_∙_, ap}
 use borrow.Author.Needs.{needs}
-use Rattle.yates.specs.Calls.{passRefused, passColumn}
 use Rattle.exported.proofs.Told.{told}
 use Rattle.exported.proofs.yates_pass.Statement.{statement}
 use Rattle.exported.proofs.yates_pass.Tie as tie
@@ -17,9 +15,9 @@ yates-pass-spec =
     (λ c.
     let whole-is = c .before .before .before .before .before .whole .ensures in
     let pass-is = c .before .before .before .pass .ensures in
-    (told (c .enum-told .given .1) (pass-is .0) ∙ ap (λ p. passRefused p _ _) whole-is, pass-is .1 ∙ ap (λ p. passColumn p _ _) whole-is))
+    rw (← whole-is) (told (c .enum-told .given .1) (pass-is .0), pass-is .1))
     (λ c. search needs)
     (λ c.
     let whole-is = c .before .before .before .before .before .before .whole .ensures in
     let pass-is = c .before .before .before .before .pass .ensures in
-    (told (c .before .n .given .1) (pass-is .0) ∙ ap (λ p. passRefused p _ _) whole-is, pass-is .1 ∙ ap (λ p. passColumn p _ _) whole-is)))
+    rw (← whole-is) (told (c .before .n .given .1) (pass-is .0), pass-is .1)))

@@ -15,11 +15,17 @@ yates-recover-spec =
     (λ c. search needs)
     (λ c. search needs)
     (λ c.
+    let args = c .before .before .before .before .before .before .args in
     let whole-is = c .before .before .before .before .before .whole .ensures in
-    let recover-is = c .before .before .before .recover .ensures in
-    (told (c .enum-told .given .1) (recover-is .0) ∙ ap (λ p. recoverRefused p _ _) whole-is, recover-is .1 ∙ ap (λ p. recoverColumn p _ _) whole-is))
+    let recover-is = c .before .before .before .recover .ensures in (
+      told (c .enum-told .given .1) (recover-is .0) ∙ ap (λ p. recoverRefused p (args .totals .now) (args .readings .now)) whole-is,
+      recover-is .1 ∙ ap (λ p. recoverColumn p (args .totals .now) (args .readings .now)) whole-is,
+    ))
     (λ c. search needs)
     (λ c.
+    let args = c .before .before .before .before .before .before .before .args in
     let whole-is = c .before .before .before .before .before .before .whole .ensures in
-    let recover-is = c .before .before .before .before .recover .ensures in
-    (told (c .before .n .given .1) (recover-is .0) ∙ ap (λ p. recoverRefused p _ _) whole-is, recover-is .1 ∙ ap (λ p. recoverColumn p _ _) whole-is)))
+    let recover-is = c .before .before .before .before .recover .ensures in (
+      told (c .before .n .given .1) (recover-is .0) ∙ ap (λ p. recoverRefused p (args .totals .now) (args .readings .now)) whole-is,
+      recover-is .1 ∙ ap (λ p. recoverColumn p (args .totals .now) (args .readings .now)) whole-is,
+    )))

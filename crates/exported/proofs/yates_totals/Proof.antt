@@ -1,6 +1,4 @@
-use mathlib.Core.Path.{_∙_, ap}
 use borrow.Author.Needs.{needs}
-use Rattle.yates.specs.Calls.{totalsRefused, totalsColumn}
 use Rattle.exported.proofs.Told.{told}
 use Rattle.exported.proofs.yates_totals.Statement.{statement}
 use Rattle.exported.proofs.yates_totals.Tie as tie
@@ -17,9 +15,9 @@ yates-totals-spec =
     (λ c.
     let whole-is = c .before .before .before .before .before .whole .ensures in
     let totals-is = c .before .before .before .totals .ensures in
-    (told (c .enum-told .given .1) (totals-is .0) ∙ ap (λ p. totalsRefused p _ _) whole-is, totals-is .1 ∙ ap (λ p. totalsColumn p _ _) whole-is))
+    rw (← whole-is) (told (c .enum-told .given .1) (totals-is .0), totals-is .1))
     (λ c. search needs)
     (λ c.
     let whole-is = c .before .before .before .before .before .before .whole .ensures in
     let totals-is = c .before .before .before .before .totals .ensures in
-    (told (c .before .n .given .1) (totals-is .0) ∙ ap (λ p. totalsRefused p _ _) whole-is, totals-is .1 ∙ ap (λ p. totalsColumn p _ _) whole-is)))
+    rw (← whole-is) (told (c .before .n .given .1) (totals-is .0), totals-is .1)))
