@@ -1,6 +1,8 @@
 -- Worked examples of the claims, computed over the definitions.
 --
 --   calls-of-four    a list of calls of which two name no factor: answers, and the column after each
+--   four-back        the readings 3, 5, 4, 8 have the totals 20, -6, -4, 2, and these give them back; with 3 for 2 no readings have them
+--   twice-back       of one factor, each run made twice: those readings have the totals 20, -4, and these give back the run sums 8, 12
 --   half s           the plan of X5, with either sign
 --   half-fits        it is one of the plans that the claims speak of
 --   D-as-ABC         in its eight runs D has the signs of ABC, and with sign 1 the opposite ones
@@ -18,23 +20,28 @@ use Rattle.algebra.specs.Naturals.{Σℕ}
 use Rattle.algebra.specs.Search.{some}
 use Rattle.algebra.specs.Sum.{Σ}
 use Rattle.algebra.specs.Tab.{tab, tabFrom}
-use Rattle.contrasts.specs.Columns.{read, passOf}
+use Rattle.contrasts.specs.Columns.{read, totalsOf, runSumsIn, passOf}
 use Rattle.contrasts.specs.Contrast.{sumWhere, countWhere}
-use Rattle.contrasts.specs.Limits.{valueLimit, mostTwo, mostThree, isRepeats, mostReadings}
+use Rattle.contrasts.specs.Limits.{valueLimit, twoReadingLimit, threeReadingLimit, mostTwo, mostThree, isRepeats, mostReadings}
 use Rattle.contrasts.specs.Factors.{two, three}
 use Rattle.contrasts.specs.Codings.{neg}
-use Rattle.contrasts.specs.Totals.{size, coef*}
+use Rattle.contrasts.specs.Recovery.{backSum, readingsBack, noReadings}
+use Rattle.contrasts.specs.Repeats.{runSums}
+use Rattle.contrasts.specs.Totals.{size, coef*, total, divisor*, denominator, weight*}
 use Rattle.contrasts.specs.Passes.{passAt, passFrom}
 use Rattle.plan.specs.declared.types.Plan.{Plan}
 use Rattle.words.specs.Words.{letters, beyond, times, combined, any, among, repeated, shared, oddIn, lows, plusIn}
 use Rattle.plan.specs.Check.{badLevels, badFactors, badCounts, badWord, badSign, badWords, dependent, factorWord, losesFactor, planRefused, withPlan, badRepeats}
-use Rattle.plan.specs.Examples.{plan, A, C, AB, ABC, AD, BC}
+use Rattle.plan.specs.Examples.{plan, made, A, C, AB, ABC, AD, BC}
 use Rattle.plan.specs.Outcome.{given, refused}
 use Rattle.plan.specs.Plan.{factorsOf, someCombination, combinesTo}
-use Rattle.plan.specs.Limits.{isBeyond}
-use Rattle.columns.specs.Refusals.{wrongLength, anyBeyond}
-use Rattle.yates.specs.Calls.{passRefused, passColumn}
+use Rattle.plan.specs.Limits.{readingLimit, isBeyond}
+use Rattle.columns.specs.Refusals.{wrongLength, wrongReadings, anyBeyond, readingsRefused}
+use Rattle.yates.specs.Calls.{passRefused, passColumn, totalsColumn}
+use Rattle.recovery.specs.Calls.{recoverRefused, recoverColumn}
+use Rattle.promises.specs.Promised.{promisedRecover}
 use Rattle.claims.specs.AnyOrder.{afterCalls, found, answer}
+use Rattle.claims.specs.ReturnTrip.{Have}
 use Rattle.runs.specs.Run.{highBy, highIn, highLetters}
 use Rattle.claims.specs.Letters.{TwoLevels, factorSign, sign}
 use Rattle.claims.specs.HighMinusLow.{plus}
@@ -62,6 +69,27 @@ calls-of-four : (tab 4 (answer four fourCalls fourReadings) ≡ refused 10 ∷ g
     ∷ [])
 unfolding afterCalls passRefused passColumn passOf passFrom passAt withPlan planRefused badLevels badFactors mostTwo mostThree badCounts badWords badWord badSign repeated dependent losesFactor factorWord any among beyond letters combined times someCombination combinesTo some bits Σℕ Σ wrongLength anyBeyond isBeyond valueLimit factorsOf size two tabFrom badRepeats isRepeats mostReadings three
 calls-of-four = (refl, refl)
+
+-- ---- readings back from totals
+
+abbrev fourZeros : List ℤ
+fourZeros = pos 0 ∷ pos 0 ∷ pos 0 ∷ pos 0 ∷ []
+
+-- T32, N14
+four-back : Have four fourReadings (pos 20 ∷ neg 6 ∷ neg 4 ∷ pos 2 ∷ [])
+    × (promisedRecover four (pos 20 ∷ neg 6 ∷ neg 4 ∷ pos 2 ∷ []) fourZeros ≡ record { answer = given tt; column = fourReadings })
+    × (promisedRecover four (pos 20 ∷ neg 6 ∷ neg 4 ∷ pos 3 ∷ []) fourZeros ≡ record { answer = refused 14; column = fourZeros })
+unfolding totalsColumn totalsOf readingsRefused wrongReadings runSumsIn runSums recoverColumn recoverRefused noReadings readingsBack backSum weight* divisor* denominator total coef* withPlan planRefused badLevels badFactors mostTwo mostThree badCounts badWords badWord badSign repeated dependent losesFactor factorWord any among beyond letters combined times someCombination combinesTo some bits Σℕ Σ wrongLength anyBeyond isBeyond readingLimit twoReadingLimit threeReadingLimit factorsOf size two tabFrom badRepeats isRepeats mostReadings three
+four-back = ((fourZeros, refl), refl, refl)
+
+abbrev twoRuns : Plan
+twoRuns = made 2 (plan 2 1 [] [] [])
+
+-- T34
+twice-back : Have twoRuns fourReadings (pos 20 ∷ neg 4 ∷ [])
+    × (promisedRecover twoRuns (pos 20 ∷ neg 4 ∷ []) (pos 0 ∷ pos 0 ∷ []) ≡ record { answer = given tt; column = pos 8 ∷ pos 12 ∷ [] })
+unfolding totalsColumn totalsOf readingsRefused wrongReadings runSumsIn runSums recoverColumn recoverRefused noReadings readingsBack backSum weight* divisor* denominator total coef* withPlan planRefused badLevels badFactors mostTwo mostThree badCounts badWords badWord badSign repeated dependent losesFactor factorWord any among beyond letters combined times someCombination combinesTo some bits Σℕ Σ wrongLength anyBeyond isBeyond readingLimit twoReadingLimit threeReadingLimit factorsOf size two tabFrom badRepeats isRepeats mostReadings three
+twice-back = ((pos 0 ∷ pos 0 ∷ [], refl), refl)
 
 -- ---- letters
 

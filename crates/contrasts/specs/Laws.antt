@@ -7,6 +7,7 @@
 --   Orthogonal     the coefficients are orthogonal
 --   Squares        the sum of squares, the bound on numerators
 --   Repeats        runs that are made more than once
+--   Shares         any sums within r times a limit are those of r readings within it
 --   Recovery       readings back from totals
 --   CheckSum       the sum of all totals
 --   Bounds         how large values grow
@@ -34,6 +35,7 @@ pub mod Divisors
 pub mod Orthogonal
 pub mod Squares
 pub mod Repeats
+pub mod Shares
 pub mod Recovery
 pub mod CheckSum
 pub mod Bounds

@@ -5,7 +5,7 @@
 --   all-readings, not-wrong-readings          and the number of readings
 --   Columns, admitted, admits                 a column of N within a limit, and one of N to be written: from the number, and back
 --   Readings                                  readings of all runs within the limit, and a column of N to be written
---   readings-admitted                         from the number
+--   readings-admitted, readings-admits        from the number, and back
 use mathlib.Core.Path.{_≡_, refl, _∙_}
 use mathlib.Core.Bool.{false, _||_}
 use mathlib.Core.List.{List}
@@ -84,3 +84,9 @@ readings-admitted p xs ys e =
     let l12 = passed (anyBeyond (readingLimit p) xs) 12 _ (omega arith) (l11 .1) in
     let n = neither (wrongReadings p (length xs)) (wrongLength p (length ys)) (l11 .0) in
     record { plan = q .0; whole = all-readings p (length xs) (n .0); same = as-long p (length ys) (n .1); within = all-within (readingLimit p) xs (l12 .0) }
+
+pub readings-admits : {p : Plan} {xs ys : List ℤ} → Readings p xs ys → readingsRefused p xs ys ≡ 0
+unfolding readingsRefused
+readings-admits {p} {xs} {ys} a =
+    after-plan p _ (a .plan)
+    ∙ rw (not-wrong-readings p (length xs) (a .whole), not-wrong p (length ys) (a .same), none-beyond (readingLimit p) xs (a .within)) refl
