@@ -2,6 +2,8 @@
 
    Passes: a column is set from the readings, and the pass of each factor is called on it; the setting is counted, on every side alike.
    Totals: one call, from the readings to the totals of all effects.
+   Recovery: one call, from totals back to the readings, or to the sums of runs that are made eight times. The readings are taken in many
+   orders, and the totals of each in turn, so that no side can learn the signs of one column.
    Tables: one call, from the readings and marks to totals, rows, figures and checks; every third row but the mean is marked. One row has
    runs that are made eight times.
    First every side must give the same answers and columns, also where it refuses. Then the sides take turns in short batches, so that other
@@ -18,17 +20,21 @@
 typedef uint8_t pass_call(uint8_t levels, uint8_t k, size_t factor, int64_t *column, size_t length);
 typedef uint8_t totals_call(uint8_t levels, uint8_t k, uint8_t repeats, const int32_t *readings, size_t readings_length, int64_t *totals,
                             size_t totals_length);
+typedef uint8_t recover_call(uint8_t levels, uint8_t k, uint8_t repeats, const int64_t *totals, size_t totals_length, int32_t *readings,
+                             size_t readings_length);
 typedef uint8_t table_call(uint8_t levels, uint8_t k, uint8_t repeats, const int32_t *readings, size_t readings_length, const uint8_t *marks,
                            size_t marks_length, int64_t *totals, size_t totals_length, uint64_t *rows, size_t rows_length,
                            uint64_t *figures, size_t figures_length, int64_t *checks, size_t checks_length);
 
 pass_call yates_pass, plain_yates_pass, native_yates_pass;
 totals_call yates_totals, plain_yates_totals, native_yates_totals;
+recover_call yates_recover, plain_yates_recover, native_yates_recover;
 table_call anova_table, plain_anova_table, native_anova_table;
 
 enum { RATTLE, PLAIN, NATIVE, SIDES };
 static pass_call *const passes[SIDES] = {yates_pass, plain_yates_pass, native_yates_pass};
 static totals_call *const totals[SIDES] = {yates_totals, plain_yates_totals, native_yates_totals};
+static recover_call *const recovers[SIDES] = {yates_recover, plain_yates_recover, native_yates_recover};
 static table_call *const tables[SIDES] = {anova_table, plain_anova_table, native_anova_table};
 
 enum { MOST = 1024, ROOM = MOST + 1, FIGURES = 11, CHECKS = 2, BATCHES = 30, BATCH_NS = 500000 };
@@ -42,6 +48,10 @@ enum { ALLOWED = 4, ALL_REPEATS = sizeof REPEATS / sizeof *REPEATS };
 static _Alignas(64) int32_t readings[ROOM];
 static _Alignas(64) int64_t values[ROOM], column[ROOM];
 static _Alignas(64) uint8_t marks[ROOM];
+
+/* What the recovery call is given, and what it writes. */
+static _Alignas(64) int64_t given[ROOM];
+static _Alignas(64) int32_t back[ROOM];
 
 /* What the table call writes, with a place more than it is given. */
 static _Alignas(64) struct made {
@@ -122,6 +132,21 @@ static void compare_totals(unsigned levels, unsigned k, unsigned repeats, size_t
     compared++;
 }
 
+static void compare_recover(unsigned levels, unsigned k, unsigned repeats, size_t totals_length, size_t readings_length)
+{
+    static int32_t wanted[ROOM];
+    memset(back, 0x55, sizeof back);
+    uint8_t number = recovers[RATTLE](levels, k, repeats, given, totals_length, back, readings_length);
+    memcpy(wanted, back, sizeof back);
+    for (int side = PLAIN; side < SIDES; side++) {
+        memset(back, 0x55, sizeof back);
+        if (recovers[side](levels, k, repeats, given, totals_length, back, readings_length) != number ||
+            memcmp(back, wanted, sizeof back) != 0)
+            differ("recover", levels, k);
+    }
+    compared++;
+}
+
 static uint8_t call_table(int side, unsigned levels, unsigned k, unsigned repeats, const size_t lengths[6])
 {
     return tables[side](levels, k, repeats, readings, lengths[0], marks, lengths[1], made.totals, lengths[2], made.rows, lengths[3],
@@ -149,7 +174,51 @@ static size_t fitting(size_t count)
     return count < MOST ? count : MOST;
 }
 
-/* Values and readings at a limit and beside it, of either level count, in a plan of k factors. */
+/* The recovery call is given the totals of the values, by the passes of a plan; where these are refused, the values. */
+static void give_totals(unsigned levels, unsigned k)
+{
+    memcpy(given, values, sizeof given);
+    for (size_t factor = 0; factor < k; factor++)
+        passes[PLAIN](levels, k, factor, given, fitting(runs_of(levels, k)));
+}
+
+/* Recovery from the totals of the values, with each length one too small and one too great; and from others: one total changed, which by 1
+   leaves no readings, and by N, if it is the mean's, changes every run by 1; all totals changed, which changes the first run alone; and two
+   changed by 1, which can leave the first or the last run as it is, but leaves no readings. */
+static void compare_recoveries(unsigned levels, unsigned k, unsigned repeats)
+{
+    size_t n = fitting(runs_of(levels, k)), last = n == 0 ? 0 : n - 1;
+    give_totals(levels, k);
+    for (size_t length = last; length <= n + 1; length++) {
+        compare_recover(levels, k, repeats, length, n);
+        compare_recover(levels, k, repeats, n, length);
+    }
+    const size_t places[] = {0, 1, n / 2, last};
+    const int64_t changes[] = {1, (int64_t)n, (int64_t)runs_of(levels == 2 ? 2 : 6, k)};
+    for (size_t c = 0; c < sizeof changes / sizeof *changes; c++)
+        for (int sign = -1; sign <= 1; sign += 2) {
+            int64_t change = sign * changes[c];
+            for (size_t p = 0; p < sizeof places / sizeof *places; p++) {
+                given[places[p]] += change;
+                compare_recover(levels, k, repeats, n, n);
+                given[places[p]] -= change;
+            }
+            for (size_t i = 0; i < n; i++)
+                given[i] += change;
+            compare_recover(levels, k, repeats, n, n);
+            for (size_t i = 0; i < n; i++)
+                given[i] -= change;
+        }
+    for (int sign = -1; n > 3 && sign <= 1; sign += 2) {
+        given[1] += 1;
+        given[3] += sign;
+        compare_recover(levels, k, repeats, n, n);
+        given[1] -= 1;
+        given[3] -= sign;
+    }
+}
+
+/* Values, totals, run sums and readings at a limit and beside it, of either level count, in a plan of k factors. */
 static void compare_about_limits(unsigned levels, unsigned k, unsigned repeats)
 {
     size_t n = runs_of(levels, k), count = n * repeats, rows = runs_of(2, k);
@@ -159,9 +228,21 @@ static void compare_about_limits(unsigned levels, unsigned k, unsigned repeats)
         for (int64_t over = -1; over <= 1; over++)
             for (int sign = -1; sign <= 1; sign += 2) {
                 size_t at = places[p];
-                values[at] = sign * (VALUE_LIMIT + over);
+                int64_t about = sign * (VALUE_LIMIT + over);
+                int64_t extreme = sign < 0 ? INT64_MIN - (over < 0 ? over : 0) : INT64_MAX - (over > 0 ? over : 0);
+                give_totals(levels, k);
+                given[at] = about;
+                compare_recover(levels, k, repeats, n, n);
+                given[at] = extreme;
+                compare_recover(levels, k, repeats, n, n);
+                for (unsigned of = 2; of <= 3; of++) {
+                    values[at] = sign * (repeats * reading_limit(of) + over);
+                    give_totals(levels, k);
+                    compare_recover(levels, k, repeats, n, n);
+                }
+                values[at] = about;
                 compare_pass(levels, k, 1, n);
-                values[at] = sign < 0 ? INT64_MIN - (over < 0 ? over : 0) : INT64_MAX - (over > 0 ? over : 0);
+                values[at] = extreme;
                 compare_pass(levels, k, 1, n);
                 values[at] = readings[at];
                 int32_t reading = readings[at];
@@ -203,7 +284,7 @@ static void compare_tables(unsigned levels, unsigned k, unsigned repeats)
         }
 }
 
-/* Passes, totals and tables of a plan, with lengths one too small and one too great; and as many readings as runs. */
+/* Passes, totals, recovery and tables of a plan, with lengths one too small and one too great; and as many readings as runs. */
 static void compare_plan(unsigned levels, unsigned k, unsigned repeats)
 {
     size_t n = fitting(runs_of(levels, k)), count = fitting(runs_of(levels, k) * repeats);
@@ -216,6 +297,7 @@ static void compare_plan(unsigned levels, unsigned k, unsigned repeats)
     for (size_t length = count == 0 ? 0 : count - 1; length <= count + 1; length++)
         compare_totals(levels, k, repeats, length, n);
     compare_totals(levels, k, repeats, n, n);
+    compare_recoveries(levels, k, repeats);
     compare_tables(levels, k, repeats);
 }
 
@@ -225,8 +307,12 @@ static void compare_at_limits(unsigned levels, int first, int second)
     for (size_t i = 0; i < ROOM; i++)
         readings[i] = (int32_t)((i % 2 == 0 ? first : second) * reading_limit(levels));
     for (unsigned k = 1; k <= (levels == 2 ? 10 : 6); k++)
-        for (int i = 0; i < ALLOWED; i++)
+        for (int i = 0; i < ALLOWED; i++) {
+            for (size_t at = 0; at < ROOM; at++)
+                values[at] = (int64_t)REPEATS[i] * readings[at];
+            compare_recoveries(levels, k, REPEATS[i]);
             compare_tables(levels, k, REPEATS[i]);
+        }
 }
 
 static void compare_sides(void)
@@ -259,8 +345,13 @@ static int64_t now(void)
 
 static uint8_t answers;
 
-/* What is timed: the passes of all factors, the totals or the table of a plan. */
-enum kind { PASSES, TOTALS, TABLE };
+/* The columns of totals that the timed recovery calls are given in turn. */
+enum { COLUMNS = 128 };
+static _Alignas(64) int64_t given_in_turn[COLUMNS][MOST];
+static size_t turn_of_given;
+
+/* What is timed: the passes of all factors, the totals, the recovery or the table of a plan. */
+enum kind { PASSES, TOTALS, RECOVER, TABLE };
 struct timed {
     enum kind kind;
     unsigned levels, k, repeats;
@@ -274,9 +365,22 @@ static void work(const struct timed *of, int side, size_t n)
             answers |= passes[side](of->levels, of->k, factor, column, n);
     } else if (of->kind == TOTALS) {
         answers |= totals[side](of->levels, of->k, of->repeats, readings, n * of->repeats, column, n);
+    } else if (of->kind == RECOVER) {
+        answers |= recovers[side](of->levels, of->k, of->repeats, given_in_turn[turn_of_given++ % COLUMNS], n, back, n);
     } else {
         const size_t rows = (size_t)1 << of->k, lengths[6] = {n * of->repeats, rows, n, rows, FIGURES, CHECKS};
         answers |= call_table(side, of->levels, of->k, of->repeats, lengths);
+    }
+}
+
+/* Their totals, from the readings in one order each. */
+static void take_given(const struct timed *of, size_t n)
+{
+    static int32_t ordered[MOST];
+    for (size_t c = 0; c < COLUMNS; c++) {
+        for (size_t i = 0; i < MOST; i++)
+            ordered[i] = readings[i * (2 * c + 1) % MOST];
+        answers |= totals[RATTLE](of->levels, of->k, of->repeats, ordered, n * of->repeats, given_in_turn[c], n);
     }
 }
 
@@ -292,6 +396,8 @@ static int64_t batch(const struct timed *of, int side, size_t n, long turns)
 static void measure(const struct timed *of, double ns[SIDES])
 {
     size_t n = runs_of(of->levels, of->k);
+    if (of->kind == RECOVER)
+        take_given(of, n);
     long turns[SIDES];
     int64_t least[SIDES];
     for (int side = 0; side < SIDES; side++) {
@@ -313,9 +419,9 @@ static void measure(const struct timed *of, double ns[SIDES])
 
 int main(void)
 {
-    static const char *const names[] = {"passes", "totals", "table"};
-    static const struct timed all[] = {{PASSES, 2, 10, 1}, {PASSES, 3, 6, 1}, {TOTALS, 2, 10, 1}, {TOTALS, 3, 6, 1},
-                                       {TABLE, 2, 10, 1},  {TABLE, 3, 6, 1},  {TABLE, 2, 7, 8}};
+    static const char *const names[] = {"passes", "totals", "recover", "table"};
+    static const struct timed all[] = {{PASSES, 2, 10, 1}, {PASSES, 3, 6, 1},  {TOTALS, 2, 10, 1}, {TOTALS, 3, 6, 1}, {RECOVER, 2, 10, 1},
+                                       {RECOVER, 3, 6, 1}, {RECOVER, 2, 7, 8}, {TABLE, 2, 10, 1},  {TABLE, 3, 6, 1},  {TABLE, 2, 7, 8}};
 
     take_readings();
     compare_sides();

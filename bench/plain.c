@@ -1,5 +1,5 @@
-/* The pass, the totals call and the table call in plain C: the same signatures, refusals in the same order, and numbers as those of
-   crates/exported.
+/* The pass, the totals call, the recovery call and the table call in plain C: the same signatures, refusals in the same order, and numbers as
+   those of crates/exported.
    SIDE is put before the names, so that one program can hold several compilations of this file. */
 #include <stddef.h>
 #include <stdint.h>
@@ -90,11 +90,24 @@ static void form_totals(uint8_t levels, uint8_t k, int64_t *totals, size_t runs)
     }
 }
 
+static int32_t reading_limit(uint8_t levels)
+{
+    return levels == 2 ? TWO_READING_LIMIT : THREE_READING_LIMIT;
+}
+
 static int any_reading_beyond(uint8_t levels, const int32_t *readings, size_t count)
 {
-    int32_t limit = levels == 2 ? TWO_READING_LIMIT : THREE_READING_LIMIT;
+    int32_t limit = reading_limit(levels);
     for (size_t i = 0; i < count; i++)
         if (readings[i] > limit || readings[i] < -limit)
+            return 1;
+    return 0;
+}
+
+static int any_value_beyond(const int64_t *column, size_t length)
+{
+    for (size_t i = 0; i < length; i++)
+        if (column[i] > VALUE_LIMIT || column[i] < -VALUE_LIMIT)
             return 1;
     return 0;
 }
@@ -108,9 +121,8 @@ uint8_t NAME(yates_pass)(uint8_t levels, uint8_t k, size_t factor, int64_t *colu
         return 10;
     if (length != power(levels, k))
         return 11;
-    for (size_t i = 0; i < length; i++)
-        if (column[i] > VALUE_LIMIT || column[i] < -VALUE_LIMIT)
-            return 12;
+    if (any_value_beyond(column, length))
+        return 12;
     pass_over(levels, power(levels, factor), column, length);
     return 0;
 }
@@ -128,6 +140,64 @@ uint8_t NAME(yates_totals)(uint8_t levels, uint8_t k, uint8_t repeats, const int
         return 12;
     take_runs(repeats, readings, totals, runs);
     form_totals(levels, k, totals, runs);
+    return 0;
+}
+
+/* ---- readings back from totals */
+
+/* First, middle and third become the sums of the rows (2, 3, 1), (2, 0, -2) and (2, -3, 1). */
+static void sums_three(int64_t *restrict first, int64_t *restrict middle, int64_t *restrict third, size_t spacing)
+{
+    for (size_t i = 0; i < spacing; i++) {
+        int64_t a = 2 * first[i], b = 3 * middle[i], c = third[i];
+        first[i] = a + b + c;
+        middle[i] = a - 2 * c;
+        third[i] = a - b + c;
+    }
+}
+
+/* At two levels the sums of a factor are its pass. */
+static void sums_over(uint8_t levels, size_t spacing, int64_t *column, size_t length)
+{
+    if (levels == 2)
+        pass_over(levels, spacing, column, length);
+    else
+        for (int64_t *part = column; part < column + length; part += 3 * spacing)
+            sums_three(part, part + spacing, part + 2 * spacing, spacing);
+}
+
+/* The totals become the run sums times the denominator, the last factor first. */
+static void sum_back(uint8_t levels, int64_t *column, size_t runs)
+{
+    for (size_t spacing = runs / levels; spacing > 0; spacing /= levels)
+        sums_over(levels, spacing, column, runs);
+}
+
+uint8_t NAME(yates_recover)(uint8_t levels, uint8_t k, uint8_t repeats, const int64_t *totals, size_t totals_length, int32_t *readings,
+                            size_t readings_length)
+{
+    uint8_t number = plan_number(levels, k, repeats);
+    if (number != 0)
+        return number;
+    size_t runs = power(levels, k);
+    if (totals_length != runs || readings_length != runs)
+        return 11;
+    if (any_value_beyond(totals, runs))
+        return 14;
+
+    int64_t column[MOST_READINGS];
+    for (size_t i = 0; i < runs; i++)
+        column[i] = totals[i];
+    sum_back(levels, column, runs);
+    int64_t denominator = (int64_t)power(levels == 2 ? 2 : 6, k), limit = (int64_t)repeats * reading_limit(levels);
+    for (size_t i = 0; i < runs; i++) {
+        int64_t sum = column[i], reading = sum / denominator;
+        if (sum % denominator != 0 || reading > limit || reading < -limit)
+            return 14;
+        column[i] = reading;
+    }
+    for (size_t i = 0; i < runs; i++)
+        readings[i] = (int32_t)column[i];
     return 0;
 }
 
