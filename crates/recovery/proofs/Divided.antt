@@ -27,7 +27,7 @@ use Rattle.algebra.specs.Laws.Tests.{eq-eqZ, ne-eqZ}
 use Rattle.contrasts.specs.Columns.{read}
 use Rattle.contrasts.specs.Limits.{valueLimit}
 use Rattle.contrasts.specs.Laws.Recovery.{missed, anyMissed, quotients}
-use Rattle.contrasts.specs.Laws.Small.{mildLimit, room}
+use Rattle.contrasts.specs.Laws.Small.{room}
 use Rattle.plan.specs.Limits.{isBeyond}
 use Rattle.recovery.specs.Inner.Lent.{Sums}
 

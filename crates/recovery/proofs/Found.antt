@@ -7,7 +7,7 @@
 --   judgeable                the column that is lent besides
 --   narrow                   where there are readings they fit the column for them
 --   refused-14, done         the answer of the call in both cases
-use mathlib.Core.Path.{_≡_, refl, sym, _∙_, ap}
+use mathlib.Core.Path.{_≡_, refl, sym, _∙_}
 use mathlib.Core.Logic.{_⊎_, inl, inr}
 use mathlib.Core.Bool.{Bool, true, false}
 use mathlib.Core.List.{List}
@@ -16,13 +16,13 @@ use native.Mathlib.Nat.{mul-le-mul-right, pow-le-pow-right, le-trans}
 use native.Mathlib.Omega.{arith}
 use lib.Dec.{lit<, lit≤}
 use lib.IntN.{ℤ}
-use lib.ListN.{length, replicate}
+use lib.ListN.{length}
 use Rattle.algebra.specs.Tab.{tab}
 use Rattle.contrasts.specs.Columns.{read}
 use Rattle.contrasts.specs.Factors.{two, three, ofLevels}
 use Rattle.contrasts.specs.Limits.{valueLimit, mostTwo, mostThree}
 use Rattle.contrasts.specs.Recovery.{backSum, readingsBack, noReadings}
-use Rattle.contrasts.specs.Totals.{size, denominator}
+use Rattle.contrasts.specs.Totals.{denominator}
 use Rattle.contrasts.specs.Laws.Divisors.{denominator-pos}
 use Rattle.contrasts.specs.Laws.Recovery.{anyMissed, quotients, quotients-back, judged, back-found}
 use Rattle.contrasts.specs.Laws.Replicated.{denominator-alike}
@@ -31,7 +31,7 @@ use Rattle.contrasts.specs.Laws.Undo.{sumsFrom, sums-back, all-within, gentle-a
 use Rattle.plan.specs.declared.types.Plan.{Plan}
 use Rattle.plan.specs.Check.{planRefused}
 use Rattle.plan.specs.Limits.{runLimit}
-use Rattle.plan.specs.Outcome.{Outcome, given, refused}
+use Rattle.plan.specs.Outcome.{given, refused}
 use Rattle.plan.specs.Plan.{factorsOf, runsOf}
 use Rattle.plan.specs.Laws.Accepted.{accepted}
 use Rattle.plan.specs.Laws.Answers.{stopped, completed}

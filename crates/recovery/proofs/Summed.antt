@@ -11,7 +11,7 @@ use mathlib.Core.Path.{_≡_, refl, sym, _∙_, ap}
 use mathlib.Core.Bool.{Bool, true, false, cond}
 use mathlib.Core.List.{List, _++_}
 use Prim.Native.Nat.{ℕ, suc, _+_, _-_, _*_, _/_, _^_, _<_, _≤_}
-use native.Mathlib.Nat.{mul-le-mul-right, mul-pos, mul-assoc, mul-comm, pow-suc, pow-succ', pow-zero, pow-le-pow-right, one-le-pow, one-mul, mul-div-left, le-trans}
+use native.Mathlib.Nat.{mul-le-mul-right, pow-suc, pow-zero, pow-le-pow-right, mul-div-left, le-trans}
 use native.Mathlib.Omega.{arith}
 use lib.Dec.{T, eqb}
 use lib.IntN.{ℤ}

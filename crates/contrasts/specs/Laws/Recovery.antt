@@ -16,9 +16,9 @@
 --   quotients-back    those of the sums back are the readings back
 --   judged            one of them is missed exactly where there are no readings
 use mathlib.Core.Path.{_≡_, refl, sym, _∙_, ap}
-use mathlib.Core.Bool.{Bool, true, false, not, _||_}
+use mathlib.Core.Bool.{Bool, false, not, _||_}
 use mathlib.Core.List.{List}
-use Prim.Native.Nat.{ℕ, _<_, _≤_}
+use Prim.Native.Nat.{ℕ, _<_}
 use borrow.Author.Tests.{le-ltb, ltb-false, not-false}
 use lib.Dec.{eqb, ltb}
 use lib.IntN.{ℤ, pos, natAbs, _*ℤ_, *ℤ-comm}
@@ -28,7 +28,7 @@ use Rattle.algebra.specs.Search.{some}
 use Rattle.algebra.specs.Laws.Quotients.{quot-times, cancel}
 use Rattle.algebra.specs.Laws.Ring.{ac*, *ℤ-assoc}
 use Rattle.algebra.specs.Laws.Search.{some-false, none-at}
-use Rattle.algebra.specs.Sum.{Σ, δ}
+use Rattle.algebra.specs.Sum.{δ}
 use Rattle.algebra.specs.Laws.Sum.{Σ-cong, Σ-ext, Σ-mul, Σ-mul-r, Σ-swap, Σ-one, Σ-at, cond-*ℤ}
 use Rattle.algebra.specs.Tab.{tab}
 use Rattle.algebra.specs.Laws.Tab.{length-tab, getD-tab, is-tab}

@@ -23,7 +23,7 @@ use mathlib.Core.Bool.{Bool, true, false, _&&_}
 use mathlib.Core.List.{List, [], _∷_}
 use Prim.Native.Nat.{ℕ, zero, suc, _+_, _*_, _-_, _/_, _%_, _<_, _≤_}
 use native.Mathlib.Decide.{decLt}
-use native.Mathlib.Nat.{mul-assoc, mul-comm, mul-pos, one-mul, mod-lt, div-add-mod', div-lt-iff-lt-mul, le-trans, mul-le-mul-right, mul-le-mul-left}
+use native.Mathlib.Nat.{mul-assoc, mul-comm, mul-pos, one-mul, mod-lt, div-add-mod', div-lt-iff-lt-mul, le-trans, mul-le-mul-right}
 use native.Mathlib.Omega.{arith}
 use lib.Arith.{digits-div, digits-mod, digits-lt}
 use lib.Dec.{T, eqb, leb, leb→le, lit<}
@@ -37,7 +37,7 @@ use Rattle.algebra.specs.Laws.Solve.{solve, var, lit, _⊕_, _⊖_, _⊗_}
 use Rattle.algebra.specs.Sum.{Σ}
 use Rattle.algebra.specs.Laws.Sum.{Σ-cong, Σ-ext, Σ-mul, Σ-mul-r, Σ-swap, Σ-one, cond-*ℤ}
 use Rattle.algebra.specs.Tab.{tab, tabFrom}
-use Rattle.algebra.specs.Laws.Tab.{length-tab, getD-tab, getD-past, is-tab, tab-cong}
+use Rattle.algebra.specs.Laws.Tab.{length-tab, getD-tab, getD-past, tab-cong}
 use Rattle.algebra.specs.Tests.{every, eqZ}
 use Rattle.algebra.specs.Laws.Tests.{and-left, and-right, every-at, eqZ→eq}
 use Rattle.contrasts.specs.Columns.{read, AllWithin, totalsOf, passOf, passesOf}
@@ -52,7 +52,7 @@ use Rattle.contrasts.specs.Laws.Digits.{total-cong}
 use Rattle.contrasts.specs.Laws.Lists.{tab-read, pass-over, order-list}
 use Rattle.contrasts.specs.Laws.Order.{inOrder, in-order}
 use Rattle.contrasts.specs.Laws.Recovery.{sums-total, readings-back}
-use Rattle.contrasts.specs.Laws.Stretches.{byRows, rows-value, rows-alone, passOver, length-over}
+use Rattle.contrasts.specs.Laws.Stretches.{byRows, rows-value, rows-alone, passOver}
 use Rattle.contrasts.specs.Laws.Within.{within-tab}
 
 -- ---- the sums

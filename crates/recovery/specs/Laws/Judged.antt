@@ -6,7 +6,7 @@
 --   beyond                  totals beyond what a pass admits are those of no readings
 --   Recovered, recovered    what is known of a call that is done
 --   recovers                where the lengths are right, any fitting column is what is recovered
-use mathlib.Core.Path.{_≡_, refl, sym, _∙_, ap}
+use mathlib.Core.Path.{_≡_, refl, sym, _∙_}
 use mathlib.Core.Bool.{Bool, true, false, cond, _||_, true≢false}
 use mathlib.Core.List.{List}
 use native.Mathlib.Omega.{arith}

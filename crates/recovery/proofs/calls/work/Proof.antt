@@ -1,4 +1,4 @@
-use mathlib.Core.Path.{sym, _∙_}
+use mathlib.Core.Path.{_∙_}
 use borrow.Author.Needs.{needs}
 use Rattle.algebra.specs.Laws.Tests.{is}
 use Rattle.recovery.proofs.Found.{lengths, judgeable, narrow, refused-14, done}

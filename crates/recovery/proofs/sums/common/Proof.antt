@@ -1,4 +1,4 @@
-use mathlib.Core.Path.{_≡_, refl, sym}
+use mathlib.Core.Path.{refl}
 use Rattle.contrasts.specs.Factors.{two, three}
 use Rattle.contrasts.specs.Laws.Levels.{as-two, as-three}
 use Rattle.recovery.proofs.sums.common.Statement.{statement}

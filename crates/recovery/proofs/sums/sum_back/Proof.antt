@@ -1,4 +1,3 @@
-use mathlib.Core.Path.{refl, _∙_}
 use native.Mathlib.Omega.{arith}
 use Rattle.contrasts.specs.Laws.Levels.{some-levels}
 use Rattle.recovery.proofs.Summed.{AllSummed, all-none, all-ready, all-more, all-long, all-done, next-fits}

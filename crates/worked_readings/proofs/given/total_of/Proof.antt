@@ -1,5 +1,5 @@
 use native.Mathlib.Omega.{arith}
-use Prim.Native.Nat.{_-_, _≤_}
+use Prim.Native.Nat.{_-_}
 use lib.ListN.{length}
 use Rattle.worked_readings.proofs.given.total_of.Statement.{statement}
 use Rattle.worked_readings.proofs.given.total_of.Tie as tie
