@@ -20,7 +20,7 @@
 #   error,AB            a row that is pooled as error
 #   total,AB,2          for recover, where there is no run: an effect by its letters, `mean` for none, and its total; each
 #                       effect once, in any order. The letters are those of base factors
-#   total,AB2,-5        the same at three levels: a letter alone is linear, digit 1, one with a 2 after it curved, digit 2
+#   total,AB2,-148      the same at three levels: a letter alone is linear, digit 1, one with a 2 after it curved, digit 2
 #
 # Totals have the report's signs, low minus high: the runs 3, 5, 4, 8 have 20, -6, -4, 2 for mean, A, B, AB. Of runs that are
 # made several times they are those of the runs' sums, and only these come back: a line such as sum,0,1,0,36 has the levels
@@ -51,6 +51,7 @@
 #   recover              the lines of the runs that have the totals of lines
 #   text_of              the text of a file of lines
 
+import os
 import re
 import struct
 import sys
@@ -87,6 +88,14 @@ MOST_WORD = 65_535
 MOST_PLACES = 8
 
 
+# Why a first cell that is one elsewhere is none here: in lines of runs, and in lines of totals.
+ELSEWHERE = {
+    True: {SUM: "the readings of a run are wanted, and here is their sum, from which they cannot be told",
+           "total": "the readings of runs are wanted, and here is a total, which is for recover"},
+    False: {RUN: "totals are wanted, and here is a run, which is for make"},
+}
+
+
 class NotUnderstood(Exception):
     """Why no sheet can be made of some lines."""
 
@@ -117,10 +126,9 @@ def lines_of(text, counts):
     """The lines of a text that are not passed over, by the first cells that there may be and how many cells there are then."""
     lines = [Line(number, cells_of(text_line)) for number, text_line in enumerate(text.split("\n"), 1)]
     for line in lines:
-        if line.cells and line.cells[0] == SUM and RUN in counts:
-            stop(line, "the readings of a run are wanted, and here is their sum, from which they cannot be told")
         if line.cells and line.cells[0] not in counts:
-            stop(line, "'%s' is none of %s" % (line.cells[0], ", ".join(counts)))
+            elsewhere = ELSEWHERE[RUN in counts].get(line.cells[0])
+            stop(line, elsewhere or "'%s' is none of %s" % (line.cells[0], ", ".join(counts)))
         if line.cells and counts[line.cells[0]] not in (None, len(line.cells)):
             stop(line, "%d cells, wanted %d" % (len(line.cells), counts[line.cells[0]]))
     return [line for line in lines if line.cells]
@@ -157,7 +165,7 @@ def whole(line, cell, least, most):
 def word(line, cell):
     """The word of a cell, by its letters."""
     if not cell or any(letter not in LETTERS for letter in cell) or len(set(cell)) < len(cell):
-        stop(line, "'%s' is not made of different letters from A to P" % cell)
+        stop(line, "'%s' is not made of different capital letters from A to P" % cell)
     return table_rules.row_number(cell)
 
 
@@ -166,7 +174,7 @@ def three_digits(line, cell):
     found = re.findall("([A-P])(2?)", cell)
     letters = [letter for letter, _ in found]
     if not cell or "".join(letter + two for letter, two in found) != cell or len(set(letters)) < len(letters):
-        stop(line, "'%s' is not made of different letters from A to P, each alone or with a 2 after it" % cell)
+        stop(line, "'%s' is not made of different capital letters from A to P, each alone or with a 2 after it" % cell)
     return sum((2 if two else 1) * 3 ** LETTERS.index(letter) for letter, two in found)
 
 
@@ -577,14 +585,25 @@ WAYS = {
 }
 
 
+def put(content):
+    """Writes some bytes to standard output, or ends with a message where that is closed or full."""
+    try:
+        sys.stdout.buffer.write(content)
+        sys.stdout.buffer.flush()
+    except (AttributeError, OSError):
+        sys.stderr.write("the output cannot be written\n")
+        sys.stderr.flush()
+        os._exit(1)
+
+
 def main(way, path):
     """Writes the lines of a sheet, what screentab will answer to it, the runs that have totals, or the sheet of lines; and of a
     sheet of lines that is refused a message."""
     if way != "make":
-        sys.stdout.write(WAYS[way](path))
+        put(WAYS[way](path).encode())
         return
     own_sheet = make(text_of(path))
-    sys.stdout.buffer.write(own_sheet)
+    put(own_sheet)
     if causes(own_sheet):
         print("factab will answer: refused %d (%s)" % (text_rules.answer(own_sheet), "; ".join(causes(own_sheet))),
               file=sys.stderr)

@@ -81,17 +81,17 @@ UNCLEAR = [
     (6, "run,1,1,2147483648", "line 6: '2147483648' is no whole number from -2147483648 to 2147483647"),
     (6, "run,1,1,-2147483649", "line 6: '-2147483649' is no whole number from -2147483648 to 2147483647"),
     (7, "error,AC", "line 7: 'AC' is no row, for there are 2 factors"),
-    (7, "error,ab", "line 7: 'ab' is not made of different letters from A to P"),
+    (7, "error,ab", "line 7: 'ab' is not made of different capital letters from A to P"),
     (7, "error,AB\nerror,BA", "line 8: the row is already in a line above"),
-    (7, "block,AQ", "line 7: 'AQ' is not made of different letters from A to P"),
-    (7, "block,AA", "line 7: 'AA' is not made of different letters from A to P"),
+    (7, "block,AQ", "line 7: 'AQ' is not made of different capital letters from A to P"),
+    (7, "block,AA", "line 7: 'AA' is not made of different capital letters from A to P"),
     (7, "block,", "line 7: 1 cells, wanted 2"),
-    (7, "block,AB2", "line 7: 'AB2' is not made of different letters from A to P"),
-    (7, "block,2", "line 7: '2' is not made of different letters from A to P"),
-    (7, "added,AB2,0", "line 7: 'AB2' is not made of different letters from A to P"),
-    (7, "error,AB2", "line 7: 'AB2' is not made of different letters from A to P"),
+    (7, "block,AB2", "line 7: 'AB2' is not made of different capital letters from A to P"),
+    (7, "block,2", "line 7: '2' is not made of different capital letters from A to P"),
+    (7, "added,AB2,0", "line 7: 'AB2' is not made of different capital letters from A to P"),
+    (7, "error,AB2", "line 7: 'AB2' is not made of different capital letters from A to P"),
     (7, "added,AB", "line 7: 2 cells, wanted 3"),
-    (7, "added,,0", "line 7: '' is not made of different letters from A to P"),
+    (7, "added,,0", "line 7: '' is not made of different capital letters from A to P"),
     (7, "added,AB,256", "line 7: '256' is no whole number from 0 to 255"),
     (7, "repeats,2", "line 3: 4 cells, wanted 5: run, 2 levels, 2 readings"),
     (7, "repeats,0", "line 3: 4 cells, wanted 3: run, 2 levels, 0 readings"),
@@ -125,7 +125,7 @@ UNCLEAR_TWICE = [
 # Nine runs at three levels in three blocks.
 NINE_LINES = ["levels,3", "factors,2", "block,AB"] + [
     "run,%d,%d,%d" % (run % 3, run // 3, reading) for run, reading in enumerate(NINE)] + ["error,AB"]
-WORDS_WANTED = "different letters from A to P, each alone or with a 2 after it"
+WORDS_WANTED = "different capital letters from A to P, each alone or with a 2 after it"
 UNCLEAR_NINE = [
     (3, "block,%s" % cell, "line 3: '%s' is not made of %s" % (cell, WORDS_WANTED))
     for cell in ("AA", "AA2", "A2BA", "AB3", "A1B2", "AB22", "2AB", "AB 2", "ab2", "AQ", "A-B", "7")
@@ -135,8 +135,8 @@ UNCLEAR_NINE = [
     (3, "block,AB,", None),
     (3, "block,AB,2", "line 3: 3 cells, wanted 2"),
     (3, "block", "line 3: 1 cells, wanted 2"),
-    (3, "added,AB2,0", "line 3: 'AB2' is not made of different letters from A to P"),
-    (13, "error,AB2", "line 13: 'AB2' is not made of different letters from A to P"),
+    (3, "added,AB2,0", "line 3: 'AB2' is not made of different capital letters from A to P"),
+    (13, "error,AB2", "line 13: 'AB2' is not made of different capital letters from A to P"),
     (12, "run,2,3,9", "line 12: '3' is no whole number from 0 to 2"),
 ]
 
@@ -287,11 +287,11 @@ TWICE_TOTALS = ["levels,2", "factors,2", "repeats,2"] + FOUR_TOTALS[2:]
 EIGHT_TOTALS = ["levels,2", "factors,3", "added,ABC,1", "block,AB"] + ["total,%s,%d" % pair for pair in zip(
     "mean A B AB C AC BC ABC".split(), (36, -4, -8, 0, -16, 0, 0, 0))] + ["error,BC"]
 
-WORDS_OF_TWO = "different letters from A to P"
+WORDS_OF_TWO = "different capital letters from A to P"
 NO_KIND = "'%s' is none of levels, factors, added, block, repeats, total, error"
 UNCLEAR_TOTALS = [(FOUR_TOTALS, *own) for own in (
-    (3, "run,0,0,3", "line 3: " + NO_KIND % "run"),
-    (3, "total,mean,20\nrun,0,0,3", "line 4: " + NO_KIND % "run"),
+    (3, "run,0,0,3", "line 3: totals are wanted, and here is a run, which is for make"),
+    (3, "total,mean,20\nrun,0,0,3", "line 4: totals are wanted, and here is a run, which is for make"),
     (3, "sum,0,0,3", "line 3: " + NO_KIND % "sum"),
     (3, "Total,mean,20", "line 3: " + NO_KIND % "Total"),
     (1, "", "there is no line that begins with levels"),
@@ -657,7 +657,7 @@ def check_recover():
     if message_of(recovered_or_message(sums)) != (
             "line 6: the readings of a run are wanted, and here is their sum, from which they cannot be told"):
         complaints.append("a sheet of sums")
-    if message_of("\n".join(FOUR_TOTALS)) != "line 3: 'total' is none of levels, factors, added, block, repeats, run, error":
+    if message_of("\n".join(FOUR_TOTALS)) != "line 3: the readings of runs are wanted, and here is a total, which is for recover":
         complaints.append("a sheet of totals")
     return complaints
 
@@ -676,6 +676,18 @@ def check_recover_command():
         found = command_ends(way, "\n".join(lines).encode())
         if found != meant:
             complaints.append("%s of %r: %r" % (way, "; ".join(lines), found))
+    return complaints
+
+
+def check_full():
+    """Complaints about the command where its output cannot be written: a message and the exit status, whatever it was to write."""
+    complaints = []
+    for way, name in ("make", "four_runs.csv"), ("list", "four_runs.sheet"), ("recover", "four_runs_totals.csv"):
+        with open("/dev/full", "wb") as full:
+            found = subprocess.run([sys.executable, "-B", str(ROOT / "tools" / "csv_sheet.py"), way, str(FOLDER / name)],
+                                   stdout=full, stderr=subprocess.PIPE)
+        if (found.stderr, found.returncode) != (b"the output cannot be written\n", 1):
+            complaints.append("%s to a full disk: %r, %d" % (way, found.stderr, found.returncode))
     return complaints
 
 
@@ -720,7 +732,7 @@ def check_totals_example(name, other):
 def check():
     """List of all complaints about lines, the command, listings and stored examples."""
     complaints = check_make() + check_limits() + check_repeats() + check_three_words() + check_screened()
-    complaints += check_recover() + check_recover_command()
+    complaints += check_recover() + check_recover_command() + check_full()
     for name, other in TOTALS_EXAMPLES.items():
         complaints += check_totals_example(name, other)
     for own in text_cases.SHEETS:

@@ -8,6 +8,9 @@
 --   Reason p ts column n       what a refusal with the number n is for
 --   Returned p ts column       what is claimed of a recovery
 --   ReturnTrip                 THE CLAIM
+--
+-- Of other files: `runSumsOf` is the sum of each run's readings; `RunSums` N sums within r times the limit; `EachOnce` a list of pass calls that names
+-- each base factor once; `afterCalls` the column after such calls.
 use mathlib.Core.Path.{_≡_}
 use mathlib.Core.Logic.{_⊎_}
 use mathlib.Core.List.{List}
@@ -20,8 +23,8 @@ use Rattle.plan.specs.Plan.{runsOf, runSumsOf}
 use Rattle.promises.specs.Promised.{promisedCheck, promisedTotals, promisedRecover}
 use Rattle.claims.specs.AnyOrder.{RunSums, EachOnce, afterCalls}
 
--- T33: "readings within the limit [..] that have those totals": the totals call takes no others, sums those of each run, and leaves the report's
--- totals
+-- T33: "readings within the limit [..] that have those totals": for some column that it is lent, the totals call is done and leaves ts. It takes N r
+-- readings within the limit and no others, sums those of each run, and leaves the report's totals
 abbrev pub Have : Plan → List ℤ → List ℤ → Type 0
 Have p readings ts = (column : List ℤ) × (promisedTotals p readings column ≡ record { answer = given tt; column = ts })
 
@@ -54,7 +57,8 @@ pub record Returned (p : Plan) (ts column : List ℤ) : Type 0 where
       → length column ≡ runsOf p → promisedRecover p ts column ≡ record { answer = given tt; column = xs }
   -- D2.11: the trip back: passes over what is written, in any order, end as the totals
   pub back : answer p ts column ≡ given tt → (calls : List ℕ) → EachOnce p calls → afterCalls p calls (left p ts column) ≡ ts
-  -- T32: of runs that are made once it writes the readings themselves: they have the totals, and no others have
+  -- T32: of runs that are made once it writes the readings themselves: they have the totals, and no others have. So recovery after the totals call
+  -- gives the readings, and the totals call after recovery the totals
   pub once : p .repeats ≡ 1 → answer p ts column ≡ given tt
       → Have p (left p ts column) ts × ((readings : List ℤ) → Have p readings ts → readings ≡ left p ts column)
   -- L15: the plan's own numbers come first, then 11 ..
@@ -63,8 +67,9 @@ pub record Returned (p : Plan) (ts column : List ℤ) : Type 0 where
   -- N14: .. then "14, no such readings exist" ..
   pub none : promisedCheck p ≡ given tt → length ts ≡ runsOf p → length column ≡ runsOf p
       → ((readings : List ℤ) → Have p readings ts → ⊥) → answer p ts column ≡ refused 14
-  -- .. and each number for its own reason alone, so "no 12 here"
+  -- .. each number for its own reason alone, and "no 12 here"
   pub reasons : (n : ℕ) → answer p ts column ≡ refused n → Reason p ts column n
+  pub no-twelve : answer p ts column ≡ refused 12 → ⊥
   -- D1.8: "and then writes nothing at all"
   pub unwritten : (n : ℕ) → answer p ts column ≡ refused n → left p ts column ≡ column
 

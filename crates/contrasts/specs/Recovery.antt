@@ -25,7 +25,7 @@ backSum Fs t r = Σ (size Fs) (λ e. pos (weight* Fs e) *ℤ (t e *ℤ coef* Fs 
 unfoldable pub readingsBack : List Factor → List ℤ → List ℤ
 readingsBack Fs ts = tab (size Fs) (λ r. quotZ (backSum Fs (read ts) r) (pos (denominator Fs)))
 
--- N14: "no such readings exist", none "within the limit [..] that have those totals": of the one column that could be it, at some place the
+-- N14, of N totals: "no such readings exist", none "within the limit [..] that have those totals": of the one column that could be it, at some place the
 -- reading is beyond the limit, or the total is another
 unfoldable pub noReadings : List Factor → ℕ → List ℤ → Bool
 noReadings Fs M ts =

@@ -1,20 +1,24 @@
 -- The loop that divides sums, and the one that puts readings.
 --
+--   part-fits, part-turned, quotient-below, quotient-above
+--                                                   the quotient of a sum's size, as it is and with the sign of a sum below 0; it is the sum's
 --   product-fits, not-exact, exact                  the denominator times a quotient beside the sum, as code compares them
 --   Dividing D M zs i any ys                        the first i sums are quotients, and `any` is whether one of them is missed
 --   dividing-none, dividing-more, dividing-all      before the first, after one more, after the last
 --   dividing-long, dividing-still                   the length, and the next sum is still there
---   quotient-fits, product-size, divided            a turn of it
+--   quotient-asks, product-size, divided            a turn of it
 --   narrowed-fits, narrowed                         a value that a pass admits, as an i32
-use mathlib.Core.Path.{_≡_, refl, sym, _∙_, ap}
+use mathlib.Core.Path.{_≡_, refl, sym, _∙_, ap, subst}
 use mathlib.Core.Bool.{Bool, true, false, _||_}
 use mathlib.Core.List.{List}
-use Prim.Native.Nat.{ℕ, _+_, _*_, _^_, _<_, _≤_}
+use Prim.Native.Nat.{ℕ, suc, _+_, _*_, _/_, _^_, _<_, _≤_}
+use native.Mathlib.Nat.{div-le-self}
 use native.Mathlib.Omega.{arith}
-use lib.Dec.{lit<}
-use lib.IntN.{ℤ, pos, natAbs, _*ℤ_}
+use borrow.Author.Tests.{ltb-true}
+use lib.Dec.{T, lit<}
+use lib.IntN.{ℤ, pos, negsuc, negℤ, natAbs, _-ℤ_, _*ℤ_, +ℤ-idl}
 use lib.ListN.{length, set}
-use lib.Signed.{quotZ}
+use lib.Signed.{quotZ, ltZ}
 use mir.Facts.{toZ-ofZ}
 use mir.Syntax.{w32, w64}
 use mir.Val.{SFits, toZ, ofZ}
@@ -23,6 +27,7 @@ use Rattle.algebra.specs.Laws.Fill.{Filled, filled-none, filled-long, filled-ol
 use Rattle.algebra.specs.Laws.Machine.{fits, wrap, back, fits-half}
 use Rattle.algebra.specs.Laws.Quotients.{quot-back, quot-within}
 use Rattle.algebra.specs.Laws.Searching.{Seen, seen-none, seen-more, seen-all}
+use Rattle.algebra.specs.Laws.Size.{natAbs-sub}
 use Rattle.algebra.specs.Laws.Tests.{eq-eqZ, ne-eqZ}
 use Rattle.contrasts.specs.Columns.{read}
 use Rattle.contrasts.specs.Limits.{valueLimit}
@@ -30,6 +35,38 @@ use Rattle.contrasts.specs.Laws.Recovery.{missed, anyMissed, quotients}
 use Rattle.contrasts.specs.Laws.Small.{room}
 use Rattle.plan.specs.Limits.{isBeyond}
 use Rattle.recovery.specs.Inner.Lent.{Sums}
+
+-- ---- the quotient of a sum, from its size
+
+quot-below : (D : ℕ) (z : ℤ) → ltZ z (pos 0) ≡ true → pos 0 -ℤ pos (natAbs z / D) ≡ quotZ z (pos D)
+quot-below D (pos n) t = absurd (omega (arith, ltb-true n 0 t))
+quot-below D (negsuc n) t = +ℤ-idl (negℤ (pos (suc n / D)))
+
+quot-above : (D : ℕ) (z : ℤ) → ltZ z (pos 0) ≡ false → pos (natAbs z / D) ≡ quotZ z (pos D)
+quot-above D (pos n) t = refl
+quot-above D (negsuc n) t = absurd (subst T t tt)
+
+module _ (D : ℕ) {z : ℤ} {s : ℕ} (f : SFits w64 z) (small : natAbs z < 2 ^ 63) (is : s ≡ natAbs (wrap z)) where
+  size-is : s ≡ natAbs z
+  size-is = is ∙ ap natAbs (toZ-ofZ f)
+
+  part-size : natAbs (pos (s / D)) < 2 ^ 63
+  part-size = omega (arith, size-is, small, div-le-self s D)
+
+  pub part-fits : SFits w64 (pos (s / D))
+  part-fits = fits (pos (s / D)) part-size
+
+  part-is : wrap (pos (s / D)) ≡ pos (natAbs z / D)
+  part-is = back (pos (s / D)) part-size ∙ rw size-is refl
+
+  pub part-turned : SFits w64 (pos 0 -ℤ wrap (pos (s / D)))
+  part-turned = rw part-is (fits (pos 0 -ℤ pos (natAbs z / D)) (omega (arith, natAbs-sub (pos 0) (pos (natAbs z / D)), small, div-le-self (natAbs z) D)))
+
+  pub quotient-below : ltZ (wrap z) (pos 0) ≡ true → wrap (pos 0 -ℤ wrap (pos (s / D))) ≡ quotZ z (pos D)
+  quotient-below t = toZ-ofZ part-turned ∙ rw part-is (quot-below D z (rw (toZ-ofZ f) at t))
+
+  pub quotient-above : ltZ (wrap z) (pos 0) ≡ false → wrap (pos (s / D)) ≡ quotZ z (pos D)
+  quotient-above t = part-is ∙ quot-above D z (rw (toZ-ofZ f) at t)
 
 -- ---- one sum and its quotient, as code compares them
 
@@ -98,26 +135,19 @@ module _ {D M : ℕ} {zs : List ℤ} (pre : Sums D M zs) {i : ℕ} {any : Bool} 
   sum-size : natAbs (read ys i) < 2 ^ 63
   sum-size = omega (arith, room, pre .room, sum-within)
 
-  quotient-size : natAbs (quotZ (read ys i) (pos D)) < 2 ^ 63
-  quotient-size = omega (arith, half, quot-within D valueLimit (read ys i) sum-within)
+  pub quotient-asks : (0 < D) × (natAbs (wrap (read ys i)) < 2 ^ 63)
+  quotient-asks = (pre .some, rw (back (read ys i) sum-size) sum-size)
 
-  quotient-held : quotZ (wrap (read ys i)) (toZ w64 D) ≡ quotZ (read ys i) (pos D)
-  quotient-held = rw (back (read ys i) sum-size, toZ-pos w64 D (omega (arith, pre .fits))) refl
+  module _ {q : ℤ} (e : q ≡ quotZ (wrap (read ys i)) (pos D)) where
+    quotient-is : wrap q ≡ quotZ (read ys i) (pos D)
+    quotient-is =
+        rw (e, back (read ys i) sum-size) (back (quotZ (read ys i) (pos D)) (omega (arith, half, quot-within D valueLimit (read ys i) sum-within)))
 
-  pub quotient-fits : (0 < D) × SFits w64 (quotZ (wrap (read ys i)) (toZ w64 D))
-  quotient-fits = (pre .some, rw quotient-held (fits (quotZ (read ys i) (pos D)) quotient-size))
+    pub product-size : natAbs (pos D *ℤ wrap q) < 2 ^ 63
+    product-size = rw quotient-is (omega (arith, sum-size, quot-back D (read ys i)))
 
-  quotient-is : wrap (quotZ (wrap (read ys i)) (toZ w64 D)) ≡ quotZ (read ys i) (pos D)
-  quotient-is = rw quotient-held (back (quotZ (read ys i) (pos D)) quotient-size)
-
-  pub product-size : natAbs (pos D *ℤ wrap (quotZ (wrap (read ys i)) (toZ w64 D))) < 2 ^ 63
-  product-size = rw quotient-is (omega (arith, sum-size, quot-back D (read ys i)))
-
-  pub divided : {t : Bool} → t ≡ missed D M (wrap (read ys i)) (wrap (quotZ (wrap (read ys i)) (toZ w64 D)))
-      → Dividing D M zs (i + 1) (any || t) (set ys i (wrap (quotZ (wrap (read ys i)) (toZ w64 D))))
-  divided e =
-      dividing-more w more quotient-is
-      (e ∙ ap (λ z. missed D M z (wrap (quotZ (wrap (read ys i)) (toZ w64 D)))) (back (read ys i) sum-size))
+    pub divided : {t : Bool} → t ≡ missed D M (wrap (read ys i)) (wrap q) → Dividing D M zs (i + 1) (any || t) (set ys i (wrap q))
+    divided d = dividing-more w more quotient-is (d ∙ ap (λ z. missed D M z (wrap q)) (back (read ys i) sum-size))
 
 -- ---- a value as a reading
 

@@ -29,7 +29,7 @@ fn sum_triples(part: &mut [i64], spacing: usize)
     }
 }
 
-// A stretch at three levels. The shortest ones are calls by themselves, in which the spacing is a number.
+// A stretch at three levels. The shortest ones are calls by themselves, in which the spacing is a number, and are compiled without a loop.
 fn sum_stretch(part: &mut [i64], spacing: usize)
     requires { ⌜ Stretch 3 spacing (now part) ⌝ }
     ensures { λ _. ⌜ now (part .exit) ≡ sumsOver spacing three (now (part .entry)) ⌝ }

@@ -9,12 +9,14 @@
 --   wrong-length, eleven   where a length is wrong it gives 11
 --   fourteen               where there are no such readings it gives 14
 --   fourteen-none          and gives 14 nowhere else
---   why                    every refusal is by the plan, by a length, or for want of readings
+--   sums-left              what it leaves are run sums within r times the limit
+--   only-one, the-one      of runs that are made once it leaves the one column of readings that has the totals
+--   why, never-twelve      every refusal is by the plan, by a length, or for want of readings; none is 12
 --   any                    run sums come back from the totals that passes make of them
 --   returned, return-trip  the proof
 use mathlib.Core.Path.{_≡_, refl, sym, ap, _∙_, subst}
 use mathlib.Core.Logic.{inl, inr}
-use mathlib.Core.Bool.{Bool, true, false, cond, _||_}
+use mathlib.Core.Bool.{Bool, true, false, cond, _||_, true≢false}
 use mathlib.Core.List.{List}
 use Prim.Native.Nat.{ℕ, _*_}
 use native.Mathlib.Decide.{ℕ-discrete}
@@ -45,6 +47,7 @@ use Rattle.promises.specs.Promised.{Left, promisedCheck, promisedRecover}
 use Rattle.claims.specs.AnyOrder.{RunSums, EachOnce, afterCalls}
 use Rattle.claims.specs.ReturnTrip.{Have, answer, left, WrongLengths, Reason, Returned, ReturnTrip}
 use Rattle.claims.specs.Laws.AnyOrder.{any-order}
+use Rattle.claims.specs.Laws.LowestNumber.{lowest-number}
 
 -- ---- readings that have the totals
 
@@ -202,6 +205,12 @@ module _ (p : Plan) (ts column : List ℤ) where
           let d = want (noReadings (factorsOf p) (runLimit p) ts) (by-readings l) in
           inr (inr (d, fourteen-none (e ∙ ap refused d)))
 
+  never-twelve : answer p ts column ≡ refused 12 → ⊥
+  never-twelve e =
+      let twelve : 12 ≡ number = refused-is number tt (sym e) .0 in
+      let applied = lowest-number .recover p ts column .own (refused-is number tt (sym e) .1) in
+      true≢false (sym (rw (← twelve) at applied))
+
   any : planRefused p ≡ 0 → (xs : List ℤ) → RunSums p xs → (calls : List ℕ) → EachOnce p calls → afterCalls p calls xs ≡ ts → length column ≡ runsOf p
       → promisedRecover p ts column ≡ record { answer = given tt; column = xs }
   unfolding recoverColumn
@@ -234,6 +243,7 @@ module _ (p : Plan) (ts column : List ℤ) where
     lengths = λ e w. stops (λ z. omega (arith, z)) (eleven (ok-by e) w);
     none = λ e whole same h. stops (λ z. omega (arith, z)) (fourteen (record { plan = ok-by e; whole = whole; same = same }) h);
     reasons = why;
+    no-twelve = never-twelve;
     unwritten = λ n e. sym (unwritten number back column (refused-is number tt (sym e) .1));
   }
 

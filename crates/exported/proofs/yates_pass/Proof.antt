@@ -1,5 +1,6 @@
 use borrow.Author.Needs.{needs}
-use Rattle.exported.proofs.Told.{told}
+use Rattle.yates.specs.Calls.{passRefused, passColumn}
+use Rattle.exported.proofs.Told.{told-of}
 use Rattle.exported.proofs.yates_pass.Statement.{statement}
 use Rattle.exported.proofs.yates_pass.Tie as tie
 
@@ -14,10 +15,8 @@ yates-pass-spec =
     (λ c. search needs)
     (λ c.
     let whole-is = c .before .before .before .before .before .whole .ensures in
-    let pass-is = c .before .before .before .pass .ensures in
-    rw (← whole-is) (told (c .enum-told .given .1) (pass-is .0), pass-is .1))
+    told-of passRefused passColumn whole-is (c .enum-told .given .1) (c .before .before .before .pass .ensures))
     (λ c. search needs)
     (λ c.
     let whole-is = c .before .before .before .before .before .before .whole .ensures in
-    let pass-is = c .before .before .before .before .pass .ensures in
-    rw (← whole-is) (told (c .before .n .given .1) (pass-is .0), pass-is .1)))
+    told-of passRefused passColumn whole-is (c .before .n .given .1) (c .before .before .before .before .pass .ensures)))

@@ -1,7 +1,6 @@
-use mathlib.Core.Path.{_∙_, ap}
 use borrow.Author.Needs.{needs}
 use Rattle.recovery.specs.Calls.{recoverRefused, recoverColumn}
-use Rattle.exported.proofs.Told.{told}
+use Rattle.exported.proofs.Told.{told-of}
 use Rattle.exported.proofs.yates_recover.Statement.{statement}
 use Rattle.exported.proofs.yates_recover.Tie as tie
 
@@ -15,17 +14,9 @@ yates-recover-spec =
     (λ c. search needs)
     (λ c. search needs)
     (λ c.
-    let args = c .before .before .before .before .before .before .args in
     let whole-is = c .before .before .before .before .before .whole .ensures in
-    let recover-is = c .before .before .before .recover .ensures in (
-      told (c .enum-told .given .1) (recover-is .0) ∙ ap (λ p. recoverRefused p (args .totals .now) (args .readings .now)) whole-is,
-      recover-is .1 ∙ ap (λ p. recoverColumn p (args .totals .now) (args .readings .now)) whole-is,
-    ))
+    told-of recoverRefused recoverColumn whole-is (c .enum-told .given .1) (c .before .before .before .recover .ensures))
     (λ c. search needs)
     (λ c.
-    let args = c .before .before .before .before .before .before .before .args in
     let whole-is = c .before .before .before .before .before .before .whole .ensures in
-    let recover-is = c .before .before .before .before .recover .ensures in (
-      told (c .before .n .given .1) (recover-is .0) ∙ ap (λ p. recoverRefused p (args .totals .now) (args .readings .now)) whole-is,
-      recover-is .1 ∙ ap (λ p. recoverColumn p (args .totals .now) (args .readings .now)) whole-is,
-    )))
+    told-of recoverRefused recoverColumn whole-is (c .before .n .given .1) (c .before .before .before .before .recover .ensures)))

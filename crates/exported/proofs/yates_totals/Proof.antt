@@ -1,5 +1,6 @@
 use borrow.Author.Needs.{needs}
-use Rattle.exported.proofs.Told.{told}
+use Rattle.yates.specs.Calls.{totalsRefused, totalsColumn}
+use Rattle.exported.proofs.Told.{told-of}
 use Rattle.exported.proofs.yates_totals.Statement.{statement}
 use Rattle.exported.proofs.yates_totals.Tie as tie
 
@@ -14,10 +15,8 @@ yates-totals-spec =
     (λ c. search needs)
     (λ c.
     let whole-is = c .before .before .before .before .before .whole .ensures in
-    let totals-is = c .before .before .before .totals .ensures in
-    rw (← whole-is) (told (c .enum-told .given .1) (totals-is .0), totals-is .1))
+    told-of totalsRefused totalsColumn whole-is (c .enum-told .given .1) (c .before .before .before .totals .ensures))
     (λ c. search needs)
     (λ c.
     let whole-is = c .before .before .before .before .before .before .whole .ensures in
-    let totals-is = c .before .before .before .before .totals .ensures in
-    rw (← whole-is) (told (c .before .n .given .1) (totals-is .0), totals-is .1)))
+    told-of totalsRefused totalsColumn whole-is (c .before .n .given .1) (c .before .before .before .before .totals .ensures)))
