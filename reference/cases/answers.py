@@ -694,11 +694,11 @@ def column_before(places):
 PRIME, FACTOR = 65_521, 17
 
 
-def checksum(column):
+def checksum(column, factor=FACTOR, prime=PRIME):
     """The checksum of a column."""
     found = 0
     for number in column:
-        found = (FACTOR * found + number) % PRIME
+        found = (factor * found + number) % prime
     return found
 
 

@@ -16,8 +16,9 @@
 #
 # Inputs by what they tell apart:
 #   PUBLISHED    the 27 worked examples, and ten tables more with other readings or in blocks: the totals that the source
-#                prints recover its readings, and what it does not print is settled by them. Of the examples and of one table
-#                each with one total changed by 1, each total in turn, of 81 some of them: no readings have these
+#                prints recover its readings, and what it does not print is settled by them. Each also with one total
+#                changed by 1, of the examples and of one table each total in turn, of 81 some of them, and of the other
+#                tables the last: no readings have these
 #   FRACTIONS    totals of numbers of which some are halves, thirds, quarters and so on and the others whole: for a program
 #                that does not look for remainders, looks at some runs only, or tests too small a divisor
 #   LIMITS       run sums at the limit, one beyond it, and at the limits of other plans, with 1, 2, 4 and 8 repeats; the
@@ -47,7 +48,7 @@ from os.path import abspath, dirname
 
 sys.path.insert(0, dirname(dirname(dirname(abspath(__file__)))))
 
-from reference.cases.answers import REFUSED_PLANS, SIDES, TOP, named, numbered, plan_text
+from reference.cases.answers import REFUSED_PLANS, SIDES, TOP, checksum, named, numbered, plan_text
 from reference.cases.screening_answers import after
 from reference.cases.sheet_cases import Numbers, three_words
 from reference.published import amcp, analyses, examples
@@ -158,7 +159,8 @@ HALF = of_table(analyses.DANIEL_HALF, half_totals())
 SETTLED = [of_table(own) for own in (
     analyses.AMCP_BLOCKED, analyses.INTERLACED, analyses.DANIEL_MANGOLDS, analyses.POTATO_BLOCKED, analyses.YATES_HAY,
     analyses.DANIEL_LETTUCE, analyses.DANIEL_AIR, analyses.FIRST_Y, analyses.SECOND_Z)]
-CHANGED_ONCE = [changed for own in WORKED + [HALF] for changed in changed_once(own)]
+CHANGED_ONCE = [changed for own in WORKED + [HALF] for changed in changed_once(own)] + [
+    one_changed(own, len(own.totals) - 1, 1) for own in SETTLED]
 PUBLISHED = WORKED + [HALF] + SETTLED + CHANGED_ONCE
 
 
@@ -911,20 +913,12 @@ FEW_PLACES, ENDS = 100, 4
 PRIME, FACTOR = 2_147_483_647, 31
 
 
-def checksum(column):
-    """The checksum of a column."""
-    found = 0
-    for number in column:
-        found = (FACTOR * found + number) % PRIME
-    return found
-
-
 def column_text(column):
     """What the program writes of a column that a call has filled."""
     if len(column) <= FEW_PLACES:
         return "readings" + examples.values_text(column)
     return "readings %d, first%s, last%s, checksum %d" % (
-        len(column), examples.values_text(column[:ENDS]), examples.values_text(column[-ENDS:]), checksum(column))
+        len(column), examples.values_text(column[:ENDS]), examples.values_text(column[-ENDS:]), checksum(column, FACTOR, PRIME))
 
 
 def recovered_text(own):
