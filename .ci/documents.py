@@ -1,5 +1,5 @@
-# A stage of the gate: reads README.md, docs/*.md, crates.txt and the comments in specs, and compares what they say with
-# the repository. Prints FILE:LINE: and what is wrong; exits with 1 if anything is.
+# A stage of the gate: reads README.md, CHANGELOG.md, docs/*.md, crates.txt and the comments in specs, and compares what they
+# say with the repository. Prints FILE:LINE: and what is wrong; exits with 1 if anything is.
 #
 #   links       a relative link leads to a file, and after # to a heading of it
 #   paths       a file or folder cited in backticks exists: one with a / in it, or with one of ENDINGS; in blocks of code,
@@ -12,7 +12,8 @@
 #               cell `crate` and one row for each crate
 #   arrows      what a crate depends on stands above it in crates.txt; and it depends on every crate that it names
 #   inner       no crate names the folder Inner of another
-#   sizes       README.md and the cells of docs/CLAIMS.md are short
+#   sizes       README.md, CHANGELOG.md and the cells of docs/CLAIMS.md are short
+#   versions    files that name the version name one: 1, a point and the number of the last landing in docs/CHANGES.md
 #   rules       numbers of rules are of docs/RULES.md where a comment in specs, or a cell or an item of a document, begins
 #               with them, as T9: or P8, P9: or V6 to V9 alone; and each rule has a row in docs/CLAIMS.md
 #
@@ -28,6 +29,7 @@
 #   listed_crates, map_groups            the groups of crates.txt and of the map
 #   rule_lines, rules_in, rule_lists     the rules, those of a list, and the lists with which a line begins
 #   check_links .. check_rules           complaints, by the list above
+#   documents                            the documents whose links and citations are read
 #   complaints                           all of them
 
 import re
@@ -38,22 +40,38 @@ from itertools import zip_longest
 from pathlib import Path
 
 ROOT = Path(__file__).resolve().parent.parent
+README, CHANGELOG, CHANGES = "README.md", "CHANGELOG.md", "docs/CHANGES.md"
 MAP, RULES, CLAIMS, CRATES = "docs/MAP.md", "docs/RULES.md", "docs/CLAIMS.md", "crates.txt"
-MOST_LINES, MOST_WORDS = 120, 60
+MOST_LINES, MOST_WORDS = {README: 120, CHANGELOG: 60}, 60
 
-ENDINGS = (".antt", ".rt", ".py", ".c", ".md", ".sheet", ".csv", ".txt", ".edit")
-CODE_FOLDERS = ("crates", "reference", "tools", "bench", ".ci")
+ENDINGS = (".antt", ".rt", ".py", ".c", ".h", ".rs", ".md", ".cff", ".sheet", ".csv", ".svg", ".txt", ".edit")
+CODE_FOLDERS = ("crates", "include", "bindings", "reference", "tools", "bench", ".ci")
+EXAMPLES, EXAMPLE_ENDINGS = "examples", (".c", ".rs", ".py")
 PASSED_OVER = (".git", "target", "__pycache__")
 KIT = ("io", "libc", "std", "check", "bytes", "os")
 
 # Words of the kit's messages and of C that documents cite and no code here has.
 OUTSIDE = {"axioms", "logic-built", "libraries-built", "trusted", "restrict"}
 
+# What names the version, and where in it; in the document of changes the number of the last landing does.
+VERSIONS = {
+    "CITATION.cff": r'(?m)^version: "?([\d.]+)"?$',
+    CHANGELOG: r"(?m)^- \*\*([\d.]+)\*\*",
+    "tools/ftab": r'(?m)^VERSION = "([\d.]+)"$',
+    "include/lithgorn.h": r'(?m)^#define LITHGORN_VERSION "([\d.]+)"$',
+    "man/factab.1": r'(?m)^\.TH .*"Lithgorn ([\d.]+)"',
+    "man/ftab.1": r'(?m)^\.TH .*"Lithgorn ([\d.]+)"',
+}
+LANDING = r"(?m)^## (\d+)\. "
+
 # Comments, by the ending of a file; Python's also between three quotes.
+C_COMMENTS = r"//.*|/\*[\s\S]*?\*/"
 COMMENTS = {
     ".antt": r"(?m)(?:^|(?<=\s))--.*",
     ".rt": r"//.*",
-    ".c": r"(?m)//.*|/\*[^*]*\*/",
+    ".c": C_COMMENTS,
+    ".h": C_COMMENTS,
+    ".rs": C_COMMENTS,
     ".py": r'(?s)""".*?"""|(?:(?<=\n)|(?<=\s))#[^\n]*',
     "": r"(?m)^\s*#.*",
 }
@@ -124,9 +142,10 @@ class Repository:
 
 
 def is_code(path):
-    """Whether a path is of code: not what a program reads or writes, and not this file."""
-    return (path.split("/")[0] in CODE_FOLDERS and path != ".ci/documents.py"
-            and Path(path).name not in ("stdin", "stdout"))
+    """Whether a path is of code: not what a program reads or writes, and not this file; of the examples the programs."""
+    top = path.split("/")[0]
+    return (path != ".ci/documents.py" and Path(path).name not in ("stdin", "stdout")
+            and (top in CODE_FOLDERS or top == EXAMPLES and path.endswith(EXAMPLE_ENDINGS)))
 
 
 def without_comments(path):
@@ -409,9 +428,11 @@ def check_inner(repository):
 
 def check_sizes(repository):
     """What is longer than it may be."""
-    found, count = [], len(read("README.md").splitlines())
-    if count > MOST_LINES:
-        found.append(("README.md", count, "%d lines, at most %d" % (count, MOST_LINES)))
+    found = []
+    for path, most in MOST_LINES.items():
+        count = len(read(path).splitlines()) if path in repository.paths else 0
+        if not 0 < count <= most:
+            found.append((path, count, "%d lines, wanted 1 to %d" % (count, most)))
     if CLAIMS not in repository.paths:
         return found + [(CLAIMS, 1, "there are no claims")]
     for line, text in enumerate(read(CLAIMS).splitlines(), 1):
@@ -419,6 +440,16 @@ def check_sizes(repository):
         found += [(CLAIMS, line, "a cell of %d words, at most %d: %s .." % (len(cell), MOST_WORDS, " ".join(cell[:6])))
                   for cell in cells if len(cell) > MOST_WORDS]
     return found
+
+
+def check_versions(repository):
+    """Files that name no version, or another than that of the last landing."""
+    landings = re.findall(LANDING, read(CHANGES)) if CHANGES in repository.paths else []
+    wanted = "1.%s" % landings[-1] if landings else "none"
+    named = {path: re.findall(pattern, read(path))[:1] if path in repository.paths else []
+             for path, pattern in VERSIONS.items()}
+    return [(path, 1, "the version is %s, and by the last landing of %s it is %s" % (
+        "".join(own) or "absent", CHANGES, wanted)) for path, own in named.items() if own != [wanted]]
 
 
 # ---- checks of rules ----
@@ -467,12 +498,17 @@ def check_rules(repository):
 
 # ---- the command ----
 
+def documents(repository):
+    """The documents whose links and citations are read."""
+    return [path for path in repository.files if path in (README, CHANGELOG) or fnmatchcase(path, "docs/*.md")]
+
+
 def complaints(repository):
     """All that is wrong, as file, line and words, and how many citations were compared."""
     found, count = [], 0
-    for check in (check_map, check_arrows, check_inner, check_sizes, check_rules):
+    for check in (check_map, check_arrows, check_inner, check_sizes, check_versions, check_rules):
         found += check(repository)
-    for document in ["README.md"] + [path for path in repository.files if fnmatchcase(path, "docs/*.md")]:
+    for document in documents(repository):
         found += check_links(document)
         found += check_code(repository, document)
         cited = citations(read(document))

@@ -4,7 +4,8 @@
 --   onPlan p further               the refusals of a call on a plan: the plan's own, and the call's
 --   onSheet fs narrow              those of a call on a sheet: refusal 1, the plan's own, and the sheet's
 --   onBytes sheet                  those of the print call: refusal 1 holds of a sheet that is too long, too
---   tableRefusalsC                 those of the table call for C: refusal 11 holds where figures or checks have no room, too
+--   onHead head further            those of a call on a plan in bytes: refusal 1, the plan's own, that of a needless field, and the call's
+--   tableRefusalsC                 those of the table call for C on a whole plan: refusal 11 holds where figures or checks have no room, too
 --   LowestNumber                   THE CLAIM, call by call
 use mathlib.Core.Bool.{Bool, false, _||_}
 use mathlib.Core.List.{List, [], _∷_, _++_}
@@ -33,8 +34,10 @@ use Rattle.fields.specs.Tags.{badFields}
 use Rattle.contents.specs.Contents.{planIn}
 use Rattle.sheet.specs.Sheet.{sheetRefusals, readRefused, marksRefused}
 use Rattle.printing.specs.Printed.{longestSheet, printRefused}
-use Rattle.exported.specs.Whole.{wholePlan}
-use Rattle.exported.specs.Handed.{wrongRoom, callRefused}
+use Rattle.heads.specs.Heads.{badHead, headPlan, headRefusals, headRefused, called}
+use Rattle.facts.specs.Facts.{runNumber, aliasNumber, estimateNumber}
+use Rattle.tables.specs.Handed.{wrongRoom, callRefused, wrongSlices, sheetTableRefused}
+use Rattle.lithgorn.specs.Whole.{wholePlan}
 
 abbrev pub onPlan : Plan → List Refusal → List Refusal
 onPlan p further = planRefusals p ++ further
@@ -47,6 +50,9 @@ abbrev pub onBytes : List ℕ → List Refusal
 onBytes sheet =
     refusal 1 (ltb longestSheet (length sheet) || badFields (fieldsOf sheet))
     ∷ onPlan (planIn (fieldsOf sheet)) (sheetRefusals (fieldsOf sheet) (planIn (fieldsOf sheet)) false)
+
+abbrev pub onHead : List ℕ → List Refusal → List Refusal
+onHead head further = refusal 1 (badHead (fieldsOf head)) ∷ onPlan (headPlan head) (headRefusals (fieldsOf head) ++ further)
 
 abbrev pub tableRefusalsC : Plan → List ℤ → List ℕ → List ℤ → List ℕ → List ℕ → List ℤ → List Refusal
 tableRefusalsC p readings marks totals rows figures checks =
@@ -94,3 +100,21 @@ pub record LowestNumber : Type 0 where
   pub table-C : (levels k r : ℕ) (readings : List ℤ) (marks : List ℕ) (column : List ℤ) (rows figures : List ℕ) (checks : List ℤ)
       → Lowest (callRefused (wholePlan levels k r) readings marks column rows figures checks)
       (onPlan (wholePlan levels k r) (tableRefusalsC (wholePlan levels k r) readings marks column rows figures checks))
+  -- the calls for other languages, which take a plan in bytes; the blocking call, the reader, the marks and the text have the numbers above
+  pub check-head : (head : List ℕ) → Lowest (headRefused head) (onHead head [])
+  pub run-head : (head : List ℕ) (r : ℕ) → Lowest (runNumber head r) (onHead head (runRefusals (headPlan head) r))
+  pub alias-head : (head : List ℕ) (e : ℕ) → Lowest (aliasNumber head e) (onHead head (aliasRefusals (headPlan head) e))
+  pub estimate-head : (head : List ℕ) (e : ℕ) (t : ℤ) → Lowest (estimateNumber head e t) (onHead head (estimateRefusals (headPlan head) e t))
+  pub pass-head : (head : List ℕ) (f : ℕ) (column : List ℤ)
+      → Lowest (called head (λ p. passRefused p f column)) (onHead head (passRefusals (headPlan head) f column))
+  pub step-head : (head : List ℕ) (from to : List ℤ) → Lowest (called head (λ p. stepRefused p from to)) (onHead head (stepRefusals (headPlan head) from to))
+  pub totals-head : (head : List ℕ) (readings column : List ℤ)
+      → Lowest (called head (λ p. totalsRefused p readings column)) (onHead head (totalsRefusals (headPlan head) readings column))
+  pub recover-head : (head : List ℕ) (ts column : List ℤ)
+      → Lowest (called head (λ p. recoverRefused p ts column)) (onHead head (recoverRefusals (headPlan head) ts column))
+  pub table-head : (head : List ℕ) (readings : List ℤ) (marks : List ℕ) (column : List ℤ) (rows : List ℕ)
+      → Lowest (called head (λ p. tableRefused p readings marks column rows)) (onHead head (tableRefusals (headPlan head) readings marks column rows))
+  pub screen-head : (head : List ℕ) (readings : List ℤ) (marks : List ℕ) (column : List ℤ) (rows : List ℕ)
+      → Lowest (called head (λ p. screenRefused p readings marks column rows)) (onHead head (screenRefusals (headPlan head) readings marks column rows))
+  -- the table of a sheet, lent m places for totals and n for rows
+  pub table-sheet : (sheet : List ℕ) (m n : ℕ) → Lowest (sheetTableRefused sheet m n) (onSheet (fieldsOf sheet) (wrongSlices (planIn (fieldsOf sheet)) m n))

@@ -6,11 +6,15 @@
 --   OnPlan p                   THE CLAIM on the calls that take a plan: check, run, alias, estimate, pass, step, totals, recover, table, screen
 --   OnBlockings k b column     on the blocking call
 --   OnSheet sheet              on those that take a sheet: reader, marks, print
---   ForC                       on the table call for C; the others for C have the numbers and columns of the first
+--   OnHead head                on the calls for other languages that take a plan in bytes
+--   ForC                       on the table call for C on a whole plan, and on the table of a sheet; the pass, the totals and the recovery on a whole
+--                              plan have the numbers and columns of the first, and blockings, reader, marks and text those of the others
+--   Unhanded                   on all calls that hand out a table as numbers
 use mathlib.Core.Path.{_≡_}
 use mathlib.Core.List.{List, [], _∷_}
 use Prim.Native.Nat.{ℕ, _≤_}
 use lib.IntN.{ℤ}
+use lib.Ieee.{Float}
 use lib.ListN.{length}
 use Rattle.plan.specs.declared.types.Plan.{Plan}
 use Rattle.plan.specs.Check.{planRefused}
@@ -26,7 +30,10 @@ use Rattle.anova.specs.Table.{tableRefused, tableTotals, tableRows}
 use Rattle.screening.specs.Screening.{screenRefused, screenTotals, screenRows}
 use Rattle.sheet.specs.Sheet.{readRefused, readColumn, marksRefused, marksOf}
 use Rattle.printing.specs.Printed.{printRefused}
-use Rattle.exported.specs.Handed.{callRefused, callTotals, callRows, callFigures, callChecks}
+use Rattle.heads.specs.Heads.{headRefused, called, leaves}
+use Rattle.facts.specs.Facts.{runNumber, runHigh, runBlock, aliasNumber, aliasWord, aliasTurned, estimateNumber, estimateKind, estimateDouble, blockingsLists}
+use Rattle.handed.specs.Sheets.{readLength}
+use Rattle.tables.specs.Handed.{callRefused, sheetTableRefused, Handed}
 
 -- D1.6, N14, N16 to N18, N21
 abbrev pub theNumbers : List ℕ
@@ -76,12 +83,43 @@ pub record OnSheet (sheet : List ℕ) : Type 0 where
   -- D1.7: "(the marks call with an empty part)"
   pub marks-empty : (marksRefused sheet ≡ 0 → ⊥) → marksOf sheet ≡ []
 
--- ---- the table call for C; the pass, the totals and the recovery for C have the numbers and columns of those above
+-- ---- calls for other languages that take a plan in bytes
 
-pub record ForC (p : Plan) (readings : List ℤ) (marks : List ℕ) (totals : List ℤ) (rows figures : List ℕ) (checks : List ℤ) : Type 0 where
-  pub number : OneOfTheNumbers (callRefused p readings marks totals rows figures checks)
-  pub unwritten-all : (callRefused p readings marks totals rows figures checks ≡ 0 → ⊥)
-      → (callTotals p readings marks totals rows figures checks ≡ totals)
-      × (callRows p readings marks totals rows figures checks ≡ rows)
-      × (callFigures p readings marks totals rows figures checks ≡ figures)
-      × (callChecks p readings marks totals rows figures checks ≡ checks)
+pub record OnHead (head : List ℕ) : Type 0 where
+  pub check : OneOfTheNumbers (headRefused head)
+  pub run : (r : ℕ) → OneOfTheNumbers (runNumber head r)
+  pub alias : (e : ℕ) → OneOfTheNumbers (aliasNumber head e)
+  pub estimate : (e : ℕ) (t : ℤ) → OneOfTheNumbers (estimateNumber head e t)
+  pub pass : (f : ℕ) (column : List ℤ) → OneOfTheNumbers (called head (λ p. passRefused p f column))
+  pub step : (from to : List ℤ) → OneOfTheNumbers (called head (λ p. stepRefused p from to))
+  pub totals : (readings column : List ℤ) → OneOfTheNumbers (called head (λ p. totalsRefused p readings column))
+  pub recover : (ts column : List ℤ) → OneOfTheNumbers (called head (λ p. recoverRefused p ts column))
+  pub table : (readings : List ℤ) (marks : List ℕ) (column : List ℤ) (rows : List ℕ)
+      → OneOfTheNumbers (called head (λ p. tableRefused p readings marks column rows))
+  pub screen : (readings : List ℤ) (marks : List ℕ) (column : List ℤ) (rows : List ℕ)
+      → OneOfTheNumbers (called head (λ p. screenRefused p readings marks column rows))
+  -- D1.8: "and then writes nothing at all": each place at exit is that at entry
+  pub run-unwritten : (r high block : ℕ) → (runNumber head r ≡ 0 → ⊥) → (runHigh head r high ≡ high) × (runBlock head r block ≡ block)
+  pub alias-unwritten : (e word turned : ℕ) → (aliasNumber head e ≡ 0 → ⊥) → (aliasWord head e word ≡ word) × (aliasTurned head e turned ≡ turned)
+  pub estimate-unwritten : (e : ℕ) (t : ℤ) (kind : ℕ) (x : Float) → (estimateNumber head e t ≡ 0 → ⊥)
+      → (estimateKind head e t kind ≡ kind) × (estimateDouble head e t x ≡ x)
+  pub pass-unwritten : (f : ℕ) (column : List ℤ) → (called head (λ p. passRefused p f column) ≡ 0 → ⊥) → leaves head (λ p. passColumn p f column) column ≡ column
+  pub step-unwritten : (from to : List ℤ) → (called head (λ p. stepRefused p from to) ≡ 0 → ⊥) → leaves head (λ p. stepColumn p from to) to ≡ to
+  pub totals-unwritten : (readings column : List ℤ) → (called head (λ p. totalsRefused p readings column) ≡ 0 → ⊥)
+      → leaves head (λ p. totalsColumn p readings column) column ≡ column
+  pub recover-unwritten : (ts column : List ℤ) → (called head (λ p. recoverRefused p ts column) ≡ 0 → ⊥)
+      → leaves head (λ p. recoverColumn p ts column) column ≡ column
+
+-- ---- the others for other languages
+
+pub record ForC : Type 0 where
+  pub table : (p : Plan) (readings : List ℤ) (marks : List ℕ) (totals : List ℤ) (rows figures : List ℕ) (checks : List ℤ)
+      → OneOfTheNumbers (callRefused p readings marks totals rows figures checks)
+  pub sheet-table : (sheet : List ℕ) (m n : ℕ) → OneOfTheNumbers (sheetTableRefused sheet m n)
+  pub lists-unwritten : (k b room lists : ℕ) → (blockingsRefused k b room ≡ 0 → ⊥) → blockingsLists k b room lists ≡ lists
+  pub span-unwritten : (sheet : List ℕ) (room span : ℕ) → (readRefused sheet room ≡ 0 → ⊥) → readLength sheet room span ≡ span
+
+-- D1.8: whatever such a call's number m and plan p, where its answer n is not 0 all four slices are as they were
+pub record Unhanded (m : ℕ) (p : Plan) (readings : List ℤ) (marks : List ℕ) (totals : List ℤ) (rows figures : List ℕ) (checks : List ℤ) : Type 0 where
+  pub unwritten-all : {n : ℕ} {ts : List ℤ} {rs fs : List ℕ} {cs : List ℤ} → Handed m p readings marks totals rows figures checks n ts rs fs cs
+      → (n ≡ 0 → ⊥) → (ts ≡ totals) × (rs ≡ rows) × (fs ≡ figures) × (cs ≡ checks)

@@ -54,7 +54,7 @@ fn place(tag: u8) -> u8
 }
 
 // Whether a field is cut short, has a tag that comes before the one before it, an unknown tag or a wrong length.
-fn any_bad_field(sheet: &[u8]) -> bool
+pub fn any_bad_field(sheet: &[u8]) -> bool
     ensures { λ r. ⌜ r ≡ badFrom 0 (fieldsOf (now (sheet .entry))) ⌝ }
 {
     let mut last = 0;

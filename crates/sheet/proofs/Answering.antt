@@ -19,6 +19,7 @@ use Rattle.plan.specs.Check.{readingCount}
 use Rattle.plan.specs.Outcome.{Outcome, given, refused, outcome}
 use Rattle.plan.specs.Plan.{factorsOf, allReadings}
 use Rattle.plan.specs.Laws.Answers.{stopped, completed, unwritten, written-new}
+use Rattle.plan.specs.Laws.Sizes.{reading-count}
 use Rattle.columns.specs.Laws.Admitted.{all-readings}
 use Rattle.fields.specs.Fields.{fieldsOf, bodyAt}
 use Rattle.contents.specs.Contents.{planIn, readingsOf, readingsIn, marksIn}
@@ -26,8 +27,8 @@ use Rattle.sheet.specs.Sheet.{refusedWith, readRefused, noPlan, readPlan
 use Rattle.contents.specs.Held.{held}
 use Rattle.contents.specs.Laws.Readings.{readings-long}
 use Rattle.sheet.specs.Laws.Admitted.{read-admitted}
+use Rattle.sheet.specs.Laws.Holding.{held-with, narrow-by}
 use Rattle.contents.specs.Laws.Holding.{held-all}
-use Rattle.sheet.proofs.Holding.{held-with, narrow-by}
 
 module _ (sheet : List ℕ) {p : Plan} (is : p ≡ held (planIn (fieldsOf sheet))) where
   pub marks-refused : {n : ℕ} → n ≡ refusedWith (fieldsOf sheet) p false → n ≡ marksRefused sheet
@@ -37,10 +38,11 @@ module _ (sheet : List ℕ) {p : Plan} (is : p ≡ held (planIn (fieldsOf sheet)
   pub read-refused : (room : ℕ) {m n : ℕ} → m ≡ readingCount p → n ≡ refusedWith (fieldsOf sheet) p (ltb room m) → n ≡ readRefused sheet room
   unfolding readRefused held factorsOf
   read-refused room r e =
+      let q = held (planIn (fieldsOf sheet)) in
       e
       ∙ ap (λ i. refusedWith (fieldsOf sheet) p (ltb room i)) r
-      ∙ ap (λ q. refusedWith (fieldsOf sheet) q (ltb room (readingCount q))) is
-      ∙ narrow-by (fieldsOf sheet) (held (planIn (fieldsOf sheet))) room
+      ∙ ap (λ x. refusedWith (fieldsOf sheet) x (ltb room (readingCount x))) is
+      ∙ narrow-by (fieldsOf sheet) q (ltb room (readingCount q)) (ltb room (allReadings q)) (λ z. ap (ltb room) (reading-count q z))
       ∙ held-with (fieldsOf sheet) (planIn (fieldsOf sheet)) (ltb room (allReadings (planIn (fieldsOf sheet))))
 
 -- ---- the reader

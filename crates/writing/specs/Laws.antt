@@ -7,6 +7,7 @@
 --   Readings     the readings that are read back
 --   Plain        what is written are bytes
 --   RoundTrip    the law on the whole sheet
+--   Heads        the law on a plan alone
 pub mod Bytes
 pub mod Back
 pub mod Each
@@ -14,3 +15,4 @@ pub mod Plans
 pub mod Readings
 pub mod Plain
 pub mod RoundTrip
+pub mod Heads

@@ -1,4 +1,4 @@
--- The sheet of a plan, readings and marks.
+-- The sheet of a plan, readings and marks, and the bytes of a plan alone.
 --
 --   bytes n x               x in n bytes, the highest first
 --   bytesOf fs              the bytes of fields
@@ -8,7 +8,9 @@
 --   addedBody p i           the body of the field of added factor i
 --   blockBody p i           and of block word i
 --   repeatsFields p rest    the field of the repeats where runs are not made once, and then the rest
+--   headFields p rest       the fields of a plan, and then the rest
 --   sheetFields, sheetOf    the fields and the bytes of the whole sheet
+--   headOf p                the bytes of a plan alone
 --   settled p               the plan p with 0 at the places beyond its counts
 use mathlib.Core.Bool.{cond}
 use mathlib.Core.List.{List, [], _∷_, _++_}
@@ -58,14 +60,21 @@ blockBody p i = bytes 2 (getD (p .blockwords) i 0)
 abbrev pub repeatsFields : Plan → Fields → Fields
 repeatsFields p rest = each 6 (cond (eqb (p .repeats) 1) 0 1) (λ i. p .repeats ∷ []) rest
 
--- S4 to S8: "Tag 1, once [..]. Tag 2, per added factor [..]. Tag 3, per block word [..]. Tag 4, once [..]. Tag 5, once [..]."
--- S14: tag 6 "stands between tags 3 and 4"
+-- S4 to S6: "Tag 1, once [..]. Tag 2, per added factor [..]. Tag 3, per block word [..]."; S14: tag 6 "stands between tags 3 and 4"
+abbrev pub headFields : Plan → Fields → Fields
+headFields p rest =
+    field 1 (p .levels ∷ p .k ∷ []) (each 2 (p .added) (addedBody p) (each 3 (p .blocks) (blockBody p) (repeatsFields p rest)))
+
+-- S7, S8: "Tag 4, once [..]. Tag 5, once [..]."
 unfoldable pub sheetFields : Plan → List ℤ → List ℕ → Fields
-sheetFields p xs marks =
-    field 1 (p .levels ∷ p .k ∷ []) (each 2 (p .added) (addedBody p) (each 3 (p .blocks) (blockBody p) (repeatsFields p (field 4 (readingBytes xs) (field 5 marks end)))))
+sheetFields p xs marks = headFields p (field 4 (readingBytes xs) (field 5 marks end))
 
 unfoldable pub sheetOf : Plan → List ℤ → List ℕ → List ℕ
 sheetOf p xs marks = bytesOf (sheetFields p xs marks)
+
+-- the head of every such sheet
+unfoldable pub headOf : Plan → List ℕ
+headOf p = bytesOf (headFields p end)
 
 -- P10, P11: "Places beyond a plan's counts are ignored; the reader sets them to 0."
 unfoldable pub settled : Plan → Plan

@@ -1,16 +1,16 @@
 -- That the claim `LowestNumber` holds.
 --
 --   lowest-number    the proof
-use mathlib.Core.Path.{_≡_, refl}
+use mathlib.Core.Path.{_≡_, refl, ap, _∙_}
 use mathlib.Core.Bool.{Bool, true, false, cond, _||_}
-use mathlib.Core.List.{List, [], _∷_}
+use mathlib.Core.List.{List, [], _∷_, _++_}
 use Prim.Native.Nat.{ℕ}
-use lib.Dec.{ltb}
+use lib.Dec.{T, eqb, ltb}
 use lib.IntN.{ℤ}
 use lib.ListN.{length}
 use Rattle.plan.specs.declared.types.Plan.{Plan}
 use Rattle.plan.specs.Check.{planRefusals, planRefused, withPlan}
-use Rattle.plan.specs.Outcome.{Refusal, refusal, lowest, rank, Lowest}
+use Rattle.plan.specs.Outcome.{Refusal, refusal, lowest, rank, rising, Lowest}
 use Rattle.plan.specs.Plan.{allReadings}
 use Rattle.plan.specs.Limits.{readingLimit}
 use Rattle.plan.specs.Laws.Lowest.{is-lowest, with-plan, lowest-with-plan}
@@ -20,19 +20,21 @@ use Rattle.runs.specs.Run.{runRefusals, runRefused}
 use Rattle.aliases.specs.Alias.{aliasRefusals, aliasRefused}
 use Rattle.blockings.specs.Blockings.{blockingsRefusals, blockingsRefused}
 use Rattle.estimates.specs.Estimate.{estimateRefusals, estimateRefused}
-use Rattle.yates.specs.Calls.{passRefusals, passRefused, totalsRefusals}
+use Rattle.yates.specs.Calls.{passRefusals, passRefused, totalsRefusals, totalsRefused}
 use Rattle.recovery.specs.Calls.{recoverRefusals, recoverRefused}
-use Rattle.steps.specs.Step.{stepRefusals}
+use Rattle.steps.specs.Step.{stepRefusals, stepRefused}
 use Rattle.anova.specs.Table.{wrongLengths, tableRefusals, tableRefused}
 use Rattle.screening.specs.Screening.{screenRefusals, screenRefused}
 use Rattle.fields.specs.Fields.{Fields, fieldsOf}
 use Rattle.fields.specs.Tags.{badFields}
-use Rattle.contents.specs.Contents.{planIn}
+use Rattle.contents.specs.Contents.{needless, planIn}
 use Rattle.sheet.specs.Sheet.{sheetRefusals, refusedWith, readRefused, marksRefused}
 use Rattle.printing.specs.Printed.{longestSheet, printRefused}
-use Rattle.exported.specs.Whole.{wholePlan}
-use Rattle.exported.specs.Handed.{wrongRoom, roomRefused, callRefused}
-use Rattle.claims.specs.LowestNumber.{onPlan, onSheet, onBytes, tableRefusalsC, LowestNumber}
+use Rattle.heads.specs.Heads.{badHead, headPlan, headRefusals, headRefused, called}
+use Rattle.facts.specs.Facts.{runNumber, aliasNumber, estimateNumber}
+use Rattle.tables.specs.Handed.{wrongRoom, roomRefused, callRefused, wrongSlices, sheetTableRefused}
+use Rattle.lithgorn.specs.Whole.{wholePlan}
+use Rattle.claims.specs.LowestNumber.{onPlan, onSheet, onBytes, onHead, tableRefusalsC, LowestNumber}
 
 -- each list has its numbers written out, so that they stand in the order of checks is computed
 of-sheet : (fs : Fields) (narrow : Bool) → Lowest (refusedWith fs (planIn fs) narrow) (onSheet fs narrow)
@@ -65,8 +67,47 @@ of-table p readings marks column rows figures checks = by (wrongRoom (length fig
     by true = refl
     by false = refl
 
+-- a call on the plan of a head has one list of refusals: a needless field is judged between the plan's and the call's
+needless-first : (n : Bool) (further : List Refusal) → cond (eqb (cond n 16 0) 0) (lowest further) (cond n 16 0) ≡ cond n 16 (lowest further)
+needless-first true further = refl
+needless-first false further = refl
+
+of-plan : (p : Plan) (n : Bool) (further : List Refusal)
+    → cond (eqb (withPlan p (refusal 16 n ∷ [])) 0) (withPlan p further) (withPlan p (refusal 16 n ∷ [])) ≡ withPlan p (refusal 16 n ∷ further)
+unfolding withPlan
+of-plan p n further = by (eqb (planRefused p) 0) refl
+  where
+    by : (z : Bool) → eqb (planRefused p) 0 ≡ z
+        → cond (eqb (cond z (cond n 16 0) (planRefused p)) 0) (cond z (lowest further) (planRefused p)) (cond z (cond n 16 0) (planRefused p))
+        ≡ cond z (cond n 16 (lowest further)) (planRefused p)
+    by true e = needless-first n further
+    by false e = rw e refl
+
+of-head : (head : List ℕ) (number : Plan → ℕ) (further : List Refusal) → number (headPlan head) ≡ withPlan (headPlan head) further
+    → called head number ≡ lowest (onHead head further)
+unfolding called headRefused
+of-head head number further e = by (badHead (fieldsOf head))
+  where
+    p : Plan
+    p = headPlan head
+
+    own : List Refusal
+    own = headRefusals (fieldsOf head)
+
+    by : (bad : Bool) → cond (eqb (cond bad 1 (withPlan p own)) 0) (number p) (cond bad 1 (withPlan p own)) ≡ cond bad 1 (lowest (onPlan p (own ++ further)))
+    by true = refl
+    by false = rw e (of-plan p (needless (fieldsOf head)) further ∙ with-plan p (own ++ further))
+
+head-alone : (head : List ℕ) → headRefused head ≡ lowest (onHead head [])
+unfolding headRefused
+head-alone head = ap (cond (badHead (fieldsOf head)) 1) (with-plan (headPlan head) (headRefusals (fieldsOf head)))
+
+module _ (head : List ℕ) (number : Plan → ℕ) (further : List Refusal) where
+  on-head : number (headPlan head) ≡ withPlan (headPlan head) further → T (rising 0 (onHead head further)) → Lowest (called head number) (onHead head further)
+  on-head e t = rw (of-head head number further e) (is-lowest (onHead head further) t)
+
 pub lowest-number : LowestNumber
-unfolding planRefused runRefused aliasRefused estimateRefused blockingsRefused passRefused columnsRefused readingsRefused recoverRefused tableRefused screenRefused readRefused marksRefused rank
+unfolding planRefused runRefused aliasRefused estimateRefused blockingsRefused passRefused columnsRefused readingsRefused recoverRefused tableRefused screenRefused readRefused marksRefused runNumber aliasNumber estimateNumber sheetTableRefused rank
 lowest-number =
     record {
       check = λ p. is-lowest (planRefusals p) tt;
@@ -89,4 +130,17 @@ lowest-number =
       table-C = λ levels k r readings marks column rows figures checks.
           rw (of-table (wholePlan levels k r) readings marks column rows figures checks)
           (lowest-with-plan (wholePlan levels k r) (tableRefusalsC (wholePlan levels k r) readings marks column rows figures checks) tt);
+      check-head = λ head. rw (head-alone head) (is-lowest (onHead head []) tt);
+      run-head = λ head r. on-head head (λ p. runRefused p r) (runRefusals (headPlan head) r) refl tt;
+      alias-head = λ head e. on-head head (λ p. aliasRefused p e) (aliasRefusals (headPlan head) e) refl tt;
+      estimate-head = λ head e t. on-head head (λ p. estimateRefused p e t) (estimateRefusals (headPlan head) e t) refl tt;
+      pass-head = λ head f column. on-head head (λ p. passRefused p f column) (passRefusals (headPlan head) f column) refl tt;
+      step-head = λ head from to. on-head head (λ p. stepRefused p from to) (stepRefusals (headPlan head) from to) refl tt;
+      totals-head = λ head readings column. on-head head (λ p. totalsRefused p readings column) (totalsRefusals (headPlan head) readings column) refl tt;
+      recover-head = λ head ts column. on-head head (λ p. recoverRefused p ts column) (recoverRefusals (headPlan head) ts column) refl tt;
+      table-head = λ head readings marks column rows.
+          on-head head (λ p. tableRefused p readings marks column rows) (tableRefusals (headPlan head) readings marks column rows) refl tt;
+      screen-head = λ head readings marks column rows.
+          on-head head (λ p. screenRefused p readings marks column rows) (screenRefusals (headPlan head) readings marks column rows) refl tt;
+      table-sheet = λ sheet m n. of-sheet (fieldsOf sheet) (wrongSlices (planIn (fieldsOf sheet)) m n);
     }

@@ -1,29 +1,30 @@
 -- That the claims of `Refusals.antt` hold.
 --
 --   known refusals                      each number of these refusals is one of the numbers
---   on-any-plan, on-any-blockings, on-any-sheet, for-C    the proofs
-use mathlib.Core.Path.{_≡_, refl, sym}
+--   on-any-plan, on-any-blockings, on-any-sheet, on-any-head, for-C, unhanded    the proofs
+use mathlib.Core.Path.{_≡_, refl, sym, _∙_}
 use mathlib.Core.Bool.{Bool, true, false, cond, _&&_}
 use mathlib.Core.List.{List, [], _∷_}
 use Prim.Native.Nat.{ℕ}
 use native.Mathlib.Decide.{ℕ-discrete}
 use native.Mathlib.Omega.{arith}
-use lib.Dec.{T, leb, ltb, leb→le}
+use borrow.Author.Tests.{eq-eqb}
+use lib.Dec.{T, eqb, leb, ltb, leb→le}
 use lib.IntN.{ℤ}
 use lib.ListN.{length}
 use Rattle.algebra.specs.Laws.Tests.{and-left, and-right}
 use Rattle.plan.specs.declared.types.Plan.{Plan}
 use Rattle.plan.specs.Check.{planRefusals, planRefused, withPlan}
-use Rattle.plan.specs.Outcome.{Refusal, refusal, lowest, place}
-use Rattle.plan.specs.Laws.Answers.{unwritten, after-plan, plan-first}
+use Rattle.plan.specs.Outcome.{Refusal, refusal, lowest, place, written}
+use Rattle.plan.specs.Laws.Answers.{unwritten, written-new, after-plan, plan-first}
 use Rattle.columns.specs.Refusals.{columnsRefused, readingsRefused}
 use Rattle.runs.specs.Run.{runRefusals, runRefused}
 use Rattle.aliases.specs.Alias.{aliasRefusals, aliasRefused}
 use Rattle.blockings.specs.Blockings.{blockingsRefusals, blockingsRefused, blockingsColumn}
 use Rattle.estimates.specs.Estimate.{estimateRefusals, estimateRefused}
-use Rattle.yates.specs.Calls.{passRefusals, passRefused, passColumn, totalsRefusals, totalsColumn}
+use Rattle.yates.specs.Calls.{passRefusals, passRefused, passColumn, totalsRefusals, totalsRefused, totalsColumn}
 use Rattle.recovery.specs.Calls.{recoverRefusals, recoverRefused, recoverColumn}
-use Rattle.steps.specs.Step.{stepRefusals, stepColumn}
+use Rattle.steps.specs.Step.{stepRefusals, stepRefused, stepColumn}
 use Rattle.anova.specs.Table.{tableRefusals, tableRefused, tableTotals, tableRows}
 use Rattle.screening.specs.Screening.{screenRefusals, screenRefused, screenTotals, screenRows}
 use Rattle.fields.specs.Fields.{Fields, fieldsOf}
@@ -31,8 +32,11 @@ use Rattle.fields.specs.Tags.{badFields}
 use Rattle.contents.specs.Contents.{planIn}
 use Rattle.sheet.specs.Sheet.{sheetRefusals, refusedWith, readRefused, readColumn, marksRefused, marksOf}
 use Rattle.printing.specs.Printed.{longestSheet, printRefused}
-use Rattle.exported.specs.Handed.{wrongRoom, roomRefused, callRefused, callTotals, callRows, callFigures, callChecks}
-use Rattle.claims.specs.Refusals.{theNumbers, OneOfTheNumbers, OnPlan, OnBlockings, OnSheet, ForC}
+use Rattle.heads.specs.Heads.{badHead, headPlan, headRefusals, headRefused, called, leaves}
+use Rattle.facts.specs.Facts.{runNumber, runHigh, runBlock, aliasNumber, aliasWord, aliasTurned, estimateNumber, estimateKind, estimateDouble, blockingsLists}
+use Rattle.handed.specs.Sheets.{readLength}
+use Rattle.tables.specs.Handed.{wrongRoom, roomRefused, callRefused, wrongSlices, sheetTableRefused}
+use Rattle.claims.specs.Refusals.{theNumbers, OneOfTheNumbers, OnPlan, OnBlockings, OnSheet, OnHead, ForC, Unhanded}
 
 -- ---- the numbers
 
@@ -113,15 +117,83 @@ on-any-sheet sheet =
       marks-empty = λ n. sym (unwritten _ _ [] n);
     }
 
-pub for-C : (p : Plan) (readings : List ℤ) (marks : List ℕ) (totals : List ℤ) (rows figures : List ℕ) (checks : List ℤ)
-    → ForC p readings marks totals rows figures checks
-unfolding callRefused roomRefused tableRefused callTotals callRows callFigures callChecks known
-for-C p readings marks totals rows figures checks =
+-- the number of a call on the plan of a head
+of-head : (head : List ℕ) → OneOfTheNumbers (headRefused head)
+unfolding headRefused known
+of-head head = by (badHead (fieldsOf head))
+  where
+    by : (bad : Bool) → OneOfTheNumbers (cond bad 1 (withPlan (headPlan head) (headRefusals (fieldsOf head))))
+    by true = λ h. omega arith
+    by false = by-plan (headPlan head) (headRefusals (fieldsOf head)) tt
+
+on-head : (head : List ℕ) (number : Plan → ℕ) → OneOfTheNumbers (number (headPlan head)) → OneOfTheNumbers (called head number)
+unfolding called
+on-head head number own = by (eqb (headRefused head) 0)
+  where
+    by : (z : Bool) → OneOfTheNumbers (cond z (number (headPlan head)) (headRefused head))
+    by true = own
+    by false = of-head head
+
+-- what is left by a call that is refused for its head, or that its own number refuses
+unled : {A : Type 0} (head : List ℕ) (number : Plan → ℕ) (made : Plan → A) (old : A)
+    → (called head number ≡ 0 → ⊥) → ((number (headPlan head) ≡ 0 → ⊥) → made (headPlan head) ≡ old) → leaves head made old ≡ old
+unfolding called leaves
+unled head number made old h kept = by (ℕ-discrete (headRefused head) 0)
+  where
+    by : Dec (headRefused head ≡ 0) → written (headRefused head) (made (headPlan head)) old ≡ old
+    by (yes z) = sym (written-new (headRefused head) (made (headPlan head)) old z) ∙ kept (λ d. h (rw (eq-eqb (headRefused head) 0 z) d))
+    by (no z) = sym (unwritten (headRefused head) (made (headPlan head)) old z)
+
+pub on-any-head : (head : List ℕ) → OnHead head
+unfolding runNumber runHigh runBlock aliasNumber aliasWord aliasTurned estimateNumber estimateKind estimateDouble
+on-any-head head =
+    let own = on-any-plan (headPlan head) in
     record {
-      number = by (wrongRoom (length figures) (length checks));
-      unwritten-all = λ n. (sym (unwritten _ _ totals n), sym (unwritten _ _ rows n), sym (unwritten _ _ figures n), sym (unwritten _ _ checks n));
+      check = of-head head;
+      run = λ r. on-head head (λ p. runRefused p r) (own .run r);
+      alias = λ e. on-head head (λ p. aliasRefused p e) (own .alias e);
+      estimate = λ e t. on-head head (λ p. estimateRefused p e t) (own .estimate e t);
+      pass = λ f column. on-head head (λ p. passRefused p f column) (own .pass f column);
+      step = λ from to. on-head head (λ p. stepRefused p from to) (own .step from to);
+      totals = λ readings column. on-head head (λ p. totalsRefused p readings column) (own .totals readings column);
+      recover = λ ts column. on-head head (λ p. recoverRefused p ts column) (own .recover ts column);
+      table = λ readings marks column rows. on-head head (λ p. tableRefused p readings marks column rows) (own .table readings marks column rows);
+      screen = λ readings marks column rows. on-head head (λ p. screenRefused p readings marks column rows) (own .screen readings marks column rows);
+      run-unwritten = λ r high block n. (sym (unwritten _ _ high n), sym (unwritten _ _ block n));
+      alias-unwritten = λ e word turned n. (sym (unwritten _ _ word n), sym (unwritten _ _ turned n));
+      estimate-unwritten = λ e t kind x n. (sym (unwritten _ _ kind n), sym (unwritten _ _ x n));
+      pass-unwritten = λ f column n. unled head (λ p. passRefused p f column) (λ p. passColumn p f column) column n (own .pass-unwritten f column);
+      step-unwritten = λ from to n. unled head (λ p. stepRefused p from to) (λ p. stepColumn p from to) to n (own .step-unwritten from to);
+      totals-unwritten = λ readings column n.
+          unled head (λ p. totalsRefused p readings column) (λ p. totalsColumn p readings column) column n (own .totals-unwritten readings column);
+      recover-unwritten = λ ts column n. unled head (λ p. recoverRefused p ts column) (λ p. recoverColumn p ts column) column n (own .recover-unwritten ts column);
+    }
+
+pub for-C : ForC
+unfolding callRefused roomRefused tableRefused sheetTableRefused blockingsLists readLength known
+for-C =
+    record {
+      table = λ p readings marks totals rows figures checks.
+          roomed p readings marks totals rows (wrongRoom (length figures) (length checks));
+      sheet-table = λ sheet m n. of-sheet (fieldsOf sheet) (wrongSlices (planIn (fieldsOf sheet)) m n);
+      lists-unwritten = λ k b room lists n. sym (unwritten _ _ lists n);
+      span-unwritten = λ sheet room span n. sym (unwritten _ _ span n);
     }
   where
-    by : (room : Bool) → OneOfTheNumbers (cond room (roomRefused p) (tableRefused p readings marks totals rows))
-    by true = by-plan p (refusal 11 true ∷ []) tt
-    by false = by-plan p (tableRefusals p readings marks totals rows) tt
+    roomed : (p : Plan) (readings : List ℤ) (marks : List ℕ) (totals : List ℤ) (rows : List ℕ) (room : Bool)
+        → OneOfTheNumbers (cond room (roomRefused p) (tableRefused p readings marks totals rows))
+    roomed p readings marks totals rows true = by-plan p (refusal 11 true ∷ []) tt
+    roomed p readings marks totals rows false = by-plan p (tableRefusals p readings marks totals rows) tt
+
+pub unhanded : (m : ℕ) (p : Plan) (readings : List ℤ) (marks : List ℕ) (totals : List ℤ) (rows figures : List ℕ) (checks : List ℤ)
+    → Unhanded m p readings marks totals rows figures checks
+unhanded m p readings marks totals rows figures checks =
+    record {
+      unwritten-all = λ h z.
+          let stopped : (m ≡ 0 → ⊥) = λ d. z (h .number ∙ d) in (
+            h .totals-left ∙ sym (unwritten m _ totals stopped),
+            h .rows-left ∙ sym (unwritten m _ rows stopped),
+            h .figures-left ∙ sym (unwritten m _ figures stopped),
+            h .checks-left ∙ sym (unwritten m _ checks stopped),
+          );
+    }

@@ -5,11 +5,10 @@
 --   small-marks         marks to which refusal 13 does not apply are 0 or 1
 --   Lawful p marks      so many marks as the plan has rows, each 0 or 1
 --   marks-lawful        the marks of a sheet that the reader accepts
-use mathlib.Core.Path.{_≡_, refl, sym, ap, _∙_}
+use mathlib.Core.Path.{_≡_, refl}
 use mathlib.Core.Bool.{false, _&&_, _||_}
 use mathlib.Core.List.{List, []}
 use Prim.Native.Nat.{ℕ, _<_, _≤_}
-use native.Mathlib.Decide.{ℕ-discrete}
 use native.Mathlib.Nat.{le-trans}
 use borrow.Author.Tests.{le-ltb, ltb-false}
 use lib.Dec.{eqb, ltb}
@@ -17,30 +16,22 @@ use lib.ListN.{length, getD}
 use Rattle.algebra.specs.Laws.Search.{none-at}
 use Rattle.algebra.specs.Laws.Tests.{neither}
 use Rattle.plan.specs.declared.types.Plan.{Plan}
-use Rattle.plan.specs.Check.{planRefused}
 use Rattle.plan.specs.Plan.{allReadings, confoundedIn}
 use Rattle.plan.specs.Laws.Answers.{written-new}
 use Rattle.plan.specs.Laws.Sizes.{readings-few}
 use Rattle.rows.specs.Kinds.{rowsIn, badMark, badMarks}
 use Rattle.rows.specs.Laws.Rows.{rows-as-long}
-use Rattle.fields.specs.Fields.{Fields, fieldsOf}
+use Rattle.fields.specs.Fields.{fieldsOf}
 use Rattle.contents.specs.Contents.{planIn, marksIn}
-use Rattle.sheet.specs.Sheet.{refusedWith, readRefused, noPlan, readPlan, marksRefused, marksOf}
-use Rattle.sheet.specs.Laws.Admitted.{admits, own-refused, read-admitted}
+use Rattle.sheet.specs.Sheet.{readRefused, noPlan, readPlan, marksRefused, marksOf}
+use Rattle.sheet.specs.Laws.Admitted.{admits, read-admitted}
+use Rattle.sheet.specs.Laws.Holding.{narrow-by}
 
 pub same-refused : (sheet : List ℕ) (room : ℕ) → 1024 ≤ room → readRefused sheet room ≡ marksRefused sheet
 unfolding readRefused marksRefused
-same-refused sheet room h = by (ℕ-discrete (planRefused p) 0)
-  where
-    fs : Fields
-    fs = fieldsOf sheet
-
-    p : Plan
-    p = planIn fs
-
-    by : Dec (planRefused p ≡ 0) → refusedWith fs p (ltb room (allReadings p)) ≡ refusedWith fs p false
-    by (yes z) = ap (refusedWith fs p) (le-ltb room (allReadings p) (le-trans (readings-few p z) h))
-    by (no z) = own-refused fs p (ltb room (allReadings p)) z ∙ sym (own-refused fs p false z)
+same-refused sheet room h =
+    let p = planIn (fieldsOf sheet) in
+    narrow-by (fieldsOf sheet) p (ltb room (allReadings p)) false (λ z. le-ltb room (allReadings p) (le-trans (readings-few p z) h))
 
 pub record Lawful (p : Plan) (marks : List ℕ) : Type 0 where
   pub long : length marks ≡ rowsIn p

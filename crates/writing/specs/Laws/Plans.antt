@@ -2,8 +2,10 @@
 --
 --   settled-alike                a plan and the same with 0 beyond its counts are alike
 --   settled-same                 a plan that has 0 there stays as it is
---   plan-back                    what is read of the fields that are written
---   Bodies, the-bodies           the bodies of these fields
+--   sixBodies once r             the bodies of tag 6 where runs are made r times
+--   After rest                   what comes after the fields of a plan has none of these
+--   Bodies, the-bodies           the bodies of the fields of a plan, and of what comes after them
+--   plan-back                    the plan that is read of them
 --   at-most-one, not-needless    of tag 6 there is at most one, and it is not needless
 use mathlib.Core.Path.{_≡_, refl, sym, ap, _∙_}
 use mathlib.Core.Bool.{Bool, true, false, cond, not, _&&_}
@@ -14,7 +16,6 @@ use native.Mathlib.Nat.{add-zero}
 use native.Mathlib.Omega.{arith}
 use borrow.Author.Tests.{lt-ltb, le-ltb, eqb-true}
 use lib.Dec.{eqb, ltb}
-use lib.IntN.{ℤ}
 use lib.ListN.{length, getD, take}
 use lib.Seq.{length-take-le, getD-take}
 use Rattle.algebra.specs.Tab.{tab}
@@ -24,10 +25,10 @@ use Rattle.plan.specs.Plan.{wordCount, numberCount}
 use Rattle.plan.specs.Laws.Words.{counts-few}
 use Rattle.plan.specs.Laws.Alike.{Alike}
 use Rattle.numerals.specs.Numbers.{big}
-use Rattle.fields.specs.Fields.{Fields, end, field, bodies, bodyAt}
+use Rattle.fields.specs.Fields.{Fields, bodies, bodyAt}
 use Rattle.fields.specs.Tags.{atMostOnce}
 use Rattle.contents.specs.Contents.{byteAt, wordIn, repeatsIn, needless, planIn}
-use Rattle.writing.specs.Writer.{bytes, each, readingBytes, addedBody, blockBody, repeatsFields, sheetFields, settled}
+use Rattle.writing.specs.Writer.{bytes, each, addedBody, blockBody, repeatsFields, headFields, settled}
 use Rattle.writing.specs.Laws.Bytes.{two-back}
 use Rattle.writing.specs.Laws.Each.{each-other, each-count, each-at, each-past}
 use Rattle.writing.specs.RoundTrip.{Shaped, Clean}
@@ -86,7 +87,7 @@ settled-same p s c = λ i. record {
 -- ---- the bodies of the fields that are written
 
 -- of tag 6, where runs are made r times: none where that is once
-abbrev sixBodies : Bool → ℕ → List (List ℕ)
+abbrev pub sixBodies : Bool → ℕ → List (List ℕ)
 sixBodies once r = cond once [] ((r ∷ []) ∷ [])
 
 module _ (fs : Fields) (r : ℕ) (same : bodies 6 fs ≡ sixBodies (eqb r 1) r) where
@@ -113,49 +114,53 @@ module _ (fs : Fields) (r : ℕ) (same : bodies 6 fs ≡ sixBodies (eqb r 1) r) 
       by true e = sym (eqb-true r 1 e)
       by false e = refl
 
-module _ (p : Plan) (xs : List ℤ) (marks : List ℕ) where
-  abbrev after-repeats : Fields
-  after-repeats = field 4 (readingBytes xs) (field 5 marks end)
+-- what comes after the plan has no field of a plan
+pub record After (rest : Fields) : Type 0 where
+  pub no-ones : bodies 1 rest ≡ []
+  pub no-twos : bodies 2 rest ≡ []
+  pub no-threes : bodies 3 rest ≡ []
+  pub no-sixes : bodies 6 rest ≡ []
 
+module _ (p : Plan) (rest : Fields) where
   abbrev after-blocks : Fields
-  after-blocks = repeatsFields p after-repeats
+  after-blocks = repeatsFields p rest
 
   abbrev after-added : Fields
   after-added = each 3 (p .blocks) (blockBody p) after-blocks
 
   pub record Bodies : Type 0 where
-    pub ones : bodies 1 (sheetFields p xs marks) ≡ (p .levels ∷ p .k ∷ []) ∷ []
-    pub added-bodies : bodies 2 (sheetFields p xs marks) ≡ bodies 2 (each 2 (p .added) (addedBody p) after-added)
+    pub ones : bodies 1 (headFields p rest) ≡ (p .levels ∷ p .k ∷ []) ∷ []
+    pub added-bodies : bodies 2 (headFields p rest) ≡ bodies 2 (each 2 (p .added) (addedBody p) after-added)
     pub no-more-added : bodies 2 after-added ≡ []
-    pub block-bodies : bodies 3 (sheetFields p xs marks) ≡ bodies 3 after-added
+    pub block-bodies : bodies 3 (headFields p rest) ≡ bodies 3 after-added
     pub no-more-blocks : bodies 3 after-blocks ≡ []
-    pub sixes : bodies 6 (sheetFields p xs marks) ≡ sixBodies (eqb (p .repeats) 1) (p .repeats)
-    pub fours : bodies 4 (sheetFields p xs marks) ≡ readingBytes xs ∷ []
-    pub fives : bodies 5 (sheetFields p xs marks) ≡ marks ∷ []
+    pub sixes : bodies 6 (headFields p rest) ≡ sixBodies (eqb (p .repeats) 1) (p .repeats)
+    pub fours : bodies 4 (headFields p rest) ≡ bodies 4 rest
+    pub fives : bodies 5 (headFields p rest) ≡ bodies 5 rest
 
   -- of another tag the added factors and the block words have no field
   others : (t : ℕ) → (2 ≡ t → ⊥) → (3 ≡ t → ⊥) → bodies t (each 2 (p .added) (addedBody p) after-added) ≡ bodies t after-blocks
   others t h k = each-other 2 (p .added) (addedBody p) after-added t h ∙ each-other 3 (p .blocks) (blockBody p) after-blocks t k
 
   -- nor has the field of the repeats
-  no-repeats : (t : ℕ) → (6 ≡ t → ⊥) → bodies t after-blocks ≡ bodies t after-repeats
-  no-repeats t h = each-other 6 (cond (eqb (p .repeats) 1) 0 1) (λ i. p .repeats ∷ []) after-repeats t h
+  no-repeats : (t : ℕ) → (6 ≡ t → ⊥) → bodies t after-blocks ≡ bodies t rest
+  no-repeats t h = each-other 6 (cond (eqb (p .repeats) 1) 0 1) (λ i. p .repeats ∷ []) rest t h
 
   -- and of its own tag it is the only one
-  own : (once : Bool) → bodies 6 (each 6 (cond once 0 1) (λ i. p .repeats ∷ []) after-repeats) ≡ sixBodies once (p .repeats)
+  own : (once : Bool) → bodies 6 rest ≡ [] → bodies 6 (each 6 (cond once 0 1) (λ i. p .repeats ∷ []) rest) ≡ sixBodies once (p .repeats)
   unfolding each bodies
-  own true = refl
-  own false = refl
+  own true e = e
+  own false e = ap (λ bs. (p .repeats ∷ []) ∷ bs) e
 
-  pub the-bodies : Bodies
-  unfolding sheetFields bodies
-  the-bodies = record {
-    ones = ap (λ bs. (p .levels ∷ p .k ∷ []) ∷ bs) (others 1 (λ e. omega (arith, e)) (λ e. omega (arith, e)) ∙ no-repeats 1 (λ e. omega (arith, e)));
+  pub the-bodies : After rest → Bodies
+  unfolding bodies
+  the-bodies a = record {
+    ones = ap (λ bs. (p .levels ∷ p .k ∷ []) ∷ bs) (others 1 (λ e. omega (arith, e)) (λ e. omega (arith, e)) ∙ no-repeats 1 (λ e. omega (arith, e)) ∙ a .no-ones);
     added-bodies = refl;
-    no-more-added = each-other 3 (p .blocks) (blockBody p) after-blocks 2 (λ e. omega (arith, e)) ∙ no-repeats 2 (λ e. omega (arith, e));
+    no-more-added = each-other 3 (p .blocks) (blockBody p) after-blocks 2 (λ e. omega (arith, e)) ∙ no-repeats 2 (λ e. omega (arith, e)) ∙ a .no-twos;
     block-bodies = each-other 2 (p .added) (addedBody p) after-added 3 (λ e. omega (arith, e));
-    no-more-blocks = no-repeats 3 (λ e. omega (arith, e));
-    sixes = others 6 (λ e. omega (arith, e)) (λ e. omega (arith, e)) ∙ own (eqb (p .repeats) 1);
+    no-more-blocks = no-repeats 3 (λ e. omega (arith, e)) ∙ a .no-threes;
+    sixes = others 6 (λ e. omega (arith, e)) (λ e. omega (arith, e)) ∙ own (eqb (p .repeats) 1) (a .no-sixes);
     fours = others 4 (λ e. omega (arith, e)) (λ e. omega (arith, e)) ∙ no-repeats 4 (λ e. omega (arith, e));
     fives = others 5 (λ e. omega (arith, e)) (λ e. omega (arith, e)) ∙ no-repeats 5 (λ e. omega (arith, e));
   }
@@ -189,9 +194,9 @@ no-word : wordIn [] ≡ 0
 unfolding big
 no-word = refl
 
-pub plan-back : (p : Plan) (xs : List ℤ) (marks : List ℕ) → Shaped p → planIn (sheetFields p xs marks) ≡ settled p
+pub plan-back : (p : Plan) (rest : Fields) → After rest → Shaped p → planIn (headFields p rest) ≡ settled p
 unfolding planIn settled bodyAt
-plan-back p xs marks s = λ i. record {
+plan-back p rest a s = λ i. record {
   levels = ap (λ bs. byteAt 0 (getD bs 0 [])) (b .ones) i;
   k = ap (λ bs. byteAt 1 (getD bs 0 [])) (b .ones) i;
   added = counted 2 (p .added) (addedBody p) _ (b .added-bodies) (b .no-more-added) i;
@@ -199,8 +204,8 @@ plan-back p xs marks s = λ i. record {
   signs = placed 2 (p .added) 6 (addedBody p) _ (byteAt 2) (λ j. getD (p .signs) j 0) (b .added-bodies) (b .no-more-added) refl (λ j. sign-of (getD (p .words) j 0) (getD (p .signs) j 0)) i;
   blocks = counted 3 (p .blocks) (blockBody p) _ (b .block-bodies) (b .no-more-blocks) i;
   blockwords = placed 3 (p .blocks) 4 (blockBody p) _ wordIn (λ j. getD (p .blockwords) j 0) (b .block-bodies) (b .no-more-blocks) no-word (λ j. block-of (getD (p .blockwords) j 0) (s .blockwords-fit j)) i;
-  repeats = repeats-back (sheetFields p xs marks) (p .repeats) (b .sixes) i;
+  repeats = repeats-back (headFields p rest) (p .repeats) (b .sixes) i;
 }
   where
-    b : Bodies p xs marks
-    b = the-bodies p xs marks
+    b : Bodies p rest
+    b = the-bodies p rest a

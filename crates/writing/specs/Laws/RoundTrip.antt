@@ -10,7 +10,7 @@ use mathlib.Core.Logic.{_⊎_, inl, inr}
 use Prim.Native.Nat.{ℕ, _*_, _%_, _^_, _≤_, _<_}
 use native.Mathlib.Omega.{arith}
 use borrow.Author.Tests.{eq-eqb, le-ltb}
-use lib.Dec.{ltb}
+use lib.Dec.{eqb, ltb}
 use lib.IntN.{ℤ, natAbs}
 use lib.ListN.{length, getD, drop}
 use lib.Seq.{length-take-le, getD-take}
@@ -28,7 +28,7 @@ use Rattle.columns.specs.Refusals.{wrongReadings}
 use Rattle.columns.specs.Laws.Admitted.{all-within}
 use Rattle.rows.specs.Kinds.{rowsIn, wrongRows}
 use Rattle.rows.specs.Laws.Rows.{rows-few, same-marks}
-use Rattle.fields.specs.Fields.{Fields, end, field, fieldsOf, bodyAt}
+use Rattle.fields.specs.Fields.{Fields, end, field, fieldsOf, bodies, bodyAt}
 use Rattle.fields.specs.Tags.{tagRules, badFrom, anyWrongCount, badFields}
 use Rattle.contents.specs.Contents.{planIn, readingsOf, readingsIn, marksIn}
 use Rattle.sheet.specs.Sheet.{sheetRefused, readRefused, noPlan, readPlan, readColumn, marksRefused, marksOf}
@@ -37,7 +37,7 @@ use Rattle.sheet.specs.Laws.Marks.{small-marks, accepted-without}
 use Rattle.writing.specs.Writer.{bytes, readingBytes, addedBody, blockBody, repeatsFields, sheetFields, sheetOf, settled}
 use Rattle.writing.specs.Laws.Back.{read-back}
 use Rattle.writing.specs.Laws.Each.{each-whole, each-fine}
-use Rattle.writing.specs.Laws.Plans.{settled-alike, settled-same, Bodies, the-bodies, at-most-one, not-needless, plan-back}
+use Rattle.writing.specs.Laws.Plans.{settled-alike, settled-same, sixBodies, After, Bodies, the-bodies, at-most-one, not-needless, plan-back}
 use Rattle.writing.specs.RoundTrip.{Clean, AllBytes, Sheetable, ReadBack}
 use Rattle.writing.specs.Laws.Plain.{plain-append, plain-list, plain-bytes, plain-readings, plain-fields, plain-each}
 use Rattle.writing.specs.Laws.Readings.{reading-bytes-length, readings-back}
@@ -46,8 +46,31 @@ module _ {p : Plan} {xs : List ℤ} {marks : List ℕ} (g : Sheetable p xs marks
   abbrev fs : Fields
   fs = sheetFields p xs marks
 
-  b : Bodies p xs marks
-  b = the-bodies p xs marks
+  abbrev last-fields : Fields
+  last-fields = field 4 (readingBytes xs) (field 5 marks end)
+
+  after : After last-fields
+  unfolding bodies
+  after = record { no-ones = refl; no-twos = refl; no-threes = refl; no-sixes = refl }
+
+  b : Bodies p last-fields
+  b = the-bodies p last-fields after
+
+  ones : bodies 1 fs ≡ (p .levels ∷ p .k ∷ []) ∷ []
+  unfolding sheetFields
+  ones = b .ones
+
+  sixes : bodies 6 fs ≡ sixBodies (eqb (p .repeats) 1) (p .repeats)
+  unfolding sheetFields
+  sixes = b .sixes
+
+  fours : bodies 4 fs ≡ readingBytes xs ∷ []
+  unfolding sheetFields bodies
+  fours = b .fours
+
+  fives : bodies 5 fs ≡ marks ∷ []
+  unfolding sheetFields bodies
+  fives = b .fives
 
   alike : Alike (settled p) p
   alike = let s = sizes p (g .accepted) in settled-alike p (g .shaped) (s .1) (s .2)
@@ -80,7 +103,7 @@ module _ {p : Plan} {xs : List ℤ} {marks : List ℕ} (g : Sheetable p xs marks
       each-fine 2 (p .added) (addedBody p) _ (λ i. refl) (λ m h. each-fine 3 (p .blocks) (blockBody p) _ (λ i. refl) (λ l k. last-three l (omega arith)) m (omega arith)) 1 (omega arith)
 
   counts-right : anyWrongCount tagRules fs ≡ false
-  counts-right = rw (b .ones, b .fours, b .fives, at-most-one fs (p .repeats) (b .sixes)) refl
+  counts-right = rw (ones, fours, fives, at-most-one fs (p .repeats) sixes) refl
 
   fine : badFields fs ≡ false
   unfolding badFields
@@ -89,18 +112,19 @@ module _ {p : Plan} {xs : List ℤ} {marks : List ℕ} (g : Sheetable p xs marks
   -- ---- what they say
 
   plan-is : planIn fs ≡ settled p
-  plan-is = plan-back p xs marks (g .shaped)
+  unfolding sheetFields
+  plan-is = plan-back p last-fields after (g .shaped)
 
   small : (j : ℕ) → natAbs (read xs j) < 2 ^ 31
   small j = omega (arith, all-within (readingLimit p) xs (g .within) j, reading-fits p)
 
   readings-are : readingsIn fs ≡ xs
   unfolding bodyAt
-  readings-are = ap (λ bs. readingsOf (getD bs 0 [])) (b .fours) ∙ readings-back xs small
+  readings-are = ap (λ bs. readingsOf (getD bs 0 [])) fours ∙ readings-back xs small
 
   marks-are : marksIn fs ≡ marks
   unfolding bodyAt
-  marks-are = ap (λ bs. getD bs 0 []) (b .fives)
+  marks-are = ap (λ bs. getD bs 0 []) fives
 
   -- ---- that they are accepted
 
@@ -116,7 +140,7 @@ module _ {p : Plan} {xs : List ℤ} {marks : List ℕ} (g : Sheetable p xs marks
   asked narrow w = record {
     fields = fine;
     plan = rw plan-is (same-refused alike ∙ g .accepted);
-    needed = not-needless fs (p .repeats) (b .sixes);
+    needed = not-needless fs (p .repeats) sixes;
     wide = w;
     readings = rw (readings-are, plan-is) readings-right;
     marks = rw (marks-are, plan-is) rows-right;

@@ -1,0 +1,20 @@
+// Columns of a plan in bytes, and what a sheet holds, in places that the caller lends. They are for programs in other languages (crate
+// `lithgorn`).
+//
+//   pass(head, factor, column)              the pass of one factor, in place
+//   step(head, from, to)                    the report's step
+//   totals(head, readings, totals)          the totals of all effects
+//   recover(head, totals, readings)         the readings that have these totals
+//   read(sheet, readings, span)             the readings of a sheet, and how many of its first bytes are its plan
+//   marks(sheet)                            how many of its last bytes are its marks
+//
+// Each but the last gives 0 where it is done and the number of the refusal where it is not, and then no place that it was lent has changed.
+mod plans;
+mod sheets;
+
+pub use plans::pass;
+pub use plans::recover;
+pub use plans::step;
+pub use plans::totals;
+pub use sheets::marks;
+pub use sheets::read;

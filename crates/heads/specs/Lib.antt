@@ -1,0 +1,8 @@
+-- What a plan in bytes is.
+--
+--   Heads       the plan of a head, and what is refused of it
+--   Laws        laws on calls on such a plan
+--   Examples    small heads
+pub mod Heads
+pub mod Laws
+pub mod Examples
