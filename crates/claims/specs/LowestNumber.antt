@@ -36,8 +36,9 @@ use Rattle.sheet.specs.Sheet.{sheetRefusals, readRefused, marksRefused}
 use Rattle.printing.specs.Printed.{longestSheet, printRefused}
 use Rattle.heads.specs.Heads.{badHead, headPlan, headRefusals, headRefused, called}
 use Rattle.facts.specs.Facts.{runNumber, aliasNumber, estimateNumber}
-use Rattle.tables.specs.Handed.{wrongRoom, callRefused, wrongSlices, sheetTableRefused}
-use Rattle.lithgorn.specs.Whole.{wholePlan}
+use Rattle.figures.specs.Handed.{wrongRoom, callRefused}
+use Rattle.tables.specs.Sheets.{wrongSlices, sheetTableRefused}
+use Rattle.wholes.specs.Whole.{wholePlan}
 
 abbrev pub onPlan : Plan → List Refusal → List Refusal
 onPlan p further = planRefusals p ++ further

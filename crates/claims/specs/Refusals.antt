@@ -33,7 +33,8 @@ use Rattle.printing.specs.Printed.{printRefused}
 use Rattle.heads.specs.Heads.{headRefused, called, leaves}
 use Rattle.facts.specs.Facts.{runNumber, runHigh, runBlock, aliasNumber, aliasWord, aliasTurned, estimateNumber, estimateKind, estimateDouble, blockingsLists}
 use Rattle.handed.specs.Sheets.{readLength}
-use Rattle.tables.specs.Handed.{callRefused, sheetTableRefused, Handed}
+use Rattle.figures.specs.Handed.{callRefused, Handed}
+use Rattle.tables.specs.Sheets.{sheetTableRefused}
 
 -- D1.6, N14, N16 to N18, N21
 abbrev pub theNumbers : List ℕ

@@ -1,23 +1,19 @@
 -- A call that writes a column, on the plan of a head.
 --
---   told               an answer is one of its cases, and the number of that case is the lowest that applies
 --   column-stopped     a head that is refused: its number, and the column as it was
 --   column-told        else the number of the answer in each arm of a match, and the column that the call leaves: those of the head's plan
-use mathlib.Core.Path.{_≡_, sym, ap, _∙_}
+use mathlib.Core.Path.{_≡_}
 use mathlib.Core.List.{List}
 use Prim.Native.Nat.{ℕ}
 use lib.IntN.{ℤ}
 use Rattle.plan.specs.declared.types.Plan.{Plan}
 use Rattle.plan.specs.Outcome.{refusedOf, outcome}
-use Rattle.plan.specs.Laws.Answers.{refused-of}
 use Rattle.columns.specs.declared.types.Answer.{Answer}
 use Rattle.columns.specs.Refusals.{answerOutcome}
 use Rattle.contents.specs.Held.{held}
 use Rattle.heads.specs.Heads.{headPlan, headRefused, called, leaves}
 use Rattle.heads.specs.Laws.Called.{stops, keeps, goes, makes}
-
-pub told : {r s : Answer} {n : ℕ} → r ≡ s → answerOutcome r ≡ outcome n tt → refusedOf (answerOutcome s) ≡ n
-told {n = n} d e = ap refusedOf (ap answerOutcome (sym d) ∙ e) ∙ refused-of n tt
+use Rattle.handed.specs.Laws.Told.{told}
 
 module _ (head : List ℕ) (number : Plan → ℕ) (column : Plan → List ℤ) (old : List ℤ) where
   -- what the call promises of its number and of the column

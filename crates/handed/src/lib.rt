@@ -9,12 +9,15 @@
 //   marks(sheet)                            how many of its last bytes are its marks
 //
 // Each but the last gives 0 where it is done and the number of the refusal where it is not, and then no place that it was lent has changed.
-mod plans;
+mod passing;
+mod recovering;
 mod sheets;
+mod stepping;
+mod totalling;
 
-pub use plans::pass;
-pub use plans::recover;
-pub use plans::step;
-pub use plans::totals;
+pub use passing::pass;
+pub use recovering::recover;
 pub use sheets::marks;
 pub use sheets::read;
+pub use stepping::step;
+pub use totalling::totals;

@@ -1,4 +1,4 @@
 -- Laws that the proofs cite.
 --
---   Told     the number of an answer, in each arm of a match
+--   Told    what the estimate says of a total that it was handed as bits
 pub mod Told

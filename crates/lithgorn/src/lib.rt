@@ -6,7 +6,7 @@
 //   lithgorn_table, lithgorn_screen                                                 tables
 //   lithgorn_blockings                                                              every way to block a small plan
 //   lithgorn_read, lithgorn_marks, lithgorn_text, lithgorn_sheet_table              of a sheet
-//   yates_pass, yates_totals, yates_recover, anova_table                            of a whole plan, without added factors and block words (whole.rt)
+//   yates_pass, yates_totals, yates_recover, anova_table                            of a whole plan, without added factors and block words (crate `wholes`)
 //
 // In C a slice is a pointer and a length, and a place or an array a pointer alone. What is lent to one call must not overlap: the contracts below
 // take places that lie apart, as Rattle lends them; that a program in C lends such is assumed (docs/TRUST.md).
@@ -14,14 +14,7 @@ ghost use mathlib.Core.Path.{_≡_};
 ghost use mathlib.Core.List.{_++_};
 ghost use Prim.Native.Nat.{_-_};
 ghost use lib.ListN.{length, drop};
-
-mod whole;
-
 use printing::TEXT;
-pub use whole::anova_table;
-pub use whole::yates_pass;
-pub use whole::yates_recover;
-pub use whole::yates_totals;
 ghost use Rattle.blockings.specs.Blockings.{blockingsRefused, blockingsColumn};
 ghost use Rattle.yates.specs.Calls.{passRefused, passColumn, totalsRefused, totalsColumn};
 ghost use Rattle.steps.specs.Step.{stepRefused, stepColumn};
@@ -35,7 +28,9 @@ ghost use Rattle.printing.specs.Printed.{textOf};
 ghost use Rattle.heads.specs.Heads.{headPlan, headRefused, called, leaves};
 ghost use Rattle.facts.specs.Facts.{runNumber, runHigh, runBlock, aliasNumber, aliasWord, aliasTurned, estimateNumber, estimateKind, estimateDouble, blockingsLists};
 ghost use Rattle.handed.specs.Sheets.{readLength};
-ghost use Rattle.tables.specs.Handed.{sheetTableRefused, Handed};
+ghost use Rattle.figures.specs.Handed.{callRefused, Handed};
+ghost use Rattle.tables.specs.Sheets.{sheetTableRefused};
+ghost use Rattle.wholes.specs.Whole.{wholePlan};
 
 // The plan check.
 #[no_mangle]
@@ -211,4 +206,77 @@ pub extern "C" fn lithgorn_text(sheet: &[u8], text: &mut [u8; TEXT]) -> usize
     ensures { λ r. ⌜ now (text .exit) ≡ textOf (now (sheet .entry)) ++ drop r (now (text .entry)) ⌝ }
 {
     printing::print_sheet(sheet, text)
+}
+
+// The pass of one factor over a column, in place.
+#[no_mangle]
+pub extern "C" fn yates_pass(levels: u8, k: u8, factor: usize, column: &mut [i64]) -> u8
+    ensures { λ r. ⌜ r ≡ passRefused (wholePlan levels k 1) factor (now (column .entry)) ⌝ }
+    ensures { λ _. ⌜ now (column .exit) ≡ passColumn (wholePlan levels k 1) factor (now (column .entry)) ⌝ }
+{
+    wholes::pass(levels, k, factor, column)
+}
+
+// The totals of all effects.
+#[no_mangle]
+pub extern "C" fn yates_totals(
+    levels: u8,
+    k: u8,
+    repeats: u8,
+    readings: &[i32],
+    totals: &mut [i64],
+) -> u8
+    ensures { λ r. ⌜ r ≡ totalsRefused (wholePlan levels k repeats) (now (readings .entry)) (now (totals .entry)) ⌝ }
+    ensures { λ _. ⌜ now (totals .exit) ≡ totalsColumn (wholePlan levels k repeats) (now (readings .entry)) (now (totals .entry)) ⌝ }
+{
+    wholes::totals(levels, k, repeats, readings, totals)
+}
+
+// The readings that have these totals.
+#[no_mangle]
+pub extern "C" fn yates_recover(
+    levels: u8,
+    k: u8,
+    repeats: u8,
+    totals: &[i64],
+    readings: &mut [i32],
+) -> u8
+    ensures { λ r. ⌜ r ≡ recoverRefused (wholePlan levels k repeats) (now (totals .entry)) (now (readings .entry)) ⌝ }
+    ensures { λ _. ⌜ now (readings .exit) ≡ recoverColumn (wholePlan levels k repeats) (now (totals .entry)) (now (readings .entry)) ⌝ }
+{
+    wholes::recover(levels, k, repeats, totals, readings)
+}
+
+// The analysis of variance: totals, row numerators, and the figures as 11 numbers and the checks as 2, in the order that `figureNumbers` and
+// `checkNumbers` give.
+#[no_mangle]
+pub extern "C" fn anova_table(
+    levels: u8,
+    k: u8,
+    repeats: u8,
+    readings: &[i32],
+    marks: &[u8],
+    totals: &mut [i64],
+    rows: &mut [u64],
+    figures: &mut [u64],
+    checks: &mut [i64],
+) -> u8
+    ensures { λ r. ⌜ Handed
+        (callRefused (wholePlan levels k repeats) (now (readings .entry)) (now (marks .entry))
+        (now (totals .entry)) (now (rows .entry)) (now (figures .entry)) (now (checks .entry)))
+        (wholePlan levels k repeats) (now (readings .entry)) (now (marks .entry))
+        (now (totals .entry)) (now (rows .entry)) (now (figures .entry)) (now (checks .entry))
+        r (now (totals .exit)) (now (rows .exit)) (now (figures .exit)) (now (checks .exit)) ⌝ }
+{
+    wholes::table(
+        levels,
+        k,
+        repeats,
+        readings,
+        marks,
+        totals,
+        rows,
+        figures,
+        checks,
+    )
 }

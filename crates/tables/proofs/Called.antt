@@ -10,8 +10,8 @@ use Rattle.plan.specs.declared.types.Plan.{Plan}
 use Rattle.contents.specs.Held.{held}
 use Rattle.heads.specs.Heads.{headPlan, headRefused, called}
 use Rattle.heads.specs.Laws.Called.{stops, plan-is, goes}
-use Rattle.tables.specs.Handed.{Handed}
-use Rattle.tables.specs.Laws.Roomed.{stopped, same-call}
+use Rattle.figures.specs.Handed.{Handed}
+use Rattle.figures.specs.Laws.Roomed.{stopped, same-call}
 
 -- by the call's number for a plan
 module _ (head : List ℕ) (number : Plan → ℕ) {n : ℕ} (e : n ≡ headRefused head)

@@ -35,9 +35,10 @@ use Rattle.sheet.specs.Laws.Admitted.{Admitted, admitted}
 use Rattle.sheet.specs.Laws.Holding.{held-with, narrow-by}
 use Rattle.anova.specs.Table.{tableRefused}
 use Rattle.anova.specs.Laws.Admitted.{table-admits}
-use Rattle.tables.specs.Handed.{wrongSlices, sheetTableRefused, Handed}
+use Rattle.figures.specs.Handed.{Handed}
+use Rattle.tables.specs.Sheets.{wrongSlices, sheetTableRefused}
 use Rattle.tables.specs.Inner.Slices.{otherSlices}
-use Rattle.tables.specs.Laws.Roomed.{same-call}
+use Rattle.figures.specs.Laws.Roomed.{same-call}
 
 -- ---- the lengths
 

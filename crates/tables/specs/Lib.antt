@@ -1,8 +1,6 @@
--- What the calls for tables as numbers promise.
+-- What the calls for tables of plans in bytes and of sheets promise, besides `Handed` of the crate `figures`.
 --
---   Handed    the table as numbers in lent slices
---   Laws      laws on calls that are handed room, and on those that are not
+--   Sheets    the number of the table of a sheet
 --   Inner     what the inner functions ask and leave; no promise of a call
-pub mod Handed
-pub mod Laws
+pub mod Sheets
 pub mod Inner

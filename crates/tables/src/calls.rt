@@ -1,11 +1,11 @@
 // The tables of plans in bytes and of sheets.
 ghost use mathlib.Core.Path.{_≡_};
 ghost use lib.ListN.{length};
-use super::figures::screened;
-use super::figures::tabulate;
 use contents::plan_in;
 use contents::put_readings;
 use fields::body;
+use figures::screened;
+use figures::tabulate;
 use heads::refused;
 use plan::Plan;
 use rows::row_count;
@@ -16,7 +16,8 @@ ghost use Rattle.contents.specs.Contents.{planIn, readingsIn, marksIn};
 ghost use Rattle.anova.specs.Table.{tableRefused};
 ghost use Rattle.screening.specs.Screening.{screenRefused};
 ghost use Rattle.heads.specs.Heads.{headPlan, called};
-ghost use Rattle.tables.specs.Handed.{sheetTableRefused, Handed};
+ghost use Rattle.figures.specs.Handed.{Handed};
+ghost use Rattle.tables.specs.Sheets.{sheetTableRefused};
 ghost use Rattle.tables.specs.Inner.Slices.{otherSlices};
 
 // The most readings of a plan.
@@ -42,15 +43,8 @@ pub fn table(
     if n != 0 {
         return n;
     }
-    tabulate(
-        plan_in(head),
-        readings,
-        marks,
-        totals,
-        rows,
-        figures,
-        checks,
-    )
+    let p = plan_in(head);
+    tabulate(p, readings, marks, totals, rows, figures, checks)
 }
 
 // The same by the screening profile.
@@ -73,15 +67,8 @@ pub fn screen(
     if n != 0 {
         return n;
     }
-    screened(
-        plan_in(head),
-        readings,
-        marks,
-        totals,
-        rows,
-        figures,
-        checks,
-    )
+    let p = plan_in(head);
+    screened(p, readings, marks, totals, rows, figures, checks)
 }
 
 // Whether totals and rows have other lengths than the plan's.

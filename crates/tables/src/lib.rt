@@ -4,14 +4,10 @@
 //   table(head, readings, marks, totals, rows, figures, checks)    the table of a plan in bytes
 //   screen(the same)                                               the same by the screening profile
 //   sheet_table(sheet, totals, rows, figures, checks)              the table of a sheet
-//   tabulate(p, ..), wrong_room(m, n)                              the table of a plan, and whether slices have no room for its figures
 //
-// Each of the first three gives 0 where it is done and the number of the refusal where it is not, and then no place that it was lent has changed.
+// Each gives 0 where it is done and the number of the refusal where it is not, and then no place that it was lent has changed.
 mod calls;
-mod figures;
 
 pub use calls::screen;
 pub use calls::sheet_table;
 pub use calls::table;
-pub use figures::tabulate;
-pub use figures::wrong_room;

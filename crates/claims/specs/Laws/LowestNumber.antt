@@ -32,8 +32,9 @@ use Rattle.sheet.specs.Sheet.{sheetRefusals, refusedWith, readRefused, marksRef
 use Rattle.printing.specs.Printed.{longestSheet, printRefused}
 use Rattle.heads.specs.Heads.{badHead, headPlan, headRefusals, headRefused, called}
 use Rattle.facts.specs.Facts.{runNumber, aliasNumber, estimateNumber}
-use Rattle.tables.specs.Handed.{wrongRoom, roomRefused, callRefused, wrongSlices, sheetTableRefused}
-use Rattle.lithgorn.specs.Whole.{wholePlan}
+use Rattle.figures.specs.Handed.{wrongRoom, roomRefused, callRefused}
+use Rattle.tables.specs.Sheets.{wrongSlices, sheetTableRefused}
+use Rattle.wholes.specs.Whole.{wholePlan}
 use Rattle.claims.specs.LowestNumber.{onPlan, onSheet, onBytes, onHead, tableRefusalsC, LowestNumber}
 
 -- each list has its numbers written out, so that they stand in the order of checks is computed

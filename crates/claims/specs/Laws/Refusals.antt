@@ -35,7 +35,8 @@ use Rattle.printing.specs.Printed.{longestSheet, printRefused}
 use Rattle.heads.specs.Heads.{badHead, headPlan, headRefusals, headRefused, called, leaves}
 use Rattle.facts.specs.Facts.{runNumber, runHigh, runBlock, aliasNumber, aliasWord, aliasTurned, estimateNumber, estimateKind, estimateDouble, blockingsLists}
 use Rattle.handed.specs.Sheets.{readLength}
-use Rattle.tables.specs.Handed.{wrongRoom, roomRefused, callRefused, wrongSlices, sheetTableRefused}
+use Rattle.figures.specs.Handed.{wrongRoom, roomRefused, callRefused}
+use Rattle.tables.specs.Sheets.{wrongSlices, sheetTableRefused}
 use Rattle.claims.specs.Refusals.{theNumbers, OneOfTheNumbers, OnPlan, OnBlockings, OnSheet, OnHead, ForC, Unhanded}
 
 -- ---- the numbers

@@ -1,3 +1,4 @@
+use native.Mathlib.Omega.{arith}
 use borrow.Author.Needs.{needs}
 use Rattle.handed.proofs.Spans.{own-fit, marks-fit, read-done, read-stopped}
 use Rattle.handed.proofs.sheets.read.Statement.{statement}
@@ -15,12 +16,12 @@ read-spec =
     (λ c.
     let done = c .before .before in
     let told = done .before .before .before .read .ensures in
-    own-fit _ _ (done .enum-told .given .1) (told .0) (c .before .body .ensures))
+    omega (arith, own-fit _ _ (done .enum-told .given .1) (told .0) (c .before .body .ensures)))
     (λ c. search needs)
     (λ c.
     let done = c .before .before in
     let told = done .before .before .before .read .ensures in
-    marks-fit _ _ (done .enum-told .given .1) (told .0) (c .before .body .ensures) (c .body2 .ensures))
+    omega (arith, marks-fit _ _ (done .enum-told .given .1) (told .0) (c .before .body .ensures) (c .body2 .ensures)))
     (λ c. search needs)
     (λ c. search needs)
     (λ c.

@@ -8,8 +8,8 @@ use lib.ListN.{length}
 use lib.Seq.{length-take-le}
 use Rattle.contents.specs.Contents.{readingsOf}
 use Rattle.contents.specs.Laws.Readings.{readings-put}
-use Rattle.tables.specs.Handed.{sheetTableRefused}
-use Rattle.tables.specs.Laws.Roomed.{stopped}
+use Rattle.tables.specs.Sheets.{sheetTableRefused}
+use Rattle.figures.specs.Laws.Roomed.{stopped}
 use Rattle.tables.proofs.Sheets.{sheet-number, room-for, sheet-made, filled-long, filled-readings}
 use Rattle.tables.proofs.calls.sheet_table.Statement.{statement}
 use Rattle.tables.proofs.calls.sheet_table.Tie as tie
