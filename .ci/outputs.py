@@ -23,7 +23,8 @@
 # Each of these files also checks what it lists against rules/. Beside them published/analyses.py compares published
 # analyses of variance with rules/table.py, published/daniel.py published aliases with rules/totals.py, rules/blockings.py
 # its lists of block words with the plan check of rules/totals.py, rules/screening.py what meets in small plans with what
-# their words say, rules/recovery.py what it solves with the formula that divides by the divisors, cases/screen_cases.py
+# their words say, rules/recovery.py what it solves with the formula that divides by the divisors, rules/heads.py which bytes
+# are no plan with the sheets that begin with them, cases/library_cases.py which calls it makes, cases/screen_cases.py
 # counts the kinds of sheets that it makes, and cases/csv_cases.py tries tools/csv_sheet.py and compares the sheets of
 # examples/ with the lines that they are made from.
 #
@@ -37,10 +38,10 @@ from pathlib import Path
 ROOT = Path(__file__).resolve().parent.parent
 sys.path.insert(0, str(ROOT))
 
-from reference.cases import (answers, csv_cases, recovery_answers, screen_cases, screening_answers, sheet_cases,
-                             text_cases)
+from reference.cases import (answers, csv_cases, library_cases, recovery_answers, screen_cases, screening_answers,
+                             sheet_cases, text_cases)
 from reference.published import amcp, analyses, daniel, examples, yates
-from reference.rules import blockings, recovery, screening
+from reference.rules import blockings, heads, recovery, screening
 
 # Each program with the reference files that make what it must write, one after the other.
 PROGRAMS = [
@@ -56,7 +57,7 @@ PROGRAMS = [
 INPUTS = ["worked_readings", "worked_answers", "worked_sheets", "worked_texts"]
 
 # Reference files beside these that have something to check.
-OTHERS = [analyses, daniel, blockings, screening, recovery, screen_cases, csv_cases]
+OTHERS = [analyses, daniel, blockings, screening, recovery, heads, screen_cases, library_cases, csv_cases]
 
 
 def path_of(module):

@@ -4,7 +4,8 @@
 # column, this one adds up run sum times coefficient over all runs, so that an error of a pass cannot be in both.
 #
 # The other parts: table.py has the table and the estimate, sheet_bytes.py the sheet, text.py the printed text, blockings.py
-# the ways to block a small plan, screening.py the screening profile, recovery.py the readings back from totals.
+# the ways to block a small plan, screening.py the screening profile, recovery.py the readings back from totals, heads.py
+# plans in bytes and tables in numbers, as calls from C take and give them.
 #
 # Names: a plan has levels (2 or 3), k base factors, added factors (word, sign), block words and repeats: each run is made
 # so often. N is levels to the power k. A run or an effect is a number below N whose digits, lowest first, belong to the
