@@ -24,9 +24,9 @@
 # analyses of variance with rules/table.py, published/daniel.py published aliases with rules/totals.py, rules/blockings.py
 # its lists of block words with the plan check of rules/totals.py, rules/screening.py what meets in small plans with what
 # their words say, rules/recovery.py what it solves with the formula that divides by the divisors, rules/heads.py which bytes
-# are no plan with the sheets that begin with them, cases/library_cases.py which calls it makes, cases/screen_cases.py
-# counts the kinds of sheets that it makes, and cases/csv_cases.py tries tools/csv_sheet.py and compares the sheets of
-# examples/ with the lines that they are made from.
+# are no plan with the sheets that begin with them, cases/library_cases.py which calls it makes, cases/screen_cases.py counts
+# the kinds of sheets that it makes, and cases/csv_cases.py tries the modules of tools/ftab_parts that make, list, screen and
+# recover, and compares the sheets of examples/ with the lines that they are made from.
 #
 # Defined here:
 #   PROGRAMS, INPUTS, OTHERS   which file makes and checks what

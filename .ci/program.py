@@ -50,7 +50,7 @@ sys.path.insert(0, str(Path(__file__).resolve().parent.parent))
 from reference.cases import compare, screen_cases
 from reference.cases.answers import SIDES, about_limit, named
 from reference.cases.compare import difference
-from reference.cases.csv_cases import EXAMPLES, FOLDER
+from reference.cases.csv_cases import EXAMPLES, FOLDER, OWN_EXAMPLES
 from reference.cases.sheet_cases import Numbers
 from reference.cases.text_cases import RULES_SHEET
 from reference.published.analyses import MOST_REPEATED, THREE_BLOCKED
@@ -134,7 +134,7 @@ def sized(reader, contents):
 
 def stored(reader):
     """Runs on the sheets of examples/, each a file that is the input."""
-    paths = [FOLDER / (name + ".sheet") for name in EXAMPLES]
+    paths = [FOLDER / (name + ".sheet") for name in [*EXAMPLES, *OWN_EXAMPLES]]
     return [of_reader(reader, path.name, [], "<" + quote(str(path)), reader.text(path.read_bytes()), b"") for path in paths]
 
 

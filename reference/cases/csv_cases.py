@@ -1,5 +1,6 @@
-# Lines for tools/csv_sheet.py, with the message, the number of a refusal, the sheet or the lines of runs that each must give;
-# and the sheets of the examples, which are made from such lines.
+# Lines for the modules of tools/ftab_parts that make, list, screen and recover, with the message, the number of a refusal,
+# the sheet or the lines of runs that each must give; and the sheets of the examples, which are made from such lines. The
+# command itself, tools/ftab, is tried in .ci/command.py; here it is run where what it writes hangs on the lines.
 #
 # Defined here:
 #   UNCLEAR, SAME, REFUSED   lines that are not understood, that make the sheet of the rules, that make a refused sheet
@@ -13,7 +14,13 @@
 #   UNCLEAR_TOTALS           lines of totals that are not understood
 #   RUNS_BACK                lines of totals, and the lines of runs that the command writes of them
 #   REFUSED_TOTALS           lines of totals that the recovery call refuses, and what the command tells of them
+#   SAME_TEXTS               whole texts that make the sheet of the rules: other separators, quotes, codings, headers
+#   LEVELS_CODED             codings at three levels, by the cells of the three levels
+#   SCALED                   cells of readings with a scale, and the reading or the message
+#   NAMED                    lines of names, and the names of factors
+#   UNCLEAR_FORMS            lines with codings, scales, names, headers and quotes that are not understood
 #   EXAMPLES                 the stored examples, and the worked table of each
+#   OWN_EXAMPLES             the stored examples whose readings are not published, with what their lines hold
 #   TOTALS_EXAMPLES          the stored lines of totals, and the example whose runs come back
 #   check                    list of complaints, empty if all is well
 
@@ -26,8 +33,12 @@ from pathlib import Path
 ROOT = Path(__file__).resolve().parents[2]
 sys.path[:0] = [str(ROOT), str(ROOT / "tools")]
 
-from csv_sheet import (NotUnderstood, Refused, block_text, effect_label, field_causes, listing, make, places, recover,
-                       screened, text_of)
+from ftab_parts.causes import field_causes, places
+from ftab_parts.files import Problem, read_text
+from ftab_parts.listing import block_text, listing
+from ftab_parts.recover import effect_label, recovered
+from ftab_parts.screen import screened
+from ftab_parts.sheets import made
 from reference.cases import text_cases
 from reference.cases.answers import NINE
 from reference.published import analyses
@@ -51,6 +62,15 @@ EXAMPLES = {
 }
 TOTALS_EXAMPLES = {"four_runs_totals": "four_runs", "three_levels_totals": "three_levels"}
 
+# By plan, readings in the order of runs, the rows that are marked, names and scale.
+OWN_EXAMPLES = {
+    "fraction": (
+        Plan(2, 4, ((0b0111, 0),), (0b1011,)),
+        [-5017, -6501, -7033, -6862, -5609, -5504, -6145, -7460, -5026, -6792, -7539, -7128, -5627, -5843, -6666, -7641],
+        [0b0111, 0b1101, 0b1110, 0b1111],
+        {"A": "restart length", "B": "preconditioner", "C": "reordering", "D": "warm start", "E": "mixed precision"}, 1000),
+}
+
 
 # ---- lines ----
 
@@ -61,47 +81,56 @@ FOUR_LINES = ["levels,2", "factors,2", "run,0,0,3", "run,1,0,5", "run,0,1,4", "r
 UNCLEAR = [
     (1, "", "there is no line that begins with levels"),
     (2, "# factors,2", "there is no line that begins with factors"),
-    (1, "Levels,2", "line 1: 'Levels' is none of levels, factors, added, block, repeats, run, error"),
-    (1, "levels", "line 1: 1 cells, wanted 2"),
+    (1, "level,2", "line 1: 'level' is none of levels, factors, added, block, repeats, coding, scale, name, run, error"),
+    (1, "levels", "line 1: 1 cell, wanted 2"),
     (1, "levels,2,3", "line 1: 3 cells, wanted 2"),
     (1, "levels,two", "line 1: 'two' is no whole number from 0 to 255"),
     (1, "levels,256", "line 1: '256' is no whole number from 0 to 255"),
     (3, "levels,2", "line 3: levels is already in line 1"),
     (2, "factors,16", "line 2: no sheet holds the runs of 16 factors at 2 levels"),
     (2, "factors,255", "line 2: no sheet holds the runs of 255 factors at 2 levels"),
-    (2, "factors,3", "line 3: 4 cells, wanted 5: run, 3 levels, reading"),
+    (2, "factors,3", "line 3: 4 cells, wanted 5: run, 3 levels, 1 reading"),
     (4, "", "there is no line for the run 1,0"),
     (6, "run,0,1,8", "line 6: the run is already in line 5"),
-    (6, "run,1,2,8", "line 6: '2' is no whole number from 0 to 1"),
-    (6, "run,1,-1,8", "line 6: '-1' is no whole number from 0 to 1"),
-    (6, "run,1,1", "line 6: 3 cells, wanted 4: run, 2 levels, reading"),
-    (6, "run,1,1,", "line 6: 3 cells, wanted 4: run, 2 levels, reading"),
-    (6, "run,1,1,8.0", "line 6: '8.0' is no whole number from -2147483648 to 2147483647"),
-    (6, "run,1,1,8e3", "line 6: '8e3' is no whole number from -2147483648 to 2147483647"),
+    (6, "run,1,2,8", "line 6: '2' is no level; levels are 0 to 1, unless a line coding says otherwise"),
+    (6, "run,1,-1,8", "line 6: '-1' is no level; levels are 0 to 1, unless a line coding says otherwise"),
+    (6, "run,1,1", "line 6: 3 cells, wanted 4: run, 2 levels, 1 reading"),
+    (6, "run,1,1,", "line 6: 3 cells, wanted 4: run, 2 levels, 1 reading"),
+    (6, "run,1,1,8.0", "line 6: '8.0' is no whole number; for decimals there are lines such as scale,10"),
+    (6, "run,1,1,8.125", "line 6: '8.125' is no whole number; for decimals there are lines such as scale,1000"),
+    (6, "run,1,1,8e3", "line 6: '8e3' is no whole number; for decimals there are lines such as scale,10"),
+    (6, "run,1,1,eight", "line 6: 'eight' is no whole number from -2147483648 to 2147483647"),
     (6, "run,1,1,2147483648", "line 6: '2147483648' is no whole number from -2147483648 to 2147483647"),
     (6, "run,1,1,-2147483649", "line 6: '-2147483649' is no whole number from -2147483648 to 2147483647"),
     (7, "error,AC", "line 7: 'AC' is no row, for there are 2 factors"),
-    (7, "error,ab", "line 7: 'ab' is not made of different capital letters from A to P"),
-    (7, "error,AB\nerror,BA", "line 8: the row is already in a line above"),
-    (7, "block,AQ", "line 7: 'AQ' is not made of different capital letters from A to P"),
-    (7, "block,AA", "line 7: 'AA' is not made of different capital letters from A to P"),
-    (7, "block,", "line 7: 1 cells, wanted 2"),
-    (7, "block,AB2", "line 7: 'AB2' is not made of different capital letters from A to P"),
-    (7, "block,2", "line 7: '2' is not made of different capital letters from A to P"),
-    (7, "added,AB2,0", "line 7: 'AB2' is not made of different capital letters from A to P"),
-    (7, "error,AB2", "line 7: 'AB2' is not made of different capital letters from A to P"),
+    (7, "error,AC\nadded,AB,0",
+     "line 7: 'AC' is no row, for there are 2 factors; with the words of added factors it is in the row B"),
+    (7, "error,\u0131", "line 7: '\u0131' is not made of different letters from A to P"),
+    (7, "error,AB\nerror,BA", "line 8: the row AB is already in line 7"),
+    (7, "error,AB,b,ba", "line 7: the row AB is already in line 7"),
+    (7, "error,A,,B", "line 7: '' is not made of different letters from A to P"),
+    (7, "error", "line 7: 1 cell, wanted 2 or more"),
+    (7, "block,AQ", "line 7: 'AQ' is not made of different letters from A to P"),
+    (7, "block,AA", "line 7: 'AA' is not made of different letters from A to P"),
+    (7, "block,Aa", "line 7: 'Aa' is not made of different letters from A to P"),
+    (7, "block,", "line 7: 1 cell, wanted 2"),
+    (7, "block,AB2", "line 7: 'AB2' is not made of different letters from A to P"),
+    (7, "block,2", "line 7: '2' is not made of different letters from A to P"),
+    (7, "added,AB2,0", "line 7: 'AB2' is not made of different letters from A to P"),
+    (7, "error,AB2", "line 7: 'AB2' is not made of different letters from A to P"),
     (7, "added,AB", "line 7: 2 cells, wanted 3"),
-    (7, "added,,0", "line 7: '' is not made of different capital letters from A to P"),
+    (7, "added,,0", "line 7: '' is not made of different letters from A to P"),
     (7, "added,AB,256", "line 7: '256' is no whole number from 0 to 255"),
     (7, "repeats,2", "line 3: 4 cells, wanted 5: run, 2 levels, 2 readings"),
     (7, "repeats,0", "line 3: 4 cells, wanted 3: run, 2 levels, 0 readings"),
     (7, "repeats,1\nrepeats,1", "line 8: repeats is already in line 7"),
-    (7, "repeats", "line 7: 1 cells, wanted 2"),
+    (7, "repeats", "line 7: 1 cell, wanted 2"),
     (7, "repeats,2,2", "line 7: 3 cells, wanted 2"),
     (7, "repeats,twice", "line 7: 'twice' is no whole number from 0 to 255"),
     (7, "repeats,256", "line 7: '256' is no whole number from 0 to 255"),
     (7, "repeats,-1", "line 7: '-1' is no whole number from 0 to 255"),
-    (6, "run,1,1,8,9", "line 6: 5 cells, wanted 4: run, 2 levels, reading"),
+    (6, "run,1,1,8,9", "line 6: 5 cells, wanted 4: run, 2 levels, 1 reading"),
+    (6, "run", "line 6: 1 cell, wanted 4: run, 2 levels, 1 reading"),
 ]
 
 # The example with each run made twice, 8 and 9 the last; and the same of it.
@@ -109,14 +138,14 @@ TWICE_LINES = ["levels,2", "factors,2", "repeats,2", "run,0,0,3,5", "run,1,0,4,8
 TWICE_SHEET = sheet_bytes.write(Plan(2, 2, repeats=2), [3, 5, 4, 8, -1, 0, 8, 9], [0, 0, 0, 1])
 UNCLEAR_TWICE = [
     (3, "repeats,2\nrepeats,4", "line 4: repeats is already in line 3"),
-    (3, "", "line 4: 5 cells, wanted 4: run, 2 levels, reading"),
+    (3, "", "line 4: 5 cells, wanted 4: run, 2 levels, 1 reading"),
     (3, "repeats,4", "line 4: 5 cells, wanted 7: run, 2 levels, 4 readings"),
     (7, "run,1,1,8", "line 7: 4 cells, wanted 5: run, 2 levels, 2 readings"),
     (7, "run,1,1,8,", "line 7: 4 cells, wanted 5: run, 2 levels, 2 readings"),
     (7, "run,1,1,8,9,10", "line 7: 6 cells, wanted 5: run, 2 levels, 2 readings"),
     (7, "run,1,1,,9", "line 7: '' is no whole number from -2147483648 to 2147483647"),
-    (7, "run,1,1,8,9.5", "line 7: '9.5' is no whole number from -2147483648 to 2147483647"),
-    (7, "run,1,2,8,9", "line 7: '2' is no whole number from 0 to 1"),
+    (7, "run,1,1,8,9.5", "line 7: '9.5' is no whole number; for decimals there are lines such as scale,10"),
+    (7, "run,1,2,8,9", "line 7: '2' is no level; levels are 0 to 1, unless a line coding says otherwise"),
     (7, "run,0,1,8,9", "line 7: the run is already in line 6"),
     (7, "run,1,1,8\nrun,1,1,9", "line 7: 4 cells, wanted 5: run, 2 levels, 2 readings"),
     (5, "", "there is no line for the run 1,0"),
@@ -125,26 +154,27 @@ UNCLEAR_TWICE = [
 # Nine runs at three levels in three blocks.
 NINE_LINES = ["levels,3", "factors,2", "block,AB"] + [
     "run,%d,%d,%d" % (run % 3, run // 3, reading) for run, reading in enumerate(NINE)] + ["error,AB"]
-WORDS_WANTED = "different capital letters from A to P, each alone or with a 2 after it"
+WORDS_WANTED = "different letters from A to P, each alone or with a 2 after it"
 UNCLEAR_NINE = [
     (3, "block,%s" % cell, "line 3: '%s' is not made of %s" % (cell, WORDS_WANTED))
-    for cell in ("AA", "AA2", "A2BA", "AB3", "A1B2", "AB22", "2AB", "AB 2", "ab2", "AQ", "A-B", "7")
+    for cell in ("AA", "AA2", "A2BA", "AB3", "A1B2", "AB22", "2AB", "AB 2", "aB2b", "AQ", "A-B", "7")
 ] + [
     (3, "block,AP", "line 3: no sheet holds the word 'AP' at 3 levels"),
     (3, "block,AK2", "line 3: no sheet holds the word 'AK2' at 3 levels"),
     (3, "block,AB,", None),
     (3, "block,AB,2", "line 3: 3 cells, wanted 2"),
-    (3, "block", "line 3: 1 cells, wanted 2"),
-    (3, "added,AB2,0", "line 3: 'AB2' is not made of different capital letters from A to P"),
-    (13, "error,AB2", "line 13: 'AB2' is not made of different capital letters from A to P"),
-    (12, "run,2,3,9", "line 12: '3' is no whole number from 0 to 2"),
+    (3, "block", "line 3: 1 cell, wanted 2"),
+    (3, "added,AB2,0", "line 3: 'AB2' is not made of different letters from A to P"),
+    (13, "error,AB2", "line 13: 'AB2' is not made of different letters from A to P"),
+    (12, "run,2,3,9", "line 12: '3' is no level; levels are 0 to 2, unless a line coding says otherwise"),
 ]
 
 # Factors, a cell, the number that it stands for, and what the sheet is answered.
 THREE_WORDS = [
     (2, "AB", 4, 0), (2, "BA", 4, 0), (2, "AB2", 7, 0), (2, "B2A", 7, 0),
     (3, "ABC", 13, 0), (3, "ABC2", 22, 0), (3, "AB2C", 16, 0), (3, "AB2C2", 25, 0), (3, "C2BA", 22, 0), (3, "BC2", 21, 0),
-    (3, "AC", 10, 0), (3, "AC2", 19, 0), (2, "A", 1, 5), (2, "A2", 2, 5), (2, "B", 3, 5), (2, "A2B", 5, 5), (2, "BA2", 5, 5),
+    (3, "AC", 10, 0), (3, "AC2", 19, 0), (3, "c2ba", 22, 0), (2, "ab2", 7, 0),
+    (2, "A", 1, 5), (2, "A2", 2, 5), (2, "B", 3, 5), (2, "A2B", 5, 5), (2, "BA2", 5, 5),
     (2, "A2B2", 8, 5), (2, "B2", 6, 5), (2, "AC", 10, 5), (2, "C", 9, 5), (1, "AB", 4, 5), (2, "AK", 59050, 5),
     (2, "AJ2", 39367, 5), (3, "A2BC", 14, 5), (3, "B2C", 15, 5),
 ]
@@ -166,6 +196,128 @@ SAME = [
 def replaced(number, text, lines=FOUR_LINES):
     """The lines of an example, that of the rules if not said, one of them replaced."""
     return "\n".join(lines[:number - 1] + [text] + lines[number:])
+
+
+def recoded(coding, *cells):
+    """The lines of the rules' example, with a coding and the cells for its two levels."""
+    runs = [line.split(",") for line in FOUR_LINES[2:6]]
+    return "\n".join(FOUR_LINES[:2] + ["coding," + coding] + [
+        ",".join(["run", *(cells[int(level)] for level in run[1:3]), run[3]]) for run in runs] + FOUR_LINES[6:])
+
+
+# Whole texts of which the sheet is that of the rules' example.
+FOUR_TEXT = "\n".join(FOUR_LINES)
+QUOTED = "\n".join(",".join('"%s"' % cell for cell in line.split(",")) for line in FOUR_LINES)
+SAME_TEXTS = [
+    FOUR_TEXT.replace(",", ";"),
+    FOUR_TEXT.replace(",", "\t"),
+    FOUR_TEXT.replace(",", " ; "),
+    "# cells, parted otherwise, here\n\n" + FOUR_TEXT.replace(",", ";"),
+    QUOTED,
+    QUOTED.replace(",", ";"),
+    QUOTED.replace(",", "\t"),
+    FOUR_TEXT.upper(),
+    FOUR_TEXT.lower(),
+    FOUR_TEXT + '\n"# a comment, in ""quotes""",more',
+    FOUR_TEXT + '\n# a "quote that is not closed',
+    FOUR_TEXT + '\nname,A,"iterations, ""most"""',
+    recoded("0", "0", "1"),
+    recoded("0", "00", "+1"),
+    recoded("1", "1", "2"),
+    recoded("-", "-", "+"),
+    recoded("-1", "-1", "1"),
+    recoded("-", "-1", "+1"),
+    recoded("\u2212", "\u2212", "+"),
+    recoded("-", "-", "1"),
+    replaced(3, "run,A,B,reading\nrun,0,0,3"),
+    replaced(3, "Run,a,b\nrun,0,0,3\nrun,A,B,reading"),
+    "name,a,Iterations\nname,B,2nd pass\nrun,iterations,2nd Pass,y\nrun,A,2nd pass,y\n" + FOUR_TEXT,
+    "scale,1\n" + replaced(3, "run,0,0,3.0"),
+    "scale,1\n" + replaced(3, "run,0,0,.3e1"),
+    "scale;1\n" + FOUR_TEXT.replace(",", ";").replace("run;0;0;3", "run;0;0;3,000"),
+    "scale\t1\n" + FOUR_TEXT.replace(",", "\t").replace("run\t0\t0\t3", "run\t0\t0\t+3,"),
+]
+
+# A coding, and what it has for the three levels.
+LEVELS_CODED = [("0", "012"), ("1", "123"), ("-", "-0+"), ("-1", ("-1", "0", "1")), ("-", ("-", "0", "+1"))]
+
+# A scale, a cell of a reading, and the reading or the message; where cells are parted by semicolons.
+SCALED = [
+    (1000, "1.234", 1234), (1000, "-.5", -500), (1000, "7", 7000), (1000, "+7.", 7000), (1000, "1,234", 1234),
+    (1000, "1.2340000", 1234), (1000, "\u22120.001", -1), (1000, "1.2e-2", 12), (1000, "1.2E+1", 12000), (8, "0.125", 1),
+    (3, "0.5", "line 4: '0.5' times the scale 3 is not whole"),
+    (10 ** 12, "1.234e-9", 1234),
+    (1000, "0.0001", "line 4: '0.0001' times the scale 1000 is not whole"),
+    (1000, "1.2e-7", "line 4: '1.2e-7' times the scale 1000 is not whole"),
+    (1000, "2147483.648", "line 4: '2147483.648' times the scale 1000 is no whole number from -2147483648 to 2147483647"),
+    (1000, "1e999", "line 4: '1e999' times the scale 1000 is no whole number from -2147483648 to 2147483647"),
+    (1000, "-2147483.648", -2147483648),
+    (1000, "1.234.5", "line 4: '1.234.5' is no number"),
+    (1000, "1,234,5", "line 4: '1,234,5' is no number"),
+    (1000, "1.234,5", "line 4: '1.234,5' is no number"),
+    (1000, ".", "line 4: '.' is no number"),
+    (1000, "-", "line 4: '-' is no number"),
+    (1000, "n/a", "line 4: 'n/a' is no number"),
+    (1000, "nan", "line 4: 'nan' is no number"),
+    (1000, "0x10", "line 4: '0x10' is no number"),
+    (1000, "1e1000", "line 4: '1e1000' is no number"),
+    (1000, "1" * 41, "line 4: '%s' is no number" % ("1" * 41)),
+    (1000, "1" * 61, "line 4: '%s...' is no number" % ("1" * 60)),
+    (1000, "\x1b[31m\x07", "line 4: '?[31m?' is no number"),
+]
+
+# Lines before those of the rules' example, and the names and the scale that they give.
+NAMED = [
+    ("name,A,iterations", {"A": "iterations"}, 1),
+    ("name,b,x\nname,a,A", {"B": "x", "A": "A"}, 1),
+    ("name,C,warm start\nadded,AB,0\nscale,1", {"C": "warm start"}, 1),
+    ('name,A,"a, b"\nname,B,"the ""most""" ', {"A": "a, b", "B": 'the "most"'}, 1),
+    ("name,A,x\nscale,10", {"A": "x"}, 10),
+    ("# nothing", {}, 1),
+]
+
+# A number of a line of the rules' example, what stands there instead, and the message.
+NO_HEADER = "the header does not have the cells of a run: run, 2 levels, 1 reading"
+UNCLEAR_FORMS = [
+    (1, "levels,2\ncoding,2", "line 2: '2' is no coding: 0, 1 and - are"),
+    (1, "levels,2\ncoding,+", "line 2: '+' is no coding: 0, 1 and - are"),
+    (1, "levels,2\ncoding,0/1", "line 2: '0/1' is no coding: 0, 1 and - are"),
+    (1, "levels,2\ncoding,0\ncoding,0", "line 3: coding is already in line 2"),
+    (1, "levels,2\ncoding", "line 2: 1 cell, wanted 2"),
+    (1, "levels,2\ncoding,1", "line 4: '0' is no level; levels are 1 to 2"),
+    (1, "levels,2\ncoding,-", "line 4: '0' is no level; levels are - and +"),
+    (1, "levels,4\ncoding,-", "line 2: the coding - is for 2 or 3 levels, and there are 4"),
+    (3, "run,-,+,3", "line 3: '-' is no level; levels are 0 to 1, unless a line coding says otherwise"),
+    (3, "run,0,,3", "line 3: '' is no level; levels are 0 to 1, unless a line coding says otherwise"),
+    (1, "levels,2\nscale,0", "line 2: '0' is no whole number from 1 to 1000000000000000000"),
+    (1, "levels,2\nscale,1e3", "line 2: '1e3' is no whole number from 1 to 1000000000000000000"),
+    (1, "levels,2\nscale,10\nscale,10", "line 3: scale is already in line 2"),
+    (1, "levels,2\nname,A", "line 2: 2 cells, wanted 3"),
+    (1, 'levels,2\nname,A,""', "line 2: 2 cells, wanted 3"),
+    (1, "levels,2\nname,C,x", "line 2: 'C' is no factor; there are A, B"),
+    (1, "levels,2\nname,AB,x", "line 2: 'AB' is no factor; there are A, B"),
+    (1, "levels,2\nname,,x", "line 2: '' is no factor; there are A, B"),
+    (1, "levels,2\nname,A,x\nname,a,y", "line 3: A has already the name 'x'"),
+    (1, "levels,2\nname,A,x\nname,B,X", "line 3: the name 'X' is already that of another factor"),
+    (1, "levels,2\nname,A,b", "line 2: 'b' is the letter of a factor and no name of A"),
+    (1, "levels,2\nname,A,x\x1b[31m", "line 2: the name of A has a character that cannot be printed"),
+    (3, "run,A,reading", "line 3: the header has 'reading' where B is wanted"),
+    (3, "run,B,A,reading", "line 3: the header has 'B' where A is wanted"),
+    (3, "run,A", "line 3: " + NO_HEADER),
+    (3, "run,A,B,C", "there is no line for the run 0,0"),
+    (3, "run,A,B,C\nadded,AB,0", "line 3: " + NO_HEADER),
+    (3, "run,A,B,A", "line 3: " + NO_HEADER),
+    (3, "run,A,B,reading,more", "line 3: " + NO_HEADER),
+    (3, "name,B,depth\nrun,A,width,reading", "line 4: the header has 'width' where B or 'depth' is wanted"),
+    (3, "run,A,B,3", "line 3: 'A' is no level; levels are 0 to 1, unless a line coding says otherwise"),
+    (3, 'run,"0,0,3', "line 3: a cell begins with a quote and does not end with one"),
+    (3, 'run,0,0,"3" "4"', "line 3: a cell begins with a quote and does not end with one"),
+    (3, 'run,0,0,"3\n"', "line 3: a cell begins with a quote and does not end with one"),
+    (3, "run;0;0;3", "line 3: 'run;0;0;3' is none of levels, factors, added, block, repeats, coding, scale, name, run, "
+     "error; cells are parted by commas here"),
+    (3, "sum,0,0,3", "line 3: the readings of a run are wanted, and here is their sum, from which they cannot be told"),
+    (3, ",0,0,3", "line 3: '' is none of levels, factors, added, block, repeats, coding, scale, name, run, error"),
+]
 
 
 def repeated(repeats):
@@ -213,13 +365,13 @@ REPEATS_TOLD = [
     (2, ""),
     (4, ""),
     (8, ""),
-    (3, "factab will answer: refused 16 (%s; 2 runs, repeats 3)\n" % WORDS_OF_16),
-    (0, "factab will answer: refused 16 (%s; 2 runs, repeats 0)\n" % WORDS_OF_16),
+    (3, "refused 16 (%s; 2 runs, repeats 3 in line 3)\n" % WORDS_OF_16),
+    (0, "refused 16 (%s; 2 runs, repeats 0 in line 3)\n" % WORDS_OF_16),
 ]
 
-AT_THREE_4 = "factab will answer: refused 4 (at three levels an added factor, or a second block word)\n"
-AT_THREE_5 = ("factab will answer: refused 5 (at three levels a block word with a letter beyond k, under two letters, or a 2 "
-              "after the first of them in the alphabet)\n")
+AT_THREE_4 = "refused 4 (at three levels an added factor, or a second block word)\n"
+AT_THREE_5 = ("refused 5 (at three levels a block word with a letter beyond k, under two letters, or a 2 after the first of "
+              "them in the alphabet; the word in line 3)\n")
 
 # What stands for the third of the nine runs' lines, and what the command tells of the sheet.
 WORDS_TOLD = [
@@ -287,13 +439,16 @@ TWICE_TOTALS = ["levels,2", "factors,2", "repeats,2"] + FOUR_TOTALS[2:]
 EIGHT_TOTALS = ["levels,2", "factors,3", "added,ABC,1", "block,AB"] + ["total,%s,%d" % pair for pair in zip(
     "mean A B AB C AC BC ABC".split(), (36, -4, -8, 0, -16, 0, 0, 0))] + ["error,BC"]
 
-WORDS_OF_TWO = "different capital letters from A to P"
+WORDS_OF_TWO = "different letters from A to P"
 NO_KIND = "'%s' is none of levels, factors, added, block, repeats, total, error"
 UNCLEAR_TOTALS = [(FOUR_TOTALS, *own) for own in (
     (3, "run,0,0,3", "line 3: totals are wanted, and here is a run, which is for make"),
     (3, "total,mean,20\nrun,0,0,3", "line 4: totals are wanted, and here is a run, which is for make"),
     (3, "sum,0,0,3", "line 3: " + NO_KIND % "sum"),
-    (3, "Total,mean,20", "line 3: " + NO_KIND % "Total"),
+    (3, "totals,mean,20", "line 3: " + NO_KIND % "totals"),
+    (3, "scale,10", "line 3: totals are whole numbers, and a scale is for readings"),
+    (3, "coding,-", "line 3: a coding is of levels of runs, and here are totals"),
+    (3, "name,A,iterations", "line 3: names of factors are for make"),
     (1, "", "there is no line that begins with levels"),
     (2, "", "there is no line that begins with factors"),
     (1, "levels,2\nlevels,2", "line 2: levels is already in line 1"),
@@ -306,11 +461,12 @@ UNCLEAR_TOTALS = [(FOUR_TOTALS, *own) for own in (
     (6, "total,AC,2", "line 6: 'AC' is no effect, for there are 2 factors"),
     (6, "total,P,2", "line 6: 'P' is no effect, for there are 2 factors"),
     (6, "total,AB2,2", "line 6: 'AB2' is not made of " + WORDS_OF_TWO),
-    (6, "total,ab,2", "line 6: 'ab' is not made of " + WORDS_OF_TWO),
+    (6, "total,aB,2\ntotal,AB,2", "line 7: the total is already in line 6"),
     (6, "total,AA,2", "line 6: 'AA' is not made of " + WORDS_OF_TWO),
     (6, "total,3,2", "line 6: '3' is not made of " + WORDS_OF_TWO),
     (6, "total,,2", "line 6: '' is not made of " + WORDS_OF_TWO),
-    (6, "total,Mean,2", "line 6: 'Mean' is not made of " + WORDS_OF_TWO),
+    (6, "total,Mean,2", "line 6: the total is already in line 3"),
+    (6, "total,means,2", "line 6: 'means' is not made of " + WORDS_OF_TWO),
     (6, "total,AB", "line 6: 2 cells, wanted 3"),
     (6, "total,AB,", "line 6: 2 cells, wanted 3"),
     (6, "total,AB,2,3", "line 6: 4 cells, wanted 3"),
@@ -322,7 +478,7 @@ UNCLEAR_TOTALS = [(FOUR_TOTALS, *own) for own in (
     (6, "total,AB,18446744073709551618",
      "line 6: '18446744073709551618' is no whole number from -9223372036854775808 to 9223372036854775807"),
     (7, "error,AC", "line 7: 'AC' is no row, for there are 2 factors"),
-    (7, "error,AB\nerror,BA", "line 8: the row is already in a line above"),
+    (7, "error,AB\nerror,BA", "line 8: the row AB is already in line 7"),
 )] + [(THREE_TOTALS, *own) for own in (
     (5, "", "there is no line for the total of A2"),
     (5, "total,A,-5", "line 5: the total is already in line 4"),
@@ -351,6 +507,7 @@ RUNS_BACK = [
     (FOUR_TOTALS, FOUR_BACK),
     (FOUR_TOTALS[::-1], FOUR_BACK),
     (["# archived", *FOUR_TOTALS[:5], 'total, "BA" , +2 ,# of A and B', "error,BA", "repeats,1", ""], FOUR_BACK),
+    ([line.replace(",", ";").upper() for line in FOUR_TOTALS], FOUR_BACK),
     (FOUR_TOTALS[:6], FOUR_BACK.replace("error,AB\n", "")),
     (THREE_TOTALS, """# 3 runs, 2 rows
 levels,3
@@ -365,6 +522,9 @@ levels,3
 factors,2
 block,AB2
 # lost to blocks: 2 degrees of AB
+# block 0: 00 11 22
+# block 1: 10 21 02
+# block 2: 20 01 12
 # after run the levels of these, then the reading: A B
 run,0,0,2,# block 0
 run,1,0,5,# block 1
@@ -375,15 +535,22 @@ run,2,1,6,# block 1
 run,0,2,7,# block 1
 run,1,2,8,# block 2
 run,2,2,9,# block 0
-error,B
+error,B,# the main effect of B
 error,AB
 """),
     (EIGHT_TOTALS, """# 8 runs, 8 rows
 levels,2
 factors,3
-added,ABC,1,# D is high when an even number of these are
+added,ABC,1,# D = -ABC: D is high when an even number of these are
+# aliases, high minus low, of main effects and of interactions of two factors:
+# AB = -CD, lost to blocks
+# AC = -BD
+# BC = -AD
+# ABC = -D
 block,AB
 # lost to blocks: AB
+# block 0: d abd c abc
+# block 1: a b acd bcd
 # after run the levels of these, then the reading: A B C
 run,0,0,0,1,# d in block 0
 run,1,0,0,2,# a in block 1
@@ -477,11 +644,16 @@ def lines_and_sheet(levels, reading):
 
 # ---- checks ----
 
+def make(text):
+    """The sheet of lines."""
+    return made(text).sheet
+
+
 def message_of(text):
     """The message about lines that are not understood, None for others."""
     try:
-        make(text)
-    except NotUnderstood as why:
+        made(text)
+    except Problem as why:
         return str(why)
     return None
 
@@ -508,40 +680,70 @@ def check_make():
     for lines in (TWICE_LINES, list(reversed(TWICE_LINES))):
         if make("\n".join(lines)) != TWICE_SHEET:
             complaints.append("%r: another sheet" % lines[0])
-    for text in [replaced(number, text) for number, text in SAME] + ["\n".join(reversed(FOUR_LINES))]:
-        if make(text) != text_cases.RULES_SHEET:
-            complaints.append("%r: another sheet" % text)
+    for text in [replaced(number, text) for number, text in SAME] + ["\n".join(reversed(FOUR_LINES))] + SAME_TEXTS:
+        if message_of(text) or make(text) != text_cases.RULES_SHEET:
+            complaints.append("%r: another sheet, or none: %s" % (text, message_of(text)))
+    return complaints
+
+
+def scaled(scale, cell):
+    """The reading of a cell with a scale, by its sheet, or the message."""
+    text = "levels;2\nfactors;1\nscale;%d\nrun;0;%s\nrun;1;0" % (scale, cell)
+    return message_of(text) or sheet_bytes.contents_of(sheet_bytes.fields_of(make(text))).readings[0]
+
+
+def check_forms():
+    """Complaints about scales, names, headers and quotes."""
+    complaints = ["%r: message %s" % (text, message_of(replaced(number, text))) for number, text, message in UNCLEAR_FORMS
+                  if message_of(replaced(number, text)) != message]
+    complaints += ["scale %d, %r: %s" % (scale, cell, scaled(scale, cell)) for scale, cell, meant in SCALED
+                   if scaled(scale, cell) != meant]
+    for lines, names, scale in NAMED:
+        own = made(lines + "\n" + FOUR_TEXT)
+        if (own.names, own.scale) != (names, scale):
+            complaints.append("%r: other names, or another scale" % lines)
+    return complaints
+
+
+def check_codings():
+    """Complaints about codings at three levels."""
+    complaints = []
+    for coding, cells in LEVELS_CODED:
+        lines = "levels,3\nfactors,1\ncoding,%s\nrun,%s,2\nrun,%s,5\nrun,%s,3" % (coding, *cells)
+        if make(lines) != sheet_bytes.write(Plan(3, 1), [2, 5, 3], [0, 0]):
+            complaints.append("coding %s at three levels: another sheet" % coding)
     return complaints
 
 
 def command_says(lines):
-    """What the command writes of lines: the sheet, and the message."""
-    return command_writes("make", lines.encode())
-
-
-def command_writes(way, content):
-    """What the command writes of a file with some content, to standard output and to standard error."""
-    return command_ends(way, content)[:2]
+    """What the command writes of lines: the sheet, also where it is refused, and the message; and its exit status."""
+    return command_ends(["make", "-o", "-", "--anyway"], lines.encode())
 
 
 def command_ends(way, content):
-    """The same, where a message begins with the file without that, and the exit status."""
+    """What the command writes of a file with some content, to standard output and to standard error, there without its name
+    and that of the file; and its exit status."""
     with tempfile.TemporaryDirectory() as folder:
         path = Path(folder) / "content"
         path.write_bytes(content)
-        found = subprocess.run([sys.executable, "-B", str(ROOT / "tools" / "csv_sheet.py"), way, str(path)],
+        found = subprocess.run([sys.executable, "-B", str(ROOT / "tools" / "ftab"), *way, str(path)],
                                stdout=subprocess.PIPE, stderr=subprocess.PIPE)
-        return found.stdout, found.stderr.decode().replace("%s: " % path, ""), found.returncode
+        return found.stdout, found.stderr.decode().replace("ftab: %s: " % path, ""), found.returncode
+
+
+def told(message):
+    """A message of the command, and the exit status that belongs to it."""
+    return message, 1 if message else 0
 
 
 def check_limits():
     """Complaints about the command on readings about the limits: the sheet is written, and a message where it is refused,
-    which names the readings beyond the limit of their level count and no others."""
+    which names the readings beyond the limit of their level count and no others, with their lines."""
     complaints = []
     for levels, reading, refused in ABOUT_LIMITS:
         lines, own_sheet = lines_and_sheet(levels, reading)
-        message = "factab will answer: refused 12 (%s; run 0 has %d)\n" % (WORDS_OF_12, reading) if refused else ""
-        if command_says(lines) != (own_sheet, message):
+        message = "refused 12 (%s; run 0 in line 3 has %d)\n" % (WORDS_OF_12, reading) if refused else ""
+        if command_says(lines) != (own_sheet, *told(message)):
             complaints.append("%d levels, reading %d: sheet or message" % (levels, reading))
     if places(12, sheet_bytes.Contents(Plan(2, 1), [MOST_READING[2] + 1, MOST_READING[3] + 1], b"\0\0")) != [
             "run 0 has %d" % (MOST_READING[2] + 1)]:
@@ -554,7 +756,7 @@ def check_repeats():
     complaints = []
     for repeats, message in REPEATS_TOLD:
         own_sheet = sheet_bytes.write(Plan(2, 1, repeats=repeats), [7] * 2 * repeats, [0, 0])
-        if command_says(repeated(repeats)) != (own_sheet, message):
+        if command_says(repeated(repeats)) != (own_sheet, *told(message)):
             complaints.append("%d repeats: sheet or message" % repeats)
     if places(12, sheet_bytes.Contents(Plan(2, 1, repeats=2), [0, 0, 0, MOST_READING[2] + 1], b"\0\0")) != [
             "run 1 has %d" % (MOST_READING[2] + 1)]:
@@ -580,14 +782,14 @@ def check_three_words():
     complaints = []
     for k, cell, word, refused in THREE_WORDS:
         own_sheet, plan = make(plain_lines(3, k, "block," + cell)), Plan(3, k, (), (word,))
-        listed = ("# block word: %s" if refused else "block,%s") % "".join(sorted(re.findall("[A-P]2?", cell)))
+        listed = ("# block word: %s" if refused else "block,%s") % "".join(sorted(re.findall("[A-P]2?", cell.upper())))
         if own_sheet != sheet_bytes.write(plan, [7] * totals_rules.reading_count(plan), [0] * 2 ** k):
             complaints.append("%s with %d factors: another sheet" % (cell, k))
         if text_rules.answer(own_sheet) != refused or listed not in listing(own_sheet).split("\n"):
             complaints.append("%s with %d factors: answer or listing" % (cell, k))
     for text, message in WORDS_TOLD:
         lines = replaced(3, text, NINE_LINES)
-        if command_says(lines) != (make(lines), message):
+        if command_says(lines) != (make(lines), *told(message)):
             complaints.append("%r at three levels: sheet or message" % text)
     if make("\n".join(NINE_LINES)) != sheet_bytes.write(Plan(3, 2, (), (4,)), NINE, [0, 0, 0, 1]):
         complaints.append("nine runs in three blocks: another sheet")
@@ -601,25 +803,27 @@ def check_screened():
     """Complaints about what is told of screening, and what the listing names; and about the command, which tells it, and where
     it makes a sheet of which factab makes a table tells nothing."""
     complaints = []
-    for k, others, told, listed in SCREENED_TOLD:
+    for k, others, answer, listed in SCREENED_TOLD:
         own_sheet = make(plain_lines(2, k, others))
-        if screened(own_sheet) + "\n" != told:
+        if screened(own_sheet) + "\n" != answer:
             complaints.append("%r: what is told of screening" % others)
         found = [line[len(NO_SCREENING):] for line in listing(own_sheet).split("\n") if line.startswith(NO_SCREENING)]
         if found != ([listed] if listed else []):
             complaints.append("%r: what the listing has of screening" % others)
     at_three = ANSWERS + "9 (the screening profile is for two-level plans)\n"
-    for lines, told in (plain_lines(2, 2, MET_TOLD[1]), MET_TOLD[2]), ("\n".join(NINE_LINES), at_three):
-        if command_says(lines) != (make(lines), "") or command_writes("screen", make(lines)) != (told.encode(), ""):
-            complaints.append("the command on %r" % told)
+    warning = "warning: row A is the main effect of A, which is pooled as error\n"
+    tried = [(plain_lines(2, 2, MET_TOLD[1]), warning, MET_TOLD[2]), ("\n".join(NINE_LINES), "", at_three)]
+    for lines, message, answer in tried:
+        if command_says(lines) != (make(lines), message, 0) or command_ends(["screen"], make(lines)) != (b"", answer, 1):
+            complaints.append("the command on %r" % answer)
     return complaints
 
 
 def recovered_or_message(text):
     """The lines of runs that have the totals of lines, and else the message."""
     try:
-        return recover(text)
-    except (NotUnderstood, Refused) as why:
+        return recovered(text)
+    except Problem as why:
         return str(why)
 
 
@@ -666,16 +870,17 @@ def check_recover_command():
     """Complaints about the command on lines of totals: what it writes, its message and its exit status."""
     complaints = []
     first, alone = UNCLEAR_TOTALS[0], FOUR_TOTALS[:5] + ["total,AB,3"]
-    tried = [("recover", lines, (back.encode(), "", 0)) for lines, back in (RUNS_BACK[0], RUNS_BACK[5], RUNS_BACK[7])]
-    tried += [("recover", lines, (b"", message + "\n", 1)) for lines, message in REFUSED_TOTALS[::3]]
-    tried += [("recover", replaced(*first[1:3], first[0]).split("\n"), (b"", first[3] + "\n", 1)),
-              ("make", FOUR_BACK.split("\n"), (text_cases.RULES_SHEET, "", 0)),
-              ("make", RUNS_BACK[7][1].split("\n"), (b"", message_of(RUNS_BACK[7][1]) + "\n", 1)),
-              ("make", alone, (b"", message_of("\n".join(alone)) + "\n", 1))]
+    recover, make_out = ["recover"], ["make", "-o", "-"]
+    tried = [(recover, lines, (back.encode(), "", 0)) for lines, back in (RUNS_BACK[0], RUNS_BACK[6], RUNS_BACK[8])]
+    tried += [(recover, lines, (b"", message + "\n", 1)) for lines, message in REFUSED_TOTALS[::3]]
+    tried += [(recover, replaced(*first[1:3], first[0]).split("\n"), (b"", first[3] + "\n", 1)),
+              (make_out, FOUR_BACK.split("\n"), (text_cases.RULES_SHEET, "", 0)),
+              (make_out, RUNS_BACK[8][1].split("\n"), (b"", message_of(RUNS_BACK[8][1]) + "\n", 1)),
+              (make_out, alone, (b"", message_of("\n".join(alone)) + "\n", 1))]
     for way, lines, meant in tried:
         found = command_ends(way, "\n".join(lines).encode())
         if found != meant:
-            complaints.append("%s of %r: %r" % (way, "; ".join(lines), found))
+            complaints.append("%s of %r: %r" % (way[0], "; ".join(lines), found))
     return complaints
 
 
@@ -683,10 +888,11 @@ def check_full():
     """Complaints about the command where its output cannot be written: a message and the exit status, whatever it was to write."""
     complaints = []
     for way, name in ("make", "four_runs.csv"), ("list", "four_runs.sheet"), ("recover", "four_runs_totals.csv"):
+        more = ["-o", "-"] if way == "make" else []
         with open("/dev/full", "wb") as full:
-            found = subprocess.run([sys.executable, "-B", str(ROOT / "tools" / "csv_sheet.py"), way, str(FOLDER / name)],
+            found = subprocess.run([sys.executable, "-B", str(ROOT / "tools" / "ftab"), way, *more, str(FOLDER / name)],
                                    stdout=full, stderr=subprocess.PIPE)
-        if (found.stderr, found.returncode) != (b"the output cannot be written\n", 1):
+        if (found.stderr, found.returncode) != (b"ftab: the output cannot be written\n", 1):
             complaints.append("%s to a full disk: %r, %d" % (way, found.stderr, found.returncode))
     return complaints
 
@@ -706,8 +912,8 @@ def check_listing(own):
 
 def check_screening(own):
     """Complaints about what is told of the screening of a sheet: the number and a cause, or that the table is printed."""
-    refused, told = screening_rules.answer(own.sheet), screened(own.sheet) + "\n"
-    meant = told.startswith(ANSWERS + "%d (" % refused) if refused else told == PRINTS
+    refused, answer = screening_rules.answer(own.sheet), screened(own.sheet) + "\n"
+    meant = answer.startswith(ANSWERS + "%d (" % refused) if refused else answer == PRINTS
     return [] if meant else ["%s: screening" % own.name]
 
 
@@ -716,22 +922,36 @@ def check_example(name, own):
     lines, stored = FOLDER / (name + ".csv"), FOLDER / (name + ".sheet")
     if not lines.exists() or not stored.exists():
         return ["examples/%s: its lines or its sheet are absent" % name]
-    complaints = [] if make(text_of(lines)) == stored.read_bytes() else ["its lines make another sheet"]
+    complaints = [] if make(read_text(lines)) == stored.read_bytes() else ["its lines make another sheet"]
     complaints += [] if stored.read_bytes() == text_cases.of_table(own).sheet else ["not the sheet of %s" % own.title]
+    return ["examples/%s: %s" % (name, complaint) for complaint in complaints]
+
+
+def check_own_example(name, plan, readings, marked, names, scale):
+    """Complaints about a stored example whose readings are not published: its lines make its sheet, and hold what is
+    meant."""
+    lines, stored = FOLDER / (name + ".csv"), FOLDER / (name + ".sheet")
+    if not lines.exists() or not stored.exists():
+        return ["examples/%s: its lines or its sheet are absent" % name]
+    meant = sheet_bytes.write(plan, readings, [int(row in marked) for row in range(2 ** plan.k)])
+    own = made(read_text(lines))
+    complaints = [] if own.sheet == stored.read_bytes() else ["its lines make another sheet"]
+    complaints += [] if (own.sheet, own.names, own.scale) == (meant, names, scale) else ["it holds something else"]
     return ["examples/%s: %s" % (name, complaint) for complaint in complaints]
 
 
 def check_totals_example(name, other):
     """Complaints about stored lines of totals: the runs that come back make the sheet of another example."""
     lines, stored = FOLDER / (name + ".csv"), FOLDER / (other + ".sheet")
-    if not lines.exists() or sheet_back(text_of(lines)) != stored.read_bytes():
+    if not lines.exists() or sheet_back(read_text(lines)) != stored.read_bytes():
         return ["examples/%s: absent, or its runs are not those of %s" % (name, other)]
     return []
 
 
 def check():
     """List of all complaints about lines, the command, listings and stored examples."""
-    complaints = check_make() + check_limits() + check_repeats() + check_three_words() + check_screened()
+    complaints = check_make() + check_forms() + check_codings()
+    complaints += check_limits() + check_repeats() + check_three_words() + check_screened()
     complaints += check_recover() + check_recover_command() + check_full()
     for name, other in TOTALS_EXAMPLES.items():
         complaints += check_totals_example(name, other)
@@ -739,4 +959,6 @@ def check():
         complaints += check_listing(own) + check_screening(own)
     for name, own in EXAMPLES.items():
         complaints += check_example(name, own)
+    for name, own in OWN_EXAMPLES.items():
+        complaints += check_own_example(name, *own)
     return complaints

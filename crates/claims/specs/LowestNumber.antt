@@ -35,8 +35,8 @@ use Rattle.contents.specs.Contents.{planIn}
 use Rattle.sheet.specs.Sheet.{sheetRefusals, readRefused, marksRefused}
 use Rattle.printing.specs.Printed.{longestSheet, printRefused}
 use Rattle.heads.specs.Heads.{badHead, headPlan, headRefusals, headRefused, called}
-use Rattle.facts.specs.Facts.{runNumber, aliasNumber, estimateNumber}
-use Rattle.figures.specs.Handed.{wrongRoom, callRefused}
+use Rattle.facts.specs.Facts.{runOnHead, aliasOnHead, estimateOnHead}
+use Rattle.figures.specs.Numbers.{wrongRoom, callRefused}
 use Rattle.tables.specs.Sheets.{wrongSlices, sheetTableRefused}
 use Rattle.wholes.specs.Whole.{wholePlan}
 
@@ -103,9 +103,9 @@ pub record LowestNumber : Type 0 where
       (onPlan (wholePlan levels k r) (tableRefusalsC (wholePlan levels k r) readings marks column rows figures checks))
   -- the calls for other languages, which take a plan in bytes; the blocking call, the reader, the marks and the text have the numbers above
   pub check-head : (head : List ℕ) → Lowest (headRefused head) (onHead head [])
-  pub run-head : (head : List ℕ) (r : ℕ) → Lowest (runNumber head r) (onHead head (runRefusals (headPlan head) r))
-  pub alias-head : (head : List ℕ) (e : ℕ) → Lowest (aliasNumber head e) (onHead head (aliasRefusals (headPlan head) e))
-  pub estimate-head : (head : List ℕ) (e : ℕ) (t : ℤ) → Lowest (estimateNumber head e t) (onHead head (estimateRefusals (headPlan head) e t))
+  pub run-head : (head : List ℕ) (r : ℕ) → Lowest (runOnHead head r) (onHead head (runRefusals (headPlan head) r))
+  pub alias-head : (head : List ℕ) (e : ℕ) → Lowest (aliasOnHead head e) (onHead head (aliasRefusals (headPlan head) e))
+  pub estimate-head : (head : List ℕ) (e : ℕ) (t : ℤ) → Lowest (estimateOnHead head e t) (onHead head (estimateRefusals (headPlan head) e t))
   pub pass-head : (head : List ℕ) (f : ℕ) (column : List ℤ)
       → Lowest (called head (λ p. passRefused p f column)) (onHead head (passRefusals (headPlan head) f column))
   pub step-head : (head : List ℕ) (from to : List ℤ) → Lowest (called head (λ p. stepRefused p from to)) (onHead head (stepRefusals (headPlan head) from to))

@@ -7,9 +7,10 @@
 --   OnBlockings k b column     on the blocking call
 --   OnSheet sheet              on those that take a sheet: reader, marks, print
 --   OnHead head                on the calls for other languages that take a plan in bytes
---   ForC                       on the table call for C on a whole plan, and on the table of a sheet; the pass, the totals and the recovery on a whole
---                              plan have the numbers and columns of the first, and blockings, reader, marks and text those of the others
---   Unhanded                   on all calls that hand out a table as numbers
+--   ForC                       on what the others for other languages have of their own: the table with slices for its figures, the table of a sheet,
+--                              and two places, for how many lists there are and how many bytes are a sheet's plan. Else the calls on a whole plan
+--                              have the numbers and columns of `OnPlan`, blockings those of `OnBlockings`, reader, marks and text those of `OnSheet`
+--   Unhanded                   on all calls that hand out a table as numbers, those of `OnHead` too
 use mathlib.Core.Path.{_≡_}
 use mathlib.Core.List.{List, [], _∷_}
 use Prim.Native.Nat.{ℕ, _≤_}
@@ -31,9 +32,9 @@ use Rattle.screening.specs.Screening.{screenRefused, screenTotals, screenRows}
 use Rattle.sheet.specs.Sheet.{readRefused, readColumn, marksRefused, marksOf}
 use Rattle.printing.specs.Printed.{printRefused}
 use Rattle.heads.specs.Heads.{headRefused, called, leaves}
-use Rattle.facts.specs.Facts.{runNumber, runHigh, runBlock, aliasNumber, aliasWord, aliasTurned, estimateNumber, estimateKind, estimateDouble, blockingsLists}
-use Rattle.handed.specs.Sheets.{readLength}
-use Rattle.figures.specs.Handed.{callRefused, Handed}
+use Rattle.facts.specs.Facts.{runOnHead, runHigh, runBlock, aliasOnHead, aliasWord, aliasTurned, estimateOnHead, estimateKind, estimateDouble, blockingsCount}
+use Rattle.handed.specs.Sheets.{readSpan}
+use Rattle.figures.specs.Numbers.{callRefused, TableLeft}
 use Rattle.tables.specs.Sheets.{sheetTableRefused}
 
 -- D1.6, N14, N16 to N18, N21
@@ -88,9 +89,9 @@ pub record OnSheet (sheet : List ℕ) : Type 0 where
 
 pub record OnHead (head : List ℕ) : Type 0 where
   pub check : OneOfTheNumbers (headRefused head)
-  pub run : (r : ℕ) → OneOfTheNumbers (runNumber head r)
-  pub alias : (e : ℕ) → OneOfTheNumbers (aliasNumber head e)
-  pub estimate : (e : ℕ) (t : ℤ) → OneOfTheNumbers (estimateNumber head e t)
+  pub run : (r : ℕ) → OneOfTheNumbers (runOnHead head r)
+  pub alias : (e : ℕ) → OneOfTheNumbers (aliasOnHead head e)
+  pub estimate : (e : ℕ) (t : ℤ) → OneOfTheNumbers (estimateOnHead head e t)
   pub pass : (f : ℕ) (column : List ℤ) → OneOfTheNumbers (called head (λ p. passRefused p f column))
   pub step : (from to : List ℤ) → OneOfTheNumbers (called head (λ p. stepRefused p from to))
   pub totals : (readings column : List ℤ) → OneOfTheNumbers (called head (λ p. totalsRefused p readings column))
@@ -100,9 +101,9 @@ pub record OnHead (head : List ℕ) : Type 0 where
   pub screen : (readings : List ℤ) (marks : List ℕ) (column : List ℤ) (rows : List ℕ)
       → OneOfTheNumbers (called head (λ p. screenRefused p readings marks column rows))
   -- D1.8: "and then writes nothing at all": each place at exit is that at entry
-  pub run-unwritten : (r high block : ℕ) → (runNumber head r ≡ 0 → ⊥) → (runHigh head r high ≡ high) × (runBlock head r block ≡ block)
-  pub alias-unwritten : (e word turned : ℕ) → (aliasNumber head e ≡ 0 → ⊥) → (aliasWord head e word ≡ word) × (aliasTurned head e turned ≡ turned)
-  pub estimate-unwritten : (e : ℕ) (t : ℤ) (kind : ℕ) (x : Float) → (estimateNumber head e t ≡ 0 → ⊥)
+  pub run-unwritten : (r high block : ℕ) → (runOnHead head r ≡ 0 → ⊥) → (runHigh head r high ≡ high) × (runBlock head r block ≡ block)
+  pub alias-unwritten : (e word turned : ℕ) → (aliasOnHead head e ≡ 0 → ⊥) → (aliasWord head e word ≡ word) × (aliasTurned head e turned ≡ turned)
+  pub estimate-unwritten : (e : ℕ) (t : ℤ) (kind : ℕ) (x : Float) → (estimateOnHead head e t ≡ 0 → ⊥)
       → (estimateKind head e t kind ≡ kind) × (estimateDouble head e t x ≡ x)
   pub pass-unwritten : (f : ℕ) (column : List ℤ) → (called head (λ p. passRefused p f column) ≡ 0 → ⊥) → leaves head (λ p. passColumn p f column) column ≡ column
   pub step-unwritten : (from to : List ℤ) → (called head (λ p. stepRefused p from to) ≡ 0 → ⊥) → leaves head (λ p. stepColumn p from to) to ≡ to
@@ -117,10 +118,10 @@ pub record ForC : Type 0 where
   pub table : (p : Plan) (readings : List ℤ) (marks : List ℕ) (totals : List ℤ) (rows figures : List ℕ) (checks : List ℤ)
       → OneOfTheNumbers (callRefused p readings marks totals rows figures checks)
   pub sheet-table : (sheet : List ℕ) (m n : ℕ) → OneOfTheNumbers (sheetTableRefused sheet m n)
-  pub lists-unwritten : (k b room lists : ℕ) → (blockingsRefused k b room ≡ 0 → ⊥) → blockingsLists k b room lists ≡ lists
-  pub span-unwritten : (sheet : List ℕ) (room span : ℕ) → (readRefused sheet room ≡ 0 → ⊥) → readLength sheet room span ≡ span
+  pub lists-unwritten : (k b room lists : ℕ) → (blockingsRefused k b room ≡ 0 → ⊥) → blockingsCount k b room lists ≡ lists
+  pub span-unwritten : (sheet : List ℕ) (room span : ℕ) → (readRefused sheet room ≡ 0 → ⊥) → readSpan sheet room span ≡ span
 
 -- D1.8: whatever such a call's number m and plan p, where its answer n is not 0 all four slices are as they were
 pub record Unhanded (m : ℕ) (p : Plan) (readings : List ℤ) (marks : List ℕ) (totals : List ℤ) (rows figures : List ℕ) (checks : List ℤ) : Type 0 where
-  pub unwritten-all : {n : ℕ} {ts : List ℤ} {rs fs : List ℕ} {cs : List ℤ} → Handed m p readings marks totals rows figures checks n ts rs fs cs
+  pub unwritten-all : {n : ℕ} {ts : List ℤ} {rs fs : List ℕ} {cs : List ℤ} → TableLeft m p readings marks totals rows figures checks n ts rs fs cs
       → (n ≡ 0 → ⊥) → (ts ≡ totals) × (rs ≡ rows) × (fs ≡ figures) × (cs ≡ checks)

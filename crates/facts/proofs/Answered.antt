@@ -32,26 +32,26 @@ use Rattle.estimates.specs.Estimate.{Value, estimateOutcome, estimateRefused, e
 use Rattle.blockings.specs.declared.types.Blockings.{Blockings}
 use Rattle.blockings.specs.declared.types.Blockings.the-variants as blockings
 use Rattle.blockings.specs.Blockings.{blockingsOf, blockingsRefused, blockingsOutcome}
-use Rattle.facts.specs.Facts.{runNumber, runHigh, runBlock, aliasNumber, aliasWord, aliasTurned, kindOf, doubleOf, estimateNumber, estimateKind, estimateDouble, blockingsLists}
+use Rattle.facts.specs.Facts.{runOnHead, runHigh, runBlock, aliasOnHead, aliasWord, aliasTurned, outcomeCode, doubleOf, estimateOnHead, estimateKind, estimateDouble, blockingsCount}
 use Rattle.facts.proofs.Lent.{by-head, by-values, by-refusal}
 
 -- ---- the run call, of run r
 
 module _ (head : List ℕ) (r high block : ℕ) {n : ℕ} (e : n ≡ headRefused head) where
-  pub run-stopped : (n ≡ 0 → ⊥) → (n ≡ runNumber head r) × ((high ≡ runHigh head r high) × (block ≡ runBlock head r block))
-  unfolding runNumber runHigh runBlock
+  pub run-stopped : (n ≡ 0 → ⊥) → (n ≡ runOnHead head r) × ((high ≡ runHigh head r high) × (block ≡ runBlock head r block))
+  unfolding runOnHead runHigh runBlock
   run-stopped = by-head head (λ p. runRefused p r) (λ p. runValues p r) (λ v. v .0) (λ v. v .1) high block e
 
   module _ (z : n ≡ 0) {p : Plan} (is : p ≡ held (headPlan head)) {answer : Run}
       (told : runOutcome answer ≡ outcome (runRefused p r) (runValues p r)) where
-    pub run-given : {a b : ℕ} → answer ≡ run.Treatment a b → (0 ≡ runNumber head r) × ((a ≡ runHigh head r high) × (b ≡ runBlock head r block))
-    unfolding runNumber runHigh runBlock
+    pub run-given : {a b : ℕ} → answer ≡ run.Treatment a b → (0 ≡ runOnHead head r) × ((a ≡ runHigh head r high) × (b ≡ runBlock head r block))
+    unfolding runOnHead runHigh runBlock
     run-given d =
         by-values head (λ p. runRefused p r) (λ p. runValues p r) (λ v. v .0) (λ v. v .1) high block e z is (ap runOutcome (sym d) ∙ told)
 
     pub run-refused : {m : ℕ} → answer ≡ run.Refused m
-        → (m ≡ runNumber head r) × ((high ≡ runHigh head r high) × (block ≡ runBlock head r block))
-    unfolding runNumber runHigh runBlock
+        → (m ≡ runOnHead head r) × ((high ≡ runHigh head r high) × (block ≡ runBlock head r block))
+    unfolding runOnHead runHigh runBlock
     run-refused d =
         by-refusal head (λ p. runRefused p r) (λ p. runValues p r) (λ v. v .0) (λ v. v .1) high block e z is (ap runOutcome (sym d) ∙ told)
 
@@ -67,22 +67,22 @@ byte-of true = refl
 byte-of false = refl
 
 module _ (head : List ℕ) (x word turned : ℕ) {n : ℕ} (e : n ≡ headRefused head) where
-  pub alias-stopped : (n ≡ 0 → ⊥) → (n ≡ aliasNumber head x) × ((word ≡ aliasWord head x word) × (turned ≡ aliasTurned head x turned))
-  unfolding aliasNumber aliasWord aliasTurned
+  pub alias-stopped : (n ≡ 0 → ⊥) → (n ≡ aliasOnHead head x) × ((word ≡ aliasWord head x word) × (turned ≡ aliasTurned head x turned))
+  unfolding aliasOnHead aliasWord aliasTurned
   alias-stopped = by-head head (λ p. aliasRefused p x) (λ p. aliasValues p x) (λ v. v .0) turn word turned e
 
   module _ (z : n ≡ 0) {p : Plan} (is : p ≡ held (headPlan head)) {answer : Alias}
       (told : aliasOutcome answer ≡ outcome (aliasRefused p x) (aliasValues p x)) where
     pub alias-given : {w : ℕ} {t : Bool} → answer ≡ alias.Reduced w t
-        → (0 ≡ aliasNumber head x) × ((w ≡ aliasWord head x word) × (boolByte t ≡ aliasTurned head x turned))
-    unfolding aliasNumber aliasWord aliasTurned
+        → (0 ≡ aliasOnHead head x) × ((w ≡ aliasWord head x word) × (boolByte t ≡ aliasTurned head x turned))
+    unfolding aliasOnHead aliasWord aliasTurned
     alias-given {t = t} d =
         let own = by-values head (λ p. aliasRefused p x) (λ p. aliasValues p x) (λ v. v .0) turn word turned e z is (ap aliasOutcome (sym d) ∙ told) in
         (own .0, (own .1 .0, byte-of t ∙ own .1 .1))
 
     pub alias-refused : {m : ℕ} → answer ≡ alias.Refused m
-        → (m ≡ aliasNumber head x) × ((word ≡ aliasWord head x word) × (turned ≡ aliasTurned head x turned))
-    unfolding aliasNumber aliasWord aliasTurned
+        → (m ≡ aliasOnHead head x) × ((word ≡ aliasWord head x word) × (turned ≡ aliasTurned head x turned))
+    unfolding aliasOnHead aliasWord aliasTurned
     alias-refused d =
         by-refusal head (λ p. aliasRefused p x) (λ p. aliasValues p x) (λ v. v .0) turn word turned e z is (ap aliasOutcome (sym d) ∙ told)
 
@@ -94,38 +94,38 @@ from-bits p x fits = ap (λ s. outcome (estimateRefused p x s) (estimateValue p 
 
 module _ (head : List ℕ) (x : ℕ) (t : ℤ) (kind : ℕ) (value : Float) {n : ℕ} (e : n ≡ headRefused head) where
   pub estimate-stopped : (n ≡ 0 → ⊥)
-      → (n ≡ estimateNumber head x t) × ((kind ≡ estimateKind head x t kind) × (value ≡ estimateDouble head x t value))
-  unfolding estimateNumber estimateKind estimateDouble
-  estimate-stopped = by-head head (λ p. estimateRefused p x t) (λ p. estimateValue p x t) kindOf (λ v. doubleOf v value) kind value e
+      → (n ≡ estimateOnHead head x t) × ((kind ≡ estimateKind head x t kind) × (value ≡ estimateDouble head x t value))
+  unfolding estimateOnHead estimateKind estimateDouble
+  estimate-stopped = by-head head (λ p. estimateRefused p x t) (λ p. estimateValue p x t) outcomeCode (λ v. doubleOf v value) kind value e
 
   module _ (z : n ≡ 0) {p : Plan} (is : p ≡ held (headPlan head)) {answer : Estimate} (fits : SFits w64 t)
       (told : estimateOutcome answer ≡ outcome (estimateRefused p x (wrap t)) (estimateValue p x (wrap t))) where
     pub estimate-given : {a : Estimate} → answer ≡ a → (v : Value) → given v ≡ estimateOutcome a
-        → (0 ≡ estimateNumber head x t) × ((kindOf v ≡ estimateKind head x t kind) × (doubleOf v value ≡ estimateDouble head x t value))
-    unfolding estimateNumber estimateKind estimateDouble
+        → (0 ≡ estimateOnHead head x t) × ((outcomeCode v ≡ estimateKind head x t kind) × (doubleOf v value ≡ estimateDouble head x t value))
+    unfolding estimateOnHead estimateKind estimateDouble
     estimate-given d v so =
-        by-values head (λ p. estimateRefused p x t) (λ p. estimateValue p x t) kindOf (λ v. doubleOf v value) kind value e z is
+        by-values head (λ p. estimateRefused p x t) (λ p. estimateValue p x t) outcomeCode (λ v. doubleOf v value) kind value e z is
         (so ∙ ap estimateOutcome (sym d) ∙ told ∙ from-bits p x fits)
 
     pub estimate-refused : {m : ℕ} → answer ≡ estimate.Refused m
-        → (m ≡ estimateNumber head x t) × ((kind ≡ estimateKind head x t kind) × (value ≡ estimateDouble head x t value))
-    unfolding estimateNumber estimateKind estimateDouble
+        → (m ≡ estimateOnHead head x t) × ((kind ≡ estimateKind head x t kind) × (value ≡ estimateDouble head x t value))
+    unfolding estimateOnHead estimateKind estimateDouble
     estimate-refused d =
-        by-refusal head (λ p. estimateRefused p x t) (λ p. estimateValue p x t) kindOf (λ v. doubleOf v value) kind value e z is
+        by-refusal head (λ p. estimateRefused p x t) (λ p. estimateValue p x t) outcomeCode (λ v. doubleOf v value) kind value e z is
         (ap estimateOutcome (sym d) ∙ told ∙ from-bits p x fits)
 
 -- ---- the blocking call, of k factors and b words
 
 module _ (k b room lists : ℕ) {answer : Blockings}
     (told : blockingsOutcome answer ≡ outcome (blockingsRefused k b room) (length (blockingsOf k b))) where
-  pub lists-given : {n : ℕ} → answer ≡ blockings.Written n → (0 ≡ blockingsRefused k b room) × (n ≡ blockingsLists k b room lists)
-  unfolding blockingsLists
+  pub lists-given : {n : ℕ} → answer ≡ blockings.Written n → (0 ≡ blockingsRefused k b room) × (n ≡ blockingsCount k b room lists)
+  unfolding blockingsCount
   lists-given d =
       let own = given-is (blockingsRefused k b room) (length (blockingsOf k b)) (ap blockingsOutcome (sym d) ∙ told) in
       (sym (own .0), own .1 ∙ written-new (blockingsRefused k b room) (length (blockingsOf k b)) lists (own .0))
 
-  pub lists-refused : {n : ℕ} → answer ≡ blockings.Refused n → (n ≡ blockingsRefused k b room) × (lists ≡ blockingsLists k b room lists)
-  unfolding blockingsLists
+  pub lists-refused : {n : ℕ} → answer ≡ blockings.Refused n → (n ≡ blockingsRefused k b room) × (lists ≡ blockingsCount k b room lists)
+  unfolding blockingsCount
   lists-refused d =
       let own = refused-is (blockingsRefused k b room) (length (blockingsOf k b)) (ap blockingsOutcome (sym d) ∙ told) in
       (own .0, unwritten (blockingsRefused k b room) (length (blockingsOf k b)) lists (own .1))

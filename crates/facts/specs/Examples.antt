@@ -39,7 +39,7 @@ use Rattle.fields.specs.Fields.{parse, fieldsOf, bodies, bodyAt}
 use Rattle.fields.specs.Tags.{badFrom}
 use Rattle.contents.specs.Contents.{needless, planIn}
 use Rattle.heads.specs.Heads.{badHead, headRefused, called}
-use Rattle.facts.specs.Facts.{runNumber, runHigh, runBlock, aliasNumber, aliasWord, aliasTurned, estimateNumber, estimateKind, estimateDouble, blockingsLists}
+use Rattle.facts.specs.Facts.{runOnHead, runHigh, runBlock, aliasOnHead, aliasWord, aliasTurned, estimateOnHead, estimateKind, estimateDouble, blockingsCount}
 
 abbrev factors : List ℕ
 factors = 1 ∷ 0 ∷ 2 ∷ 2 ∷ 3 ∷ []
@@ -63,39 +63,39 @@ blocked = factors ++ block
 
 -- P8, R8: the eight runs (1), a, b, ab, c, ac, bc, abc; D is 8
 high-letters : tab 8 (λ r. runHigh halves r 99) ≡ 0 ∷ 9 ∷ 10 ∷ 3 ∷ 12 ∷ 5 ∷ 6 ∷ 15 ∷ []
-unfolding runHigh runNumber called headRefused badHead needless planIn big fieldsOf parse bodies bodyAt badFrom withPlan planRefused badLevels badFactors mostTwo mostThree badCounts badWords badWord badSign repeated dependent losesFactor factorWord badRepeats isRepeats mostReadings any among beyond letters combined times someCombination combinesTo some bits Σℕ factorsOf size two three tabFrom runRefused highLetters highIn highBy oddIn shared
+unfolding runHigh runOnHead called headRefused badHead needless planIn big fieldsOf parse bodies bodyAt badFrom withPlan planRefused badLevels badFactors mostTwo mostThree badCounts badWords badWord badSign repeated dependent losesFactor factorWord badRepeats isRepeats mostReadings any among beyond letters combined times someCombination combinesTo some bits Σℕ factorsOf size two three tabFrom runRefused highLetters highIn highBy oddIn shared
 high-letters = refl
 
 -- R4
 blocks : tab 8 (λ r. runBlock halves r 99) ≡ 0 ∷ 1 ∷ 1 ∷ 0 ∷ 0 ∷ 1 ∷ 1 ∷ 0 ∷ []
-unfolding runBlock runNumber called headRefused badHead needless planIn big fieldsOf parse bodies bodyAt badFrom withPlan planRefused badLevels badFactors mostTwo mostThree badCounts badWords badWord badSign repeated dependent losesFactor factorWord badRepeats isRepeats mostReadings any among beyond letters combined times someCombination combinesTo some bits Σℕ factorsOf size two three tabFrom runRefused blockNumber oddIn shared
+unfolding runBlock runOnHead called headRefused badHead needless planIn big fieldsOf parse bodies bodyAt badFrom withPlan planRefused badLevels badFactors mostTwo mostThree badCounts badWords badWord badSign repeated dependent losesFactor factorWord badRepeats isRepeats mostReadings any among beyond letters combined times someCombination combinesTo some bits Σℕ factorsOf size two three tabFrom runRefused blockNumber oddIn shared
 blocks = refl
 
--- R9, N10, N1: the last run, one that the plan does not have, and no bytes
-run-numbers : runNumber halves 7 ∷ runNumber halves 8 ∷ runNumber [] 0 ∷ [] ≡ 0 ∷ 10 ∷ 1 ∷ []
-unfolding runNumber called headRefused badHead needless planIn big fieldsOf parse bodies bodyAt badFrom withPlan planRefused badLevels badFactors mostTwo mostThree badCounts badWords badWord badSign repeated dependent losesFactor factorWord badRepeats isRepeats mostReadings any among beyond letters combined times someCombination combinesTo some bits Σℕ factorsOf size two three tabFrom runRefused
+-- L7, N10, N1: the last run, one that the plan does not have, and no bytes
+run-numbers : runOnHead halves 7 ∷ runOnHead halves 8 ∷ runOnHead [] 0 ∷ [] ≡ 0 ∷ 10 ∷ 1 ∷ []
+unfolding runOnHead called headRefused badHead needless planIn big fieldsOf parse bodies bodyAt badFrom withPlan planRefused badLevels badFactors mostTwo mostThree badCounts badWords badWord badSign repeated dependent losesFactor factorWord badRepeats isRepeats mostReadings any among beyond letters combined times someCombination combinesTo some bits Σℕ factorsOf size two three tabFrom runRefused
 run-numbers = refl
 
 -- L2
 runs-kept : runHigh halves 8 99 ∷ runBlock halves 8 98 ∷ runHigh [] 0 97 ∷ runBlock [] 0 96 ∷ [] ≡ 99 ∷ 98 ∷ 97 ∷ 96 ∷ []
-unfolding runHigh runBlock runNumber called headRefused badHead needless planIn big fieldsOf parse bodies bodyAt badFrom withPlan planRefused badLevels badFactors mostTwo mostThree badCounts badWords badWord badSign repeated dependent losesFactor factorWord badRepeats isRepeats mostReadings any among beyond letters combined times someCombination combinesTo some bits Σℕ factorsOf size two three tabFrom runRefused
+unfolding runHigh runBlock runOnHead called headRefused badHead needless planIn big fieldsOf parse bodies bodyAt badFrom withPlan planRefused badLevels badFactors mostTwo mostThree badCounts badWords badWord badSign repeated dependent losesFactor factorWord badRepeats isRepeats mostReadings any among beyond letters combined times someCombination combinesTo some bits Σℕ factorsOf size two three tabFrom runRefused
 runs-kept = refl
 
 -- ---- the alias call
 
 -- X5: "AD reduces to BC, unturned; with sign 1, turned."
 to-BC : aliasWord halves AD 99 ∷ aliasTurned halves AD 99 ∷ aliasWord turning AD 99 ∷ aliasTurned turning AD 99 ∷ [] ≡ BC ∷ 0 ∷ BC ∷ 1 ∷ []
-unfolding aliasWord aliasTurned aliasNumber called headRefused badHead needless planIn big fieldsOf parse bodies bodyAt badFrom withPlan planRefused badLevels badFactors mostTwo mostThree badCounts badWords badWord badSign repeated dependent losesFactor factorWord badRepeats isRepeats mostReadings any among beyond letters combined times someCombination combinesTo some bits Σℕ factorsOf size two three tabFrom aliasRefused baseWord turned oddSigns signOnes
+unfolding aliasWord aliasTurned aliasOnHead called headRefused badHead needless planIn big fieldsOf parse bodies bodyAt badFrom withPlan planRefused badLevels badFactors mostTwo mostThree badCounts badWords badWord badSign repeated dependent losesFactor factorWord badRepeats isRepeats mostReadings any among beyond letters combined times someCombination combinesTo some bits Σℕ factorsOf size two three tabFrom aliasRefused baseWord turned oddSigns signOnes
 to-BC = refl
 
 -- N10, N1: D, and E, which the plan does not have; a field cut short
-alias-numbers : aliasNumber turning 8 ∷ aliasNumber turning 16 ∷ aliasNumber (1 ∷ 0 ∷ 2 ∷ 2 ∷ []) A ∷ [] ≡ 0 ∷ 10 ∷ 1 ∷ []
-unfolding aliasNumber called headRefused badHead needless planIn big fieldsOf parse bodies bodyAt badFrom withPlan planRefused badLevels badFactors mostTwo mostThree badCounts badWords badWord badSign repeated dependent losesFactor factorWord badRepeats isRepeats mostReadings any among beyond letters combined times someCombination combinesTo some bits Σℕ factorsOf size two three tabFrom aliasRefused
+alias-numbers : aliasOnHead turning 8 ∷ aliasOnHead turning 16 ∷ aliasOnHead (1 ∷ 0 ∷ 2 ∷ 2 ∷ []) A ∷ [] ≡ 0 ∷ 10 ∷ 1 ∷ []
+unfolding aliasOnHead called headRefused badHead needless planIn big fieldsOf parse bodies bodyAt badFrom withPlan planRefused badLevels badFactors mostTwo mostThree badCounts badWords badWord badSign repeated dependent losesFactor factorWord badRepeats isRepeats mostReadings any among beyond letters combined times someCombination combinesTo some bits Σℕ factorsOf size two three tabFrom aliasRefused
 alias-numbers = refl
 
 -- L2
 aliases-kept : aliasWord turning 16 99 ∷ aliasTurned turning 16 98 ∷ aliasWord [] A 97 ∷ aliasTurned [] A 96 ∷ [] ≡ 99 ∷ 98 ∷ 97 ∷ 96 ∷ []
-unfolding aliasWord aliasTurned aliasNumber called headRefused badHead needless planIn big fieldsOf parse bodies bodyAt badFrom withPlan planRefused badLevels badFactors mostTwo mostThree badCounts badWords badWord badSign repeated dependent losesFactor factorWord badRepeats isRepeats mostReadings any among beyond letters combined times someCombination combinesTo some bits Σℕ factorsOf size two three tabFrom aliasRefused
+unfolding aliasWord aliasTurned aliasOnHead called headRefused badHead needless planIn big fieldsOf parse bodies bodyAt badFrom withPlan planRefused badLevels badFactors mostTwo mostThree badCounts badWords badWord badSign repeated dependent losesFactor factorWord badRepeats isRepeats mostReadings any among beyond letters combined times someCombination combinesTo some bits Σℕ factorsOf size two three tabFrom aliasRefused
 aliases-kept = refl
 
 -- ---- the estimate; 7 stood in its double
@@ -106,33 +106,33 @@ seven = fin false 7 (pos 0)
 -- E3, E4, E1: the mean of a total of 36 is 4.5, the difference of A by a total of -4 is 1, and AB is lost: the double stays
 values : estimateDouble blocked 0 (pos 36) seven ∷ estimateDouble blocked A (neg 4) seven ∷ estimateDouble blocked AB (pos 0) seven ∷ []
     ≡ fin false 9 (neg 1) ∷ fin false 1 (pos 0) ∷ seven ∷ []
-unfolding estimateDouble estimateNumber called headRefused badHead needless planIn big fieldsOf parse bodies bodyAt badFrom withPlan planRefused badLevels badFactors mostTwo mostThree badCounts badWords badWord badSign repeated dependent losesFactor factorWord badRepeats isRepeats mostReadings any among beyond letters combined times someCombination combinesTo some bits Σℕ factorsOf size two three tabFrom isBeyond readingLimit twoReadingLimit threeReadingLimit estimateRefused exponentOf valueBy meanOf differenceOf printedTotal quotient
+unfolding estimateDouble estimateOnHead called headRefused badHead needless planIn big fieldsOf parse bodies bodyAt badFrom withPlan planRefused badLevels badFactors mostTwo mostThree badCounts badWords badWord badSign repeated dependent losesFactor factorWord badRepeats isRepeats mostReadings any among beyond letters combined times someCombination combinesTo some bits Σℕ factorsOf size two three tabFrom isBeyond readingLimit twoReadingLimit threeReadingLimit estimateRefused exponentOf valueBy meanOf differenceOf printedTotal quotient
 values = refl
 
 kinds : estimateKind blocked 0 (pos 36) 99 ∷ estimateKind blocked A (neg 4) 99 ∷ estimateKind blocked AB (pos 0) 99 ∷ [] ≡ 0 ∷ 1 ∷ 2 ∷ []
-unfolding estimateKind estimateNumber called headRefused badHead needless planIn big fieldsOf parse bodies bodyAt badFrom withPlan planRefused badLevels badFactors mostTwo mostThree badCounts badWords badWord badSign repeated dependent losesFactor factorWord badRepeats isRepeats mostReadings any among beyond letters combined times someCombination combinesTo some bits Σℕ factorsOf size two three tabFrom isBeyond readingLimit twoReadingLimit threeReadingLimit estimateRefused exponentOf valueBy
+unfolding estimateKind estimateOnHead called headRefused badHead needless planIn big fieldsOf parse bodies bodyAt badFrom withPlan planRefused badLevels badFactors mostTwo mostThree badCounts badWords badWord badSign repeated dependent losesFactor factorWord badRepeats isRepeats mostReadings any among beyond letters combined times someCombination combinesTo some bits Σℕ factorsOf size two three tabFrom isBeyond readingLimit twoReadingLimit threeReadingLimit estimateRefused exponentOf valueBy
 kinds = refl
 
 -- N10, N12, N1: D, which is no base factor; a total of one more than eight times the limit, of A and of AB, which is lost; no bytes
-estimate-numbers : estimateNumber halves 8 (pos 0) ∷ estimateNumber blocked A (neg 8_000_001) ∷ estimateNumber blocked AB (pos 8_000_001)
-    ∷ estimateNumber [] A (pos 0) ∷ []
+estimate-numbers : estimateOnHead halves 8 (pos 0) ∷ estimateOnHead blocked A (neg 8_000_001) ∷ estimateOnHead blocked AB (pos 8_000_001)
+    ∷ estimateOnHead [] A (pos 0) ∷ []
     ≡ 10 ∷ 12 ∷ 12 ∷ 1 ∷ []
-unfolding estimateNumber called headRefused badHead needless planIn big fieldsOf parse bodies bodyAt badFrom withPlan planRefused badLevels badFactors mostTwo mostThree badCounts badWords badWord badSign repeated dependent losesFactor factorWord badRepeats isRepeats mostReadings any among beyond letters combined times someCombination combinesTo some bits Σℕ factorsOf size two three tabFrom isBeyond readingLimit twoReadingLimit threeReadingLimit estimateRefused
+unfolding estimateOnHead called headRefused badHead needless planIn big fieldsOf parse bodies bodyAt badFrom withPlan planRefused badLevels badFactors mostTwo mostThree badCounts badWords badWord badSign repeated dependent losesFactor factorWord badRepeats isRepeats mostReadings any among beyond letters combined times someCombination combinesTo some bits Σℕ factorsOf size two three tabFrom isBeyond readingLimit twoReadingLimit threeReadingLimit estimateRefused
 estimate-numbers = refl
 
 -- L2
 kinds-kept : estimateKind halves 8 (pos 0) 99 ∷ estimateKind blocked A (neg 8_000_001) 98 ∷ estimateKind [] A (pos 0) 97 ∷ [] ≡ 99 ∷ 98 ∷ 97 ∷ []
-unfolding estimateKind estimateNumber called headRefused badHead needless planIn big fieldsOf parse bodies bodyAt badFrom withPlan planRefused badLevels badFactors mostTwo mostThree badCounts badWords badWord badSign repeated dependent losesFactor factorWord badRepeats isRepeats mostReadings any among beyond letters combined times someCombination combinesTo some bits Σℕ factorsOf size two three tabFrom isBeyond readingLimit twoReadingLimit threeReadingLimit estimateRefused
+unfolding estimateKind estimateOnHead called headRefused badHead needless planIn big fieldsOf parse bodies bodyAt badFrom withPlan planRefused badLevels badFactors mostTwo mostThree badCounts badWords badWord badSign repeated dependent losesFactor factorWord badRepeats isRepeats mostReadings any among beyond letters combined times someCombination combinesTo some bits Σℕ factorsOf size two three tabFrom isBeyond readingLimit twoReadingLimit threeReadingLimit estimateRefused
 kinds-kept = refl
 
 values-kept : estimateDouble halves 8 (pos 0) seven ∷ estimateDouble blocked A (neg 8_000_001) seven ∷ estimateDouble [] A (pos 0) seven ∷ []
     ≡ seven ∷ seven ∷ seven ∷ []
-unfolding estimateDouble estimateNumber called headRefused badHead needless planIn big fieldsOf parse bodies bodyAt badFrom withPlan planRefused badLevels badFactors mostTwo mostThree badCounts badWords badWord badSign repeated dependent losesFactor factorWord badRepeats isRepeats mostReadings any among beyond letters combined times someCombination combinesTo some bits Σℕ factorsOf size two three tabFrom isBeyond readingLimit twoReadingLimit threeReadingLimit estimateRefused
+unfolding estimateDouble estimateOnHead called headRefused badHead needless planIn big fieldsOf parse bodies bodyAt badFrom withPlan planRefused badLevels badFactors mostTwo mostThree badCounts badWords badWord badSign repeated dependent losesFactor factorWord badRepeats isRepeats mostReadings any among beyond letters combined times someCombination combinesTo some bits Σℕ factorsOf size two three tabFrom isBeyond readingLimit twoReadingLimit threeReadingLimit estimateRefused
 values-kept = refl
 
 -- ---- the blocking call
 
 -- R17, L13: three factors with one word and with two; too few places, and six factors, where the 9 that stood there stays
-lists : blockingsLists 3 1 4 9 ∷ blockingsLists 3 2 6 9 ∷ blockingsLists 3 1 3 9 ∷ blockingsLists 6 1 100 9 ∷ [] ≡ 4 ∷ 3 ∷ 9 ∷ 9 ∷ []
-unfolding blockingsLists blockingsRefused badFactorCount badWordCount blockingsOf listsOf isBlocking strictlyRising those flatten tabFrom planRefused badLevels badFactors mostTwo mostThree badCounts badWords badWord badSign repeated dependent losesFactor factorWord any among beyond letters combined times someCombination combinesTo some bits Σℕ badRepeats isRepeats mostReadings factorsOf size two
+lists : blockingsCount 3 1 4 9 ∷ blockingsCount 3 2 6 9 ∷ blockingsCount 3 1 3 9 ∷ blockingsCount 6 1 100 9 ∷ [] ≡ 4 ∷ 3 ∷ 9 ∷ 9 ∷ []
+unfolding blockingsCount blockingsRefused badFactorCount badWordCount blockingsOf listsOf isBlocking strictlyRising those flatten tabFrom planRefused badLevels badFactors mostTwo mostThree badCounts badWords badWord badSign repeated dependent losesFactor factorWord any among beyond letters combined times someCombination combinesTo some bits Σℕ badRepeats isRepeats mostReadings factorsOf size two
 lists = refl

@@ -1,10 +1,10 @@
--- Single figures of a plan in bytes: for each call its number, by the call on the plan, and what it leaves in each place that it is lent.
+-- Single answers on a plan in bytes: for each call its number, by the call on the plan, and what it leaves in each place that it is lent.
 --
---   runNumber, runHigh, runBlock                         the run call
---   aliasNumber, aliasWord, aliasTurned                  the alias call
---   kindOf, doubleOf                                     the outcome of an estimate as a number, and its double
---   estimateNumber, estimateKind, estimateDouble         the estimate
---   blockingsLists                                       the blocking call: how many lists there are
+--   runOnHead, runHigh, runBlock                         the run call
+--   aliasOnHead, aliasWord, aliasTurned                  the alias call
+--   outcomeCode, doubleOf                                     the outcome of an estimate as a number, and its double
+--   estimateOnHead, estimateKind, estimateDouble         the estimate
+--   blockingsCount                                       the blocking call: how many lists there are
 use mathlib.Core.Bool.{cond}
 use mathlib.Core.List.{List}
 use Prim.Native.Nat.{ℕ}
@@ -20,38 +20,38 @@ use Rattle.heads.specs.Heads.{headPlan, called}
 
 -- ---- the run call, of run r
 
--- R8, R9: the numbers of the call
-unfoldable pub runNumber : List ℕ → ℕ → ℕ
-runNumber head r = called head (λ p. runRefused p r)
+-- L4, L7: the numbers of the call
+unfoldable pub runOnHead : List ℕ → ℕ → ℕ
+runOnHead head r = called head (λ p. runRefused p r)
 
 -- R8: "a 16-bit set of the letters that are high"
 unfoldable pub runHigh : List ℕ → ℕ → ℕ → ℕ
-runHigh head r old = written (runNumber head r) (runValues (headPlan head) r .0) old
+runHigh head r old = written (runOnHead head r) (runValues (headPlan head) r .0) old
 
--- R4, R12: the block
+-- R4, R9, R11, R12: the block
 unfoldable pub runBlock : List ℕ → ℕ → ℕ → ℕ
-runBlock head r old = written (runNumber head r) (runValues (headPlan head) r .1) old
+runBlock head r old = written (runOnHead head r) (runValues (headPlan head) r .1) old
 
 -- ---- the alias call, of the effect e
 
-unfoldable pub aliasNumber : List ℕ → ℕ → ℕ
-aliasNumber head e = called head (λ p. aliasRefused p e)
+unfoldable pub aliasOnHead : List ℕ → ℕ → ℕ
+aliasOnHead head e = called head (λ p. aliasRefused p e)
 
 -- E8, E9: the base word
 unfoldable pub aliasWord : List ℕ → ℕ → ℕ → ℕ
-aliasWord head e old = written (aliasNumber head e) (aliasValues (headPlan head) e .0) old
+aliasWord head e old = written (aliasOnHead head e) (aliasValues (headPlan head) e .0) old
 
 -- E8, E10: 1 where the sign turns, and else 0
 unfoldable pub aliasTurned : List ℕ → ℕ → ℕ → ℕ
-aliasTurned head e old = written (aliasNumber head e) (cond (aliasValues (headPlan head) e .1) 1 0) old
+aliasTurned head e old = written (aliasOnHead head e) (cond (aliasValues (headPlan head) e .1) 1 0) old
 
 -- ---- the estimate, of the effect e with the total t
 
 -- E1: "three outcomes: the mean as a double, a difference as a double, or lost to blocks with no number"
-abbrev pub kindOf : Value → ℕ
-kindOf (mean x) = 0
-kindOf (difference x) = 1
-kindOf lost = 2
+abbrev pub outcomeCode : Value → ℕ
+outcomeCode (mean x) = 0
+outcomeCode (difference x) = 1
+outcomeCode lost = 2
 
 -- E1: where there is no number the double keeps its value
 abbrev pub doubleOf : Value → Float → Float
@@ -59,17 +59,17 @@ doubleOf (mean x) old = x
 doubleOf (difference x) old = x
 doubleOf lost old = old
 
-unfoldable pub estimateNumber : List ℕ → ℕ → ℤ → ℕ
-estimateNumber head e t = called head (λ p. estimateRefused p e t)
+unfoldable pub estimateOnHead : List ℕ → ℕ → ℤ → ℕ
+estimateOnHead head e t = called head (λ p. estimateRefused p e t)
 
 unfoldable pub estimateKind : List ℕ → ℕ → ℤ → ℕ → ℕ
-estimateKind head e t old = written (estimateNumber head e t) (kindOf (estimateValue (headPlan head) e t)) old
+estimateKind head e t old = written (estimateOnHead head e t) (outcomeCode (estimateValue (headPlan head) e t)) old
 
 unfoldable pub estimateDouble : List ℕ → ℕ → ℤ → Float → Float
-estimateDouble head e t old = written (estimateNumber head e t) (doubleOf (estimateValue (headPlan head) e t) old) old
+estimateDouble head e t old = written (estimateOnHead head e t) (doubleOf (estimateValue (headPlan head) e t) old) old
 
 -- ---- the blocking call, of k factors and b words
 
 -- R17: "The number of lists is returned"
-unfoldable pub blockingsLists : ℕ → ℕ → ℕ → ℕ → ℕ
-blockingsLists k b room old = written (blockingsRefused k b room) (length (blockingsOf k b)) old
+unfoldable pub blockingsCount : ℕ → ℕ → ℕ → ℕ → ℕ
+blockingsCount k b room old = written (blockingsRefused k b room) (length (blockingsOf k b)) old

@@ -1,4 +1,4 @@
-// Single figures of a plan in bytes, in places that the caller lends; and every way to block a small plan. They are for programs in other
+// Single answers on a plan in bytes, in places that the caller lends; and every way to block a small plan. They are for programs in other
 // languages (crate `lithgorn`).
 //
 //   check(head)                                  the plan check

@@ -6,7 +6,7 @@ use estimates::Estimate;
 use heads::refused;
 use runs::Run;
 ghost use Rattle.heads.specs.Heads.{headRefused};
-ghost use Rattle.facts.specs.Facts.{runNumber, runHigh, runBlock, aliasNumber, aliasWord, aliasTurned, estimateNumber, estimateKind, estimateDouble};
+ghost use Rattle.facts.specs.Facts.{runOnHead, runHigh, runBlock, aliasOnHead, aliasWord, aliasTurned, estimateOnHead, estimateKind, estimateDouble};
 
 const MEAN: u8 = 0;
 
@@ -23,7 +23,7 @@ pub fn check(head: &[u8]) -> u8
 
 // The letters that are high in a run, and its block.
 pub fn run(head: &[u8], number: usize, high: &mut u16, block: &mut u8) -> u8
-    ensures { λ r. ⌜ r ≡ runNumber (now (head .entry)) number ⌝ }
+    ensures { λ r. ⌜ r ≡ runOnHead (now (head .entry)) number ⌝ }
     ensures { λ _. ⌜ now (high .exit) ≡ runHigh (now (head .entry)) number (now (high .entry)) ⌝ }
     ensures { λ _. ⌜ now (block .exit) ≡ runBlock (now (head .entry)) number (now (block .entry)) ⌝ }
 {
@@ -46,7 +46,7 @@ pub fn run(head: &[u8], number: usize, high: &mut u16, block: &mut u8) -> u8
 
 // The base word that an effect reduces to, and 1 where its sign turns, else 0.
 pub fn alias(head: &[u8], effect: u16, word: &mut u16, turned: &mut u8) -> u8
-    ensures { λ r. ⌜ r ≡ aliasNumber (now (head .entry)) effect ⌝ }
+    ensures { λ r. ⌜ r ≡ aliasOnHead (now (head .entry)) effect ⌝ }
     ensures { λ _. ⌜ now (word .exit) ≡ aliasWord (now (head .entry)) effect (now (word .entry)) ⌝ }
     ensures { λ _. ⌜ now (turned .exit) ≡ aliasTurned (now (head .entry)) effect (now (turned .entry)) ⌝ }
 {
@@ -69,7 +69,7 @@ pub fn alias(head: &[u8], effect: u16, word: &mut u16, turned: &mut u8) -> u8
 
 // The mean or a difference by the total of an effect, or that the effect is lost; the double keeps its value then.
 pub fn estimate(head: &[u8], effect: u16, total: i64, kind: &mut u8, value: &mut f64) -> u8
-    ensures { λ r. ⌜ r ≡ estimateNumber (now (head .entry)) effect total ⌝ }
+    ensures { λ r. ⌜ r ≡ estimateOnHead (now (head .entry)) effect total ⌝ }
     ensures { λ _. ⌜ now (kind .exit) ≡ estimateKind (now (head .entry)) effect total (now (kind .entry)) ⌝ }
     ensures { λ _. ⌜ now (value .exit) ≡ estimateDouble (now (head .entry)) effect total (now (value .entry)) ⌝ }
 {

@@ -5,8 +5,8 @@
 //   wrong_room(m, n)                                              whether slices of these lengths have no room for figures and checks
 //
 // The first two give 0 where the table is made and the number of the refusal where it is not, and then no place that they were lent has changed.
-mod handed;
+mod tabulated;
 
-pub use handed::screened;
-pub use handed::tabulate;
-pub use handed::wrong_room;
+pub use tabulated::screened;
+pub use tabulated::tabulate;
+pub use tabulated::wrong_room;

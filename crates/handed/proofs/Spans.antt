@@ -22,7 +22,7 @@ use Rattle.sheet.specs.Sheet.{readRefused, readColumn, marksRefused, marksOf}
 use Rattle.sheet.specs.Laws.Admitted.{read-admitted}
 use Rattle.sheet.specs.Laws.Lengths.{marks-last}
 use Rattle.heads.specs.Heads.{headLength}
-use Rattle.handed.specs.Sheets.{readLength}
+use Rattle.handed.specs.Sheets.{readSpan}
 
 -- ---- the reader, of a sheet and a column of so many places
 
@@ -33,7 +33,7 @@ Answered sheet room r = answerOutcome r ≡ outcome (readRefused sheet room) tt
 -- what it promises of its number, of the column and of the number of bytes
 abbrev Promised : List ℕ → List ℤ → ℕ → ℕ → List ℤ → ℕ → Type 0
 Promised sheet column old n xs span =
-    (n ≡ readRefused sheet (length column)) × ((xs ≡ readColumn sheet column) × (span ≡ readLength sheet (length column) old))
+    (n ≡ readRefused sheet (length column)) × ((xs ≡ readColumn sheet column) × (span ≡ readSpan sheet (length column) old))
 
 module _ (sheet : List ℕ) (room : ℕ) {r : Answer} (d : r ≡ Done) (e : Answered sheet room r) where
   accepted : readRefused sheet room ≡ 0
@@ -49,7 +49,7 @@ module _ (sheet : List ℕ) (room : ℕ) {r : Answer} (d : r ≡ Done) (e : Answ
 module _ (sheet : List ℕ) (column : List ℤ) (old : ℕ) {r : Answer} where
   pub read-stopped : {n : ℕ} → r ≡ Refused n → Answered sheet (length column) r → {xs : List ℤ} → xs ≡ readColumn sheet column
       → Promised sheet column old n xs old
-  unfolding readLength
+  unfolding readSpan
   read-stopped d e w =
       let n = refused-is (readRefused sheet (length column)) tt (ap answerOutcome (sym d) ∙ e) in
       (n .0, (w, unwritten (readRefused sheet (length column)) (headLength sheet) old (n .1)))
@@ -57,7 +57,7 @@ module _ (sheet : List ℕ) (column : List ℤ) (old : ℕ) {r : Answer} where
   pub read-done : r ≡ Done → Answered sheet (length column) r → {xs : List ℤ} → xs ≡ readColumn sheet column
       → {own marks : List ℕ} → own ≡ bodyAt 4 0 (fieldsOf sheet) → marks ≡ bodyAt 5 0 (fieldsOf sheet)
       → Promised sheet column old 0 xs (length sheet - (3 + length own) - (3 + length marks))
-  unfolding readLength headLength
+  unfolding readSpan headLength
   read-done d e w o m =
       let z = accepted sheet (length column) d e in
       (sym z, (w, rw (o, m) (written-new (readRefused sheet (length column)) (headLength sheet) old z)))

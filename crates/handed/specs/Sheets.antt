@@ -1,6 +1,6 @@
 -- How many bytes of a sheet are its plan.
 --
---   readLength sheet room old    what the reader leaves of this number in the place that it is lent
+--   readSpan sheet room old    what the reader leaves of this number in the place that it is lent
 use mathlib.Core.List.{List}
 use Prim.Native.Nat.{ℕ}
 use Rattle.plan.specs.Outcome.{written}
@@ -8,5 +8,5 @@ use Rattle.sheet.specs.Sheet.{readRefused}
 use Rattle.heads.specs.Heads.{headLength}
 
 -- S9: "The reader returns the plan": as the bytes that hold it
-unfoldable pub readLength : List ℕ → ℕ → ℕ → ℕ
-readLength sheet room old = written (readRefused sheet room) (headLength sheet) old
+unfoldable pub readSpan : List ℕ → ℕ → ℕ → ℕ
+readSpan sheet room old = written (readRefused sheet room) (headLength sheet) old

@@ -5,13 +5,13 @@ ghost use lib.ListN.{length, drop};
 use columns::Answer;
 use fields::body;
 ghost use Rattle.sheet.specs.Sheet.{readRefused, readColumn, marksOf};
-ghost use Rattle.handed.specs.Sheets.{readLength};
+ghost use Rattle.handed.specs.Sheets.{readSpan};
 
 // The readings of a sheet in the first places of the column, and how many of its first bytes are its plan.
 pub fn read(sheet: &[u8], readings: &mut [i32], span: &mut usize) -> u8
     ensures { λ r. ⌜ r ≡ readRefused (now (sheet .entry)) (length (now (readings .entry))) ⌝ }
     ensures { λ _. ⌜ now (readings .exit) ≡ readColumn (now (sheet .entry)) (now (readings .entry)) ⌝ }
-    ensures { λ _. ⌜ now (span .exit) ≡ readLength (now (sheet .entry)) (length (now (readings .entry))) (now (span .entry)) ⌝ }
+    ensures { λ _. ⌜ now (span .exit) ≡ readSpan (now (sheet .entry)) (length (now (readings .entry))) (now (span .entry)) ⌝ }
 {
     let contents = sheet::read(sheet, readings);
     let answer = contents.answer;

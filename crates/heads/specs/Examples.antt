@@ -3,6 +3,9 @@
 --   one, added, block, repeats     fields: levels 2 and k; the word ABC with a sign; the block word AB; how often runs are made
 --   heads, head-numbers            heads that hold plans, accepted and refused, and their numbers
 --   bad, bad-numbers               bytes that are no head: each is refused with 1
+--   rich, rich-plan                a head with a field of each tag, and its plan
+--   inBlocks, three-number         a three-level head with the block word A·B·C², which is 22
+--   sheets, head-lengths           two sheets, and how many of their bytes are their head
 --   calls, lefts                   a call on a plan that is accepted, on one that is refused, and on bytes that are no head
 use mathlib.Core.Path.{_≡_, refl}
 use mathlib.Core.List.{List, [], _∷_, _++_, map}
@@ -22,7 +25,7 @@ use Rattle.numerals.specs.Numbers.{big}
 use Rattle.fields.specs.Fields.{parse, fieldsOf, bodies, bodyAt}
 use Rattle.fields.specs.Tags.{badFrom}
 use Rattle.contents.specs.Contents.{needless, planIn}
-use Rattle.heads.specs.Heads.{badHead, headRefused, called, leaves}
+use Rattle.heads.specs.Heads.{badHead, headPlan, headRefused, headLength, called, leaves}
 
 abbrev one : ℕ → List ℕ
 one k = 1 ∷ 0 ∷ 2 ∷ 2 ∷ k ∷ []
@@ -54,7 +57,7 @@ unfolding headRefused badHead needless planIn big fieldsOf parse bodies bodyAt b
 head-numbers = refl
 
 -- N1: no bytes; a field cut short; a tag that falls, and one that is unknown; tag 1 twice, and absent; tag 6 twice; wrong lengths of fields 1 and
--- 6; the readings of one factor, and then its marks too, which a head has not
+-- 6; what a head has not: a tag 4, a tag 4 and a tag 5, a tag 5 alone
 abbrev bad : List (List ℕ)
 bad =
     []
@@ -75,8 +78,45 @@ bad-numbers : map headRefused bad ≡ replicate 12 1
 unfolding headRefused badHead big fieldsOf parse bodies bodyAt badFrom
 bad-numbers = refl
 
--- L1, L2: a call whose number is k for a plan, and which leaves 10 + k
-calls : map (λ head. called head (λ p. p .k)) (one 2 ∷ one 0 ∷ [] ∷ []) ≡ 2 ∷ 3 ∷ 1 ∷ []
+-- S4 to S6, S14: levels and k, the word with its sign, the block word, the repeats; P11: 0 beyond the counts
+abbrev rich : List ℕ
+rich = one 3 ++ added 1 ++ block ++ repeats 2
+
+rich-plan : headPlan rich
+    ≡ record {
+      levels = 2;
+      k = 3;
+      added = 1;
+      words = 7 ∷ replicate 5 0;
+      signs = 1 ∷ replicate 5 0;
+      blocks = 1;
+      blockwords = 3 ∷ replicate 3 0;
+      repeats = 2;
+    }
+unfolding planIn big fieldsOf parse bodies bodyAt tabFrom
+rich-plan = refl
+
+-- P14, P15
+abbrev inBlocks : List ℕ
+inBlocks = (1 ∷ 0 ∷ 2 ∷ 3 ∷ 3 ∷ []) ++ (3 ∷ 0 ∷ 2 ∷ 0 ∷ 22 ∷ [])
+
+three-number : headRefused inBlocks ≡ 0
+unfolding headRefused badHead needless planIn big fieldsOf parse bodies bodyAt badFrom withPlan planRefused badLevels badFactors mostTwo mostThree badCounts badWords badWord badSign badDigits usedDigits lowestDigit repeated dependent losesFactor factorWord badRepeats isRepeats mostReadings any among beyond letters combined times someCombination combinesTo some bits Σℕ factorsOf size two three tabFrom
+three-number = refl
+
+-- S3: the five bytes of levels and k before two readings and two marks; the fields of the richest head before an empty field 4 and one mark
+abbrev sheets : List (List ℕ)
+sheets =
+    (one 1 ++ (4 ∷ 0 ∷ 8 ∷ 0 ∷ 0 ∷ 0 ∷ 3 ∷ 0 ∷ 0 ∷ 0 ∷ 5 ∷ 5 ∷ 0 ∷ 2 ∷ 0 ∷ 0 ∷ []))
+    ∷ (rich ++ (4 ∷ 0 ∷ 0 ∷ 5 ∷ 0 ∷ 1 ∷ 0 ∷ []))
+    ∷ []
+
+head-lengths : map headLength sheets ≡ 5 ∷ 20 ∷ []
+unfolding headLength big fieldsOf parse bodies bodyAt
+head-lengths = refl
+
+-- L1, L2: a call whose number is k for a plan, and which leaves 10 + k; N16, L12: a needless field before the call's own number
+calls : map (λ head. called head (λ p. p .k)) (one 2 ∷ one 0 ∷ [] ∷ (one 3 ++ repeats 1) ∷ []) ≡ 2 ∷ 3 ∷ 1 ∷ 16 ∷ []
 unfolding called headRefused badHead needless planIn big fieldsOf parse bodies bodyAt badFrom withPlan planRefused badLevels badFactors mostTwo mostThree badCounts badWords badWord badSign repeated dependent losesFactor factorWord badRepeats isRepeats mostReadings any among beyond letters combined times someCombination combinesTo some bits Σℕ factorsOf size two three tabFrom
 calls = refl
 

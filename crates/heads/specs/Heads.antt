@@ -2,8 +2,8 @@
 --
 --   badHead fs               refusal 1 of a head
 --   headPlan head            the plan that it holds
---   headRefusals fs p        its refusals besides refusal 1 and those of the plan
---   headRefused head         the first number that applies to a head, 0 where its plan is accepted
+--   headRefusals fs          its refusals besides refusal 1 and those of the plan
+--   headRefused head         the first number that applies to a head, 0 where nothing is refused
 --   headLength sheet         how many bytes of a sheet are its head
 --   called head number       the number of a call on that plan, by the call's number for a plan
 --   leaves head made old     what such a call leaves in what it is lent to write, by what it leaves for a plan

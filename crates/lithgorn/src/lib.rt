@@ -1,7 +1,7 @@
 // The library for programs in other languages: every call, as include/lithgorn.h declares it to C. Each gives 0 where it is done, or the number of the
 // refusal; but the marks and the text, which give a length.
 //
-//   lithgorn_check, lithgorn_run, lithgorn_alias, lithgorn_estimate                 of a plan in bytes (crate `heads`): single figures
+//   lithgorn_check, lithgorn_run, lithgorn_alias, lithgorn_estimate                 of a plan in bytes (crate `heads`): single answers
 //   lithgorn_pass, lithgorn_step, lithgorn_totals, lithgorn_recover                 columns
 //   lithgorn_table, lithgorn_screen                                                 tables
 //   lithgorn_blockings                                                              every way to block a small plan
@@ -26,9 +26,9 @@ ghost use Rattle.contents.specs.Contents.{planIn, readingsIn, marksIn};
 ghost use Rattle.sheet.specs.Sheet.{readRefused, readColumn, marksOf};
 ghost use Rattle.printing.specs.Printed.{textOf};
 ghost use Rattle.heads.specs.Heads.{headPlan, headRefused, called, leaves};
-ghost use Rattle.facts.specs.Facts.{runNumber, runHigh, runBlock, aliasNumber, aliasWord, aliasTurned, estimateNumber, estimateKind, estimateDouble, blockingsLists};
-ghost use Rattle.handed.specs.Sheets.{readLength};
-ghost use Rattle.figures.specs.Handed.{callRefused, Handed};
+ghost use Rattle.facts.specs.Facts.{runOnHead, runHigh, runBlock, aliasOnHead, aliasWord, aliasTurned, estimateOnHead, estimateKind, estimateDouble, blockingsCount};
+ghost use Rattle.handed.specs.Sheets.{readSpan};
+ghost use Rattle.figures.specs.Numbers.{callRefused, TableLeft};
 ghost use Rattle.tables.specs.Sheets.{sheetTableRefused};
 ghost use Rattle.wholes.specs.Whole.{wholePlan};
 
@@ -43,7 +43,7 @@ pub extern "C" fn lithgorn_check(head: &[u8]) -> u8
 // The letters that are high in a run, and its block.
 #[no_mangle]
 pub extern "C" fn lithgorn_run(head: &[u8], number: usize, high: &mut u16, block: &mut u8) -> u8
-    ensures { λ r. ⌜ r ≡ runNumber (now (head .entry)) number ⌝ }
+    ensures { λ r. ⌜ r ≡ runOnHead (now (head .entry)) number ⌝ }
     ensures { λ _. ⌜ now (high .exit) ≡ runHigh (now (head .entry)) number (now (high .entry)) ⌝ }
     ensures { λ _. ⌜ now (block .exit) ≡ runBlock (now (head .entry)) number (now (block .entry)) ⌝ }
 {
@@ -53,7 +53,7 @@ pub extern "C" fn lithgorn_run(head: &[u8], number: usize, high: &mut u16, block
 // The base word that an effect reduces to, and 1 where its sign turns, else 0.
 #[no_mangle]
 pub extern "C" fn lithgorn_alias(head: &[u8], effect: u16, word: &mut u16, turned: &mut u8) -> u8
-    ensures { λ r. ⌜ r ≡ aliasNumber (now (head .entry)) effect ⌝ }
+    ensures { λ r. ⌜ r ≡ aliasOnHead (now (head .entry)) effect ⌝ }
     ensures { λ _. ⌜ now (word .exit) ≡ aliasWord (now (head .entry)) effect (now (word .entry)) ⌝ }
     ensures { λ _. ⌜ now (turned .exit) ≡ aliasTurned (now (head .entry)) effect (now (turned .entry)) ⌝ }
 {
@@ -69,7 +69,7 @@ pub extern "C" fn lithgorn_estimate(
     kind: &mut u8,
     value: &mut f64,
 ) -> u8
-    ensures { λ r. ⌜ r ≡ estimateNumber (now (head .entry)) effect total ⌝ }
+    ensures { λ r. ⌜ r ≡ estimateOnHead (now (head .entry)) effect total ⌝ }
     ensures { λ _. ⌜ now (kind .exit) ≡ estimateKind (now (head .entry)) effect total (now (kind .entry)) ⌝ }
     ensures { λ _. ⌜ now (value .exit) ≡ estimateDouble (now (head .entry)) effect total (now (value .entry)) ⌝ }
 {
@@ -81,7 +81,7 @@ pub extern "C" fn lithgorn_estimate(
 pub extern "C" fn lithgorn_blockings(k: u8, words: u8, column: &mut [u16], lists: &mut usize) -> u8
     ensures { λ r. ⌜ r ≡ blockingsRefused k words (length (now (column .entry))) ⌝ }
     ensures { λ _. ⌜ now (column .exit) ≡ blockingsColumn k words (now (column .entry)) ⌝ }
-    ensures { λ _. ⌜ now (lists .exit) ≡ blockingsLists k words (length (now (column .entry))) (now (lists .entry)) ⌝ }
+    ensures { λ _. ⌜ now (lists .exit) ≡ blockingsCount k words (length (now (column .entry))) (now (lists .entry)) ⌝ }
 {
     facts::blockings(k, words, column, lists)
 }
@@ -133,7 +133,7 @@ pub extern "C" fn lithgorn_table(
     figures: &mut [u64; 11],
     checks: &mut [i64; 2],
 ) -> u8
-    ensures { λ r. ⌜ Handed
+    ensures { λ r. ⌜ TableLeft
         (called (now (head .entry)) (λ p. tableRefused p (now (readings .entry)) (now (marks .entry)) (now (totals .entry)) (now (rows .entry))))
         (headPlan (now (head .entry))) (now (readings .entry)) (now (marks .entry))
         (now (totals .entry)) (now (rows .entry)) (now (figures .entry)) (now (checks .entry))
@@ -153,7 +153,7 @@ pub extern "C" fn lithgorn_screen(
     figures: &mut [u64; 11],
     checks: &mut [i64; 2],
 ) -> u8
-    ensures { λ r. ⌜ Handed
+    ensures { λ r. ⌜ TableLeft
         (called (now (head .entry)) (λ p. screenRefused p (now (readings .entry)) (now (marks .entry)) (now (totals .entry)) (now (rows .entry))))
         (headPlan (now (head .entry))) (now (readings .entry)) (now (marks .entry))
         (now (totals .entry)) (now (rows .entry)) (now (figures .entry)) (now (checks .entry))
@@ -167,7 +167,7 @@ pub extern "C" fn lithgorn_screen(
 pub extern "C" fn lithgorn_read(sheet: &[u8], readings: &mut [i32], span: &mut usize) -> u8
     ensures { λ r. ⌜ r ≡ readRefused (now (sheet .entry)) (length (now (readings .entry))) ⌝ }
     ensures { λ _. ⌜ now (readings .exit) ≡ readColumn (now (sheet .entry)) (now (readings .entry)) ⌝ }
-    ensures { λ _. ⌜ now (span .exit) ≡ readLength (now (sheet .entry)) (length (now (readings .entry))) (now (span .entry)) ⌝ }
+    ensures { λ _. ⌜ now (span .exit) ≡ readSpan (now (sheet .entry)) (length (now (readings .entry))) (now (span .entry)) ⌝ }
 {
     handed::read(sheet, readings, span)
 }
@@ -190,7 +190,7 @@ pub extern "C" fn lithgorn_sheet_table(
     figures: &mut [u64; 11],
     checks: &mut [i64; 2],
 ) -> u8
-    ensures { λ r. ⌜ Handed
+    ensures { λ r. ⌜ TableLeft
         (sheetTableRefused (now (sheet .entry)) (length (now (totals .entry))) (length (now (rows .entry))))
         (planIn (fieldsOf (now (sheet .entry)))) (readingsIn (fieldsOf (now (sheet .entry)))) (marksIn (fieldsOf (now (sheet .entry))))
         (now (totals .entry)) (now (rows .entry)) (now (figures .entry)) (now (checks .entry))
@@ -232,7 +232,7 @@ pub extern "C" fn yates_totals(
     wholes::totals(levels, k, repeats, readings, totals)
 }
 
-// The readings that have these totals.
+// The readings that have these totals; of runs that are made more than once, the run sums.
 #[no_mangle]
 pub extern "C" fn yates_recover(
     levels: u8,
@@ -261,7 +261,7 @@ pub extern "C" fn anova_table(
     figures: &mut [u64],
     checks: &mut [i64],
 ) -> u8
-    ensures { λ r. ⌜ Handed
+    ensures { λ r. ⌜ TableLeft
         (callRefused (wholePlan levels k repeats) (now (readings .entry)) (now (marks .entry))
         (now (totals .entry)) (now (rows .entry)) (now (figures .entry)) (now (checks .entry)))
         (wholePlan levels k repeats) (now (readings .entry)) (now (marks .entry))

@@ -10,17 +10,17 @@ use Rattle.plan.specs.declared.types.Plan.{Plan}
 use Rattle.contents.specs.Held.{held}
 use Rattle.heads.specs.Heads.{headPlan, headRefused, called}
 use Rattle.heads.specs.Laws.Called.{stops, plan-is, goes}
-use Rattle.figures.specs.Handed.{Handed}
+use Rattle.figures.specs.Numbers.{TableLeft}
 use Rattle.figures.specs.Laws.Roomed.{stopped, same-call}
 
 -- by the call's number for a plan
 module _ (head : List ℕ) (number : Plan → ℕ) {n : ℕ} (e : n ≡ headRefused head)
     {readings : List ℤ} {marks : List ℕ} {totals : List ℤ} {rows figures : List ℕ} {checks : List ℤ} where
   pub head-stopped : (n ≡ 0 → ⊥)
-      → Handed (called head number) (headPlan head) readings marks totals rows figures checks n totals rows figures checks
+      → TableLeft (called head number) (headPlan head) readings marks totals rows figures checks n totals rows figures checks
   head-stopped h = stopped (stops head e h number) h
 
   pub head-goes : n ≡ 0 → {p : Plan} → p ≡ held (headPlan head) → {d : ℕ} {ts : List ℤ} {rs fs : List ℕ} {cs : List ℤ}
-      → Handed (number p) p readings marks totals rows figures checks d ts rs fs cs
-      → Handed (called head number) (headPlan head) readings marks totals rows figures checks d ts rs fs cs
+      → TableLeft (number p) p readings marks totals rows figures checks d ts rs fs cs
+      → TableLeft (called head number) (headPlan head) readings marks totals rows figures checks d ts rs fs cs
   head-goes z is h = same-call (goes head e z is number refl) (plan-is head e z is) refl refl h

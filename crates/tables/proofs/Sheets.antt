@@ -35,7 +35,7 @@ use Rattle.sheet.specs.Laws.Admitted.{Admitted, admitted}
 use Rattle.sheet.specs.Laws.Holding.{held-with, narrow-by}
 use Rattle.anova.specs.Table.{tableRefused}
 use Rattle.anova.specs.Laws.Admitted.{table-admits}
-use Rattle.figures.specs.Handed.{Handed}
+use Rattle.figures.specs.Numbers.{TableLeft}
 use Rattle.tables.specs.Sheets.{wrongSlices, sheetTableRefused}
 use Rattle.tables.specs.Inner.Slices.{otherSlices}
 use Rattle.figures.specs.Laws.Roomed.{same-call}
@@ -94,8 +94,8 @@ module _ (sheet : List ℕ) (totals : List ℤ) (rows : List ℕ) (z : sheetTabl
 
   pub sheet-made : {p : Plan} {xs : List ℤ} {ms : List ℕ} → p ≡ held (planIn (fieldsOf sheet)) → xs ≡ readingsIn (fieldsOf sheet) → ms ≡ marksIn (fieldsOf sheet)
       → {figures : List ℕ} {checks : List ℤ} {n : ℕ} {ts : List ℤ} {rs fs : List ℕ} {cs : List ℤ}
-      → Handed (tableRefused p xs ms totals rows) p xs ms totals rows figures checks n ts rs fs cs
-      → Handed (sheetTableRefused sheet (length totals) (length rows)) (planIn (fieldsOf sheet)) (readingsIn (fieldsOf sheet)) (marksIn (fieldsOf sheet))
+      → TableLeft (tableRefused p xs ms totals rows) p xs ms totals rows figures checks n ts rs fs cs
+      → TableLeft (sheetTableRefused sheet (length totals) (length rows)) (planIn (fieldsOf sheet)) (readingsIn (fieldsOf sheet)) (marksIn (fieldsOf sheet))
       totals rows figures checks n ts rs fs cs
   sheet-made is values kinds h =
       let own = is ∙ held-all (planIn (fieldsOf sheet)) (known .plan) in

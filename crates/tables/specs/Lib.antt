@@ -1,4 +1,4 @@
--- What the calls for tables of plans in bytes and of sheets promise, besides `Handed` of the crate `figures`.
+-- What the calls for tables of plans in bytes and of sheets promise, besides `TableLeft` of the crate `figures`.
 --
 --   Sheets    the number of the table of a sheet
 --   Inner     what the inner functions ask and leave; no promise of a call

@@ -16,7 +16,7 @@ ghost use Rattle.contents.specs.Contents.{planIn, readingsIn, marksIn};
 ghost use Rattle.anova.specs.Table.{tableRefused};
 ghost use Rattle.screening.specs.Screening.{screenRefused};
 ghost use Rattle.heads.specs.Heads.{headPlan, called};
-ghost use Rattle.figures.specs.Handed.{Handed};
+ghost use Rattle.figures.specs.Numbers.{TableLeft};
 ghost use Rattle.tables.specs.Sheets.{sheetTableRefused};
 ghost use Rattle.tables.specs.Inner.Slices.{otherSlices};
 
@@ -33,7 +33,7 @@ pub fn table(
     figures: &mut [u64; 11],
     checks: &mut [i64; 2],
 ) -> u8
-    ensures { λ r. ⌜ Handed
+    ensures { λ r. ⌜ TableLeft
         (called (now (head .entry)) (λ p. tableRefused p (now (readings .entry)) (now (marks .entry)) (now (totals .entry)) (now (rows .entry))))
         (headPlan (now (head .entry))) (now (readings .entry)) (now (marks .entry))
         (now (totals .entry)) (now (rows .entry)) (now (figures .entry)) (now (checks .entry))
@@ -57,7 +57,7 @@ pub fn screen(
     figures: &mut [u64; 11],
     checks: &mut [i64; 2],
 ) -> u8
-    ensures { λ r. ⌜ Handed
+    ensures { λ r. ⌜ TableLeft
         (called (now (head .entry)) (λ p. screenRefused p (now (readings .entry)) (now (marks .entry)) (now (totals .entry)) (now (rows .entry))))
         (headPlan (now (head .entry))) (now (readings .entry)) (now (marks .entry))
         (now (totals .entry)) (now (rows .entry)) (now (figures .entry)) (now (checks .entry))
@@ -89,7 +89,7 @@ pub fn sheet_table(
     figures: &mut [u64; 11],
     checks: &mut [i64; 2],
 ) -> u8
-    ensures { λ r. ⌜ Handed
+    ensures { λ r. ⌜ TableLeft
         (sheetTableRefused (now (sheet .entry)) (length (now (totals .entry))) (length (now (rows .entry))))
         (planIn (fieldsOf (now (sheet .entry)))) (readingsIn (fieldsOf (now (sheet .entry)))) (marksIn (fieldsOf (now (sheet .entry))))
         (now (totals .entry)) (now (rows .entry)) (now (figures .entry)) (now (checks .entry))

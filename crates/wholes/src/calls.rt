@@ -7,7 +7,7 @@ use plan::lowest;
 use yates::Answer;
 ghost use Rattle.yates.specs.Calls.{passRefused, passColumn, totalsRefused, totalsColumn};
 ghost use Rattle.recovery.specs.Calls.{recoverRefused, recoverColumn};
-ghost use Rattle.figures.specs.Handed.{roomRefused, callRefused, Handed};
+ghost use Rattle.figures.specs.Numbers.{roomRefused, callRefused, TableLeft};
 ghost use Rattle.wholes.specs.Whole.{wholePlan};
 
 fn whole(levels: u8, k: u8, repeats: u8) -> Plan
@@ -47,7 +47,7 @@ pub fn totals(levels: u8, k: u8, repeats: u8, readings: &[i32], totals: &mut [i6
     }
 }
 
-// The readings that have these totals.
+// The readings that have these totals; of runs that are made more than once, the run sums.
 pub fn recover(levels: u8, k: u8, repeats: u8, totals: &[i64], readings: &mut [i32]) -> u8
     ensures { λ r. ⌜ r ≡ recoverRefused (wholePlan levels k repeats) (now (totals .entry)) (now (readings .entry)) ⌝ }
     ensures { λ _. ⌜ now (readings .exit) ≡ recoverColumn (wholePlan levels k repeats) (now (totals .entry)) (now (readings .entry)) ⌝ }
@@ -79,7 +79,7 @@ pub fn table(
     figures: &mut [u64],
     checks: &mut [i64],
 ) -> u8
-    ensures { λ r. ⌜ Handed
+    ensures { λ r. ⌜ TableLeft
         (callRefused (wholePlan levels k repeats) (now (readings .entry)) (now (marks .entry))
         (now (totals .entry)) (now (rows .entry)) (now (figures .entry)) (now (checks .entry)))
         (wholePlan levels k repeats) (now (readings .entry)) (now (marks .entry))

@@ -6,13 +6,13 @@
 --   Plans        the plan that is read back
 --   Readings     the readings that are read back
 --   Plain        what is written are bytes
---   RoundTrip    the law on the whole sheet
 --   Heads        the law on a plan alone
+--   RoundTrip    the law on the whole sheet
 pub mod Bytes
 pub mod Back
 pub mod Each
 pub mod Plans
 pub mod Readings
 pub mod Plain
-pub mod RoundTrip
 pub mod Heads
+pub mod RoundTrip

@@ -72,7 +72,7 @@ sheetFields p xs marks = headFields p (field 4 (readingBytes xs) (field 5 marks 
 unfoldable pub sheetOf : Plan → List ℤ → List ℕ → List ℕ
 sheetOf p xs marks = bytesOf (sheetFields p xs marks)
 
--- the head of every such sheet
+-- S4 to S6, S14: the fields of the plan, and no others
 unfoldable pub headOf : Plan → List ℕ
 headOf p = bytesOf (headFields p end)
 

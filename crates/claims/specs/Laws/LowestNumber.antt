@@ -31,8 +31,8 @@ use Rattle.contents.specs.Contents.{needless, planIn}
 use Rattle.sheet.specs.Sheet.{sheetRefusals, refusedWith, readRefused, marksRefused}
 use Rattle.printing.specs.Printed.{longestSheet, printRefused}
 use Rattle.heads.specs.Heads.{badHead, headPlan, headRefusals, headRefused, called}
-use Rattle.facts.specs.Facts.{runNumber, aliasNumber, estimateNumber}
-use Rattle.figures.specs.Handed.{wrongRoom, roomRefused, callRefused}
+use Rattle.facts.specs.Facts.{runOnHead, aliasOnHead, estimateOnHead}
+use Rattle.figures.specs.Numbers.{wrongRoom, roomRefused, callRefused}
 use Rattle.tables.specs.Sheets.{wrongSlices, sheetTableRefused}
 use Rattle.wholes.specs.Whole.{wholePlan}
 use Rattle.claims.specs.LowestNumber.{onPlan, onSheet, onBytes, onHead, tableRefusalsC, LowestNumber}
@@ -108,7 +108,7 @@ module _ (head : List ℕ) (number : Plan → ℕ) (further : List Refusal) wher
   on-head e t = rw (of-head head number further e) (is-lowest (onHead head further) t)
 
 pub lowest-number : LowestNumber
-unfolding planRefused runRefused aliasRefused estimateRefused blockingsRefused passRefused columnsRefused readingsRefused recoverRefused tableRefused screenRefused readRefused marksRefused runNumber aliasNumber estimateNumber sheetTableRefused rank
+unfolding planRefused runRefused aliasRefused estimateRefused blockingsRefused passRefused columnsRefused readingsRefused recoverRefused tableRefused screenRefused readRefused marksRefused runOnHead aliasOnHead estimateOnHead sheetTableRefused rank
 lowest-number =
     record {
       check = λ p. is-lowest (planRefusals p) tt;

@@ -33,9 +33,9 @@ use Rattle.contents.specs.Contents.{planIn}
 use Rattle.sheet.specs.Sheet.{sheetRefusals, refusedWith, readRefused, readColumn, marksRefused, marksOf}
 use Rattle.printing.specs.Printed.{longestSheet, printRefused}
 use Rattle.heads.specs.Heads.{badHead, headPlan, headRefusals, headRefused, called, leaves}
-use Rattle.facts.specs.Facts.{runNumber, runHigh, runBlock, aliasNumber, aliasWord, aliasTurned, estimateNumber, estimateKind, estimateDouble, blockingsLists}
-use Rattle.handed.specs.Sheets.{readLength}
-use Rattle.figures.specs.Handed.{wrongRoom, roomRefused, callRefused}
+use Rattle.facts.specs.Facts.{runOnHead, runHigh, runBlock, aliasOnHead, aliasWord, aliasTurned, estimateOnHead, estimateKind, estimateDouble, blockingsCount}
+use Rattle.handed.specs.Sheets.{readSpan}
+use Rattle.figures.specs.Numbers.{wrongRoom, roomRefused, callRefused}
 use Rattle.tables.specs.Sheets.{wrongSlices, sheetTableRefused}
 use Rattle.claims.specs.Refusals.{theNumbers, OneOfTheNumbers, OnPlan, OnBlockings, OnSheet, OnHead, ForC, Unhanded}
 
@@ -146,7 +146,7 @@ unled head number made old h kept = by (ℕ-discrete (headRefused head) 0)
     by (no z) = sym (unwritten (headRefused head) (made (headPlan head)) old z)
 
 pub on-any-head : (head : List ℕ) → OnHead head
-unfolding runNumber runHigh runBlock aliasNumber aliasWord aliasTurned estimateNumber estimateKind estimateDouble
+unfolding runOnHead runHigh runBlock aliasOnHead aliasWord aliasTurned estimateOnHead estimateKind estimateDouble
 on-any-head head =
     let own = on-any-plan (headPlan head) in
     record {
@@ -171,7 +171,7 @@ on-any-head head =
     }
 
 pub for-C : ForC
-unfolding callRefused roomRefused tableRefused sheetTableRefused blockingsLists readLength known
+unfolding callRefused roomRefused tableRefused sheetTableRefused blockingsCount readSpan known
 for-C =
     record {
       table = λ p readings marks totals rows figures checks.

@@ -31,7 +31,7 @@ use Rattle.anova.specs.declared.types.Table.{Table}
 use Rattle.anova.specs.declared.types.Table.the-variants.{Made, Refused}
 use Rattle.anova.specs.Table.{tableRefused, tableFigures, tableTotals, tableRows, tableOutcome, rowsOf}
 use Rattle.screening.specs.Screening.{screenRefused, screenTotals, screenRows}
-use Rattle.figures.specs.Handed.{figureNumbers, checkNumbers, wrongRoom, roomRefused, callRefused, Handed}
+use Rattle.figures.specs.Numbers.{figureNumbers, checkNumbers, wrongRoom, roomRefused, callRefused, TableLeft}
 
 -- ---- the lengths
 
@@ -71,7 +71,7 @@ module _ (p : Plan) where
 -- ---- the whole call
 
 module _ {m : ℕ} {p : Plan} {readings : List ℤ} {marks : List ℕ} {totals : List ℤ} {rows figures : List ℕ} {checks : List ℤ} where
-  pub stopped : {n : ℕ} → n ≡ m → (n ≡ 0 → ⊥) → Handed m p readings marks totals rows figures checks n totals rows figures checks
+  pub stopped : {n : ℕ} → n ≡ m → (n ≡ 0 → ⊥) → TableLeft m p readings marks totals rows figures checks n totals rows figures checks
   stopped e h =
       let none : m ≡ 0 → ⊥ = λ z. h (e ∙ z) in
       record {
@@ -84,7 +84,7 @@ module _ {m : ℕ} {p : Plan} {readings : List ℤ} {marks : List ℕ} {totals :
 
   pub same-call : {d : ℕ} {q : Plan} {xs : List ℤ} {ms : List ℕ} → m ≡ d → p ≡ q → readings ≡ xs → marks ≡ ms
       → {n : ℕ} {ts : List ℤ} {rs fs : List ℕ} {cs : List ℤ}
-      → Handed m p readings marks totals rows figures checks n ts rs fs cs → Handed d q xs ms totals rows figures checks n ts rs fs cs
+      → TableLeft m p readings marks totals rows figures checks n ts rs fs cs → TableLeft d q xs ms totals rows figures checks n ts rs fs cs
   same-call number plan values kinds h = rw (← number, ← plan, ← values, ← kinds) h
 
 -- ---- by its answer
@@ -111,7 +111,7 @@ module _ {p : Plan} {readings : List ℤ} {marks : List ℕ} {totals : List ℤ}
 module _ {m : ℕ} {p : Plan} {readings : List ℤ} {marks : List ℕ} {totals : List ℤ} {rows figures : List ℕ} {checks : List ℤ}
     {answer : Table} {ts : List ℤ} {rs : List ℕ} (a : Answered m p readings marks totals rows answer ts rs) where
   pub table-made : {f : Figures} → answer ≡ Made f → {fs : List ℕ} {cs : List ℤ} → fs ≡ figureNumbers f → cs ≡ checkNumbers f
-      → Handed m p readings marks totals rows figures checks 0 ts rs fs cs
+      → TableLeft m p readings marks totals rows figures checks 0 ts rs fs cs
   table-made is numbers sums =
       let v = tableFigures p readings marks in
       let made = given-is m v (ap tableOutcome (sym is) ∙ a .told) in
@@ -123,7 +123,7 @@ module _ {m : ℕ} {p : Plan} {readings : List ℤ} {marks : List ℕ} {totals :
         checks-left = sums ∙ ap checkNumbers (made .1) ∙ written-new m (checkNumbers v) checks (made .0);
       }
 
-  pub table-refused : {n : ℕ} → answer ≡ Refused n → Handed m p readings marks totals rows figures checks n ts rs figures checks
+  pub table-refused : {n : ℕ} → answer ≡ Refused n → TableLeft m p readings marks totals rows figures checks n ts rs figures checks
   table-refused is =
       let v = tableFigures p readings marks in
       let none = refused-is m v (ap tableOutcome (sym is) ∙ a .told) in
@@ -139,12 +139,12 @@ module _ {m : ℕ} {p : Plan} {readings : List ℤ} {marks : List ℕ} {totals :
 
 module _ {p : Plan} {readings : List ℤ} {marks : List ℕ} {totals : List ℤ} {rows figures : List ℕ} {checks : List ℤ} where
   pub without-room : wrongRoom (length figures) (length checks) ≡ true → {n : ℕ} → n ≡ roomRefused p
-      → Handed (callRefused p readings marks totals rows figures checks) p readings marks totals rows figures checks n totals rows figures checks
+      → TableLeft (callRefused p readings marks totals rows figures checks) p readings marks totals rows figures checks n totals rows figures checks
   unfolding callRefused
   without-room w e = stopped (e ∙ rw w refl) (λ z. room-stopped p (sym e ∙ z))
 
   pub with-room : wrongRoom (length figures) (length checks) ≡ false → {n : ℕ} {ts : List ℤ} {rs fs : List ℕ} {cs : List ℤ}
-      → Handed (tableRefused p readings marks totals rows) p readings marks totals rows figures checks n ts rs fs cs
-      → Handed (callRefused p readings marks totals rows figures checks) p readings marks totals rows figures checks n ts rs fs cs
+      → TableLeft (tableRefused p readings marks totals rows) p readings marks totals rows figures checks n ts rs fs cs
+      → TableLeft (callRefused p readings marks totals rows figures checks) p readings marks totals rows figures checks n ts rs fs cs
   unfolding callRefused
   with-room w h = rw w h

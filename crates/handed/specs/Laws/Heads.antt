@@ -1,8 +1,7 @@
--- What the reader says of a sheet's first bytes: so many of them are a plan in bytes, which each call on such a plan accepts, and it is the plan of
--- the sheet.
+-- What the reader says of a sheet's first bytes: so many of them are a plan in bytes, which the plan check accepts, and it is the plan of the sheet.
 --
 --   head-of-sheet     the first `headLength` bytes of a sheet that is accepted are a head that is accepted, with the sheet's plan
---   length-of-head    and `readLength`, which the reader leaves, is their number
+--   length-of-head    and `readSpan`, which the reader leaves, is their number
 use mathlib.Core.Path.{_≡_, refl, sym, ap, _∙_}
 use mathlib.Core.List.{List}
 use Prim.Native.Nat.{ℕ}
@@ -15,7 +14,7 @@ use Rattle.sheet.specs.Sheet.{readRefused}
 use Rattle.sheet.specs.Laws.Admitted.{read-admitted}
 use Rattle.heads.specs.Heads.{headPlan, headRefusals, headRefused, headLength}
 use Rattle.heads.specs.Laws.Sheets.{head-fine, head-plan, head-needless}
-use Rattle.handed.specs.Sheets.{readLength}
+use Rattle.handed.specs.Sheets.{readSpan}
 
 module _ (sheet : List ℕ) (room : ℕ) (z : readRefused sheet room ≡ 0) where
   abbrev head : List ℕ
@@ -29,6 +28,6 @@ module _ (sheet : List ℕ) (room : ℕ) (z : readRefused sheet room ≡ 0) wher
       let needed = head-needless sheet (a .fields) ∙ a .needed in
       (rw (head-fine sheet (a .fields)) (after-plan (headPlan head) (headRefusals (fieldsOf head)) (ap planRefused is ∙ a .plan) ∙ rw needed refl), is)
 
-  pub length-of-head : (old : ℕ) → readLength sheet room old ≡ headLength sheet
-  unfolding readLength
+  pub length-of-head : (old : ℕ) → readSpan sheet room old ≡ headLength sheet
+  unfolding readSpan
   length-of-head old = sym (written-new (readRefused sheet room) (headLength sheet) old z)

@@ -1,28 +1,52 @@
--- A plan that is written in bytes is read back: so every plan that is accepted can be handed over in this form.
+-- A plan that is written in bytes is read back: so every plan that is accepted, with words of 16 bits in as many places as a plan has, can be
+-- handed over in this form.
 --
---   head-back        the bytes of a plan that is accepted are not refused, and hold it, with 0 beyond its counts
---   same-head        and the plan itself where it has 0 there
+--   sign-small, levels-small    signs and levels of such a plan fit a byte
+--   head-back                   its bytes are not refused, and hold it, with 0 beyond its counts
+--   same-head                   and the plan itself where it has 0 there
+--   head-bytes                  they are bytes only
 use mathlib.Core.Path.{_≡_, refl, ap, _∙_}
 use mathlib.Core.Bool.{false}
 use mathlib.Core.List.{[], _∷_}
+use mathlib.Core.Logic.{_⊎_, inl, inr}
+use Prim.Native.Nat.{ℕ, _<_}
 use native.Mathlib.Omega.{arith}
+use lib.ListN.{length, getD}
+use lib.Seq.{length-take-le, getD-take}
 use Rattle.plan.specs.declared.types.Plan.{Plan}
 use Rattle.plan.specs.Check.{planRefused}
 use Rattle.plan.specs.Outcome.{lowest}
-use Rattle.plan.specs.Laws.Accepted.{sizes}
+use Rattle.plan.specs.Plan.{addedSigns}
+use Rattle.plan.specs.Laws.Accepted.{accepted as accepted-plan, sizes}
 use Rattle.plan.specs.Laws.Alike.{same-refused}
 use Rattle.plan.specs.Laws.Answers.{after-plan}
+use Rattle.plan.specs.Laws.Sizes.{some-repeat}
 use Rattle.fields.specs.Fields.{Fields, end, fieldsOf, bodies}
 use Rattle.fields.specs.Tags.{badFrom}
 use Rattle.contents.specs.Contents.{planIn}
 use Rattle.heads.specs.Heads.{badHead, headPlan, headRefusals, headRefused}
 use Rattle.writing.specs.Writer.{bytes, addedBody, blockBody, headFields, headOf, settled}
-use Rattle.writing.specs.RoundTrip.{Shaped, Clean}
+use Rattle.writing.specs.RoundTrip.{Shaped, Clean, AllBytes}
 use Rattle.writing.specs.Laws.Back.{read-back}
 use Rattle.writing.specs.Laws.Each.{each-whole, each-fine}
+use Rattle.writing.specs.Laws.Plain.{plain-append, plain-bytes, plain-fields, plain-each}
 use Rattle.writing.specs.Laws.Plans.{settled-alike, settled-same, After, Bodies, the-bodies, at-most-one, not-needless, plan-back}
 
 module _ (p : Plan) (s : Shaped p) (ok : planRefused p ≡ 0) where
+  pub sign-small : (i : ℕ) → i < p .added → getD (p .signs) i 0 < 256
+  sign-small i h =
+      let k = sizes p ok in
+      let l : length (addedSigns p) ≡ p .added = length-take-le (p .added) (p .signs) (rw (s .signs-long) (k .1)) in
+      let e : getD (addedSigns p) i 0 ≡ getD (p .signs) i 0 = getD-take (p .added) (p .signs) i 0 h in
+      omega (arith, e, accepted-plan p ok .signs i (rw l h))
+
+  pub levels-small : p .levels < 256
+  levels-small = by (accepted-plan p ok .levels)
+    where
+      by : (p .levels ≡ 2) ⊎ (p .levels ≡ 3) → p .levels < 256
+      by (inl e) = omega (arith, e)
+      by (inr e) = omega (arith, e)
+
   abbrev fs : Fields
   fs = headFields p end
 
@@ -76,3 +100,15 @@ module _ (p : Plan) (s : Shaped p) (ok : planRefused p ≡ 0) where
 
   pub same-head : Clean p → headPlan (headOf p) ≡ p
   same-head c = head-back .1 ∙ settled-same p s c
+
+  pub head-bytes : AllBytes (headOf p)
+  unfolding headOf
+  head-bytes =
+      plain-fields fs (
+        omega arith,
+        (levels-small, (omega (arith, sizes p ok .0), tt)),
+        plain-each 2 (p .added) (addedBody p) _ (omega arith)
+            (λ i h. plain-append (bytes 2 (getD (p .words) i 0)) (getD (p .signs) i 0 ∷ []) (plain-bytes 2 (getD (p .words) i 0)) (sign-small i h, tt))
+            (plain-each 3 (p .blocks) (blockBody p) _ (omega arith) (λ i h. plain-bytes 2 (getD (p .blockwords) i 0))
+            (plain-each 6 _ (λ i. p .repeats ∷ []) _ (omega arith) (λ i h. (omega (arith, some-repeat p ok .1), tt)) tt)),
+      )

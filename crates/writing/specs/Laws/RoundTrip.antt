@@ -37,6 +37,7 @@ use Rattle.sheet.specs.Laws.Marks.{small-marks, accepted-without}
 use Rattle.writing.specs.Writer.{bytes, readingBytes, addedBody, blockBody, repeatsFields, sheetFields, sheetOf, settled}
 use Rattle.writing.specs.Laws.Back.{read-back}
 use Rattle.writing.specs.Laws.Each.{each-whole, each-fine}
+use Rattle.writing.specs.Laws.Heads.{sign-small, levels-small}
 use Rattle.writing.specs.Laws.Plans.{settled-alike, settled-same, sixBodies, After, Bodies, the-bodies, at-most-one, not-needless, plan-back}
 use Rattle.writing.specs.RoundTrip.{Clean, AllBytes, Sheetable, ReadBack}
 use Rattle.writing.specs.Laws.Plain.{plain-append, plain-list, plain-bytes, plain-readings, plain-fields, plain-each}
@@ -181,28 +182,14 @@ module _ {p : Plan} {xs : List ℤ} {marks : List ℕ} (g : Sheetable p xs marks
 
   -- ---- bytes only
 
-  sign-small : (i : ℕ) → i < p .added → getD (p .signs) i 0 < 256
-  sign-small i h =
-      let s = sizes p (g .accepted) in
-      let l : length (addedSigns p) ≡ p .added = length-take-le (p .added) (p .signs) (rw (g .shaped .signs-long) (s .1)) in
-      let e : getD (addedSigns p) i 0 ≡ getD (p .signs) i 0 = getD-take (p .added) (p .signs) i 0 h in
-      omega (arith, e, accepted-plan p (g .accepted) .signs i (rw l h))
-
-  levels-small : p .levels < 256
-  levels-small = by (accepted-plan p (g .accepted) .levels)
-    where
-      by : (p .levels ≡ 2) ⊎ (p .levels ≡ 3) → p .levels < 256
-      by (inl e) = omega (arith, e)
-      by (inr e) = omega (arith, e)
-
   pub all-bytes : AllBytes (sheetOf p xs marks)
   unfolding sheetOf sheetFields
   all-bytes =
       plain-fields fs (
         omega arith,
-        (levels-small, (omega (arith, sizes p (g .accepted) .0), tt)),
+        (levels-small p (g .shaped) (g .accepted), (omega (arith, sizes p (g .accepted) .0), tt)),
         plain-each 2 (p .added) (addedBody p) _ (omega arith)
-            (λ i h. plain-append (bytes 2 (getD (p .words) i 0)) (getD (p .signs) i 0 ∷ []) (plain-bytes 2 (getD (p .words) i 0)) (sign-small i h, tt))
+            (λ i h. plain-append (bytes 2 (getD (p .words) i 0)) (getD (p .signs) i 0 ∷ []) (plain-bytes 2 (getD (p .words) i 0)) (sign-small p (g .shaped) (g .accepted) i h, tt))
             (plain-each 3 (p .blocks) (blockBody p) _ (omega arith) (λ i h. plain-bytes 2 (getD (p .blockwords) i 0))
             (plain-each 6 _ (λ i. p .repeats ∷ []) _ (omega arith) (λ i h. (omega (arith, some-repeat p (g .accepted) .1), tt))
             (omega arith, plain-readings xs, (omega arith, plain-list marks (λ w h. omega (arith, small-marks p marks (g .lawful) w h)), tt)))),

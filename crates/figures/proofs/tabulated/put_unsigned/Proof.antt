@@ -3,8 +3,8 @@ use Prim.Native.Nat.{_-_}
 use native.Mathlib.Omega.{arith}
 use lib.ListN.{length}
 use Rattle.algebra.specs.Laws.Copied.{Copying, copying-none, copying-long, copying-more, copying-all}
-use Rattle.figures.proofs.handed.put_unsigned.Statement.{statement}
-use Rattle.figures.proofs.handed.put_unsigned.Tie as tie
+use Rattle.figures.proofs.tabulated.put_unsigned.Statement.{statement}
+use Rattle.figures.proofs.tabulated.put_unsigned.Tie as tie
 
 abbrev Inv-loop : tie.InvT-loop
 Inv-loop from to₀ i₀ to i = Copying 0 from to₀ i to

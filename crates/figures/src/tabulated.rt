@@ -7,7 +7,7 @@ use columns::copy_values;
 use plan::Plan;
 ghost use Rattle.anova.specs.Table.{tableRefused};
 ghost use Rattle.screening.specs.Screening.{screenRefused};
-ghost use Rattle.figures.specs.Handed.{figureNumbers, checkNumbers, wrongRoom, Handed};
+ghost use Rattle.figures.specs.Numbers.{figureNumbers, checkNumbers, wrongRoom, TableLeft};
 
 const FIGURES: usize = 11;
 
@@ -81,7 +81,7 @@ pub fn tabulate(
     checks: &mut [i64],
 ) -> u8
     requires { ⌜ (length (now figures) ≡ 11) × (length (now checks) ≡ 2) ⌝ }
-    ensures { λ r. ⌜ Handed (tableRefused p (now (readings .entry)) (now (marks .entry)) (now (totals .entry)) (now (rows .entry)))
+    ensures { λ r. ⌜ TableLeft (tableRefused p (now (readings .entry)) (now (marks .entry)) (now (totals .entry)) (now (rows .entry)))
         p (now (readings .entry)) (now (marks .entry))
         (now (totals .entry)) (now (rows .entry)) (now (figures .entry)) (now (checks .entry))
         r (now (totals .exit)) (now (rows .exit)) (now (figures .exit)) (now (checks .exit)) ⌝ }
@@ -107,7 +107,7 @@ pub fn screened(
     checks: &mut [i64],
 ) -> u8
     requires { ⌜ (length (now figures) ≡ 11) × (length (now checks) ≡ 2) ⌝ }
-    ensures { λ r. ⌜ Handed (screenRefused p (now (readings .entry)) (now (marks .entry)) (now (totals .entry)) (now (rows .entry)))
+    ensures { λ r. ⌜ TableLeft (screenRefused p (now (readings .entry)) (now (marks .entry)) (now (totals .entry)) (now (rows .entry)))
         p (now (readings .entry)) (now (marks .entry))
         (now (totals .entry)) (now (rows .entry)) (now (figures .entry)) (now (checks .entry))
         r (now (totals .exit)) (now (rows .exit)) (now (figures .exit)) (now (checks .exit)) ⌝ }

@@ -1,7 +1,7 @@
 use borrow.Author.Needs.{needs}
 use Rattle.figures.specs.Laws.Roomed.{screen-answered, table-made, table-refused}
-use Rattle.figures.proofs.handed.screened.Statement.{statement}
-use Rattle.figures.proofs.handed.screened.Tie as tie
+use Rattle.figures.proofs.tabulated.screened.Statement.{statement}
+use Rattle.figures.proofs.tabulated.screened.Tie as tie
 
 pub screened-spec : {M : Type 1} → statement M
 screened-spec =

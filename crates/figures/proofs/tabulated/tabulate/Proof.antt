@@ -1,7 +1,7 @@
 use borrow.Author.Needs.{needs}
 use Rattle.figures.specs.Laws.Roomed.{table-answered, table-made, table-refused}
-use Rattle.figures.proofs.handed.tabulate.Statement.{statement}
-use Rattle.figures.proofs.handed.tabulate.Tie as tie
+use Rattle.figures.proofs.tabulated.tabulate.Statement.{statement}
+use Rattle.figures.proofs.tabulated.tabulate.Tie as tie
 
 pub tabulate-spec : {M : Type 1} → statement M
 tabulate-spec =

@@ -4,7 +4,7 @@
 --   wrongRoom m n                 the slices for figures and checks are not 11 and 2 long
 --   roomRefused p                 the number of a call that has no such room
 --   callRefused                   the first number that applies to a table call with such slices, 0 where the table is made
---   Handed m p .. n ts rs fs cs   a call whose number is m answers the number n and leaves these slices: the table of the plan p where m is 0
+--   TableLeft m p .. n ts rs fs cs   a call whose number is m answers the number n and leaves these slices: the table of the plan p where m is 0
 use mathlib.Core.Path.{_≡_}
 use mathlib.Core.Bool.{Bool, true, not, cond, _||_}
 use mathlib.Core.List.{List, [], _∷_}
@@ -60,7 +60,7 @@ callRefused p readings marks totals rows figures checks =
 
 -- C1: "every public call states its result and all the slices it was handed, refusals too"; V11 to V13
 module _ (m : ℕ) (p : Plan) (readings : List ℤ) (marks : List ℕ) (totals : List ℤ) (rows figures : List ℕ) (checks : List ℤ) where
-  pub record Handed (n : ℕ) (ts : List ℤ) (rs fs : List ℕ) (cs : List ℤ) : Type 0 where
+  pub record TableLeft (n : ℕ) (ts : List ℤ) (rs fs : List ℕ) (cs : List ℤ) : Type 0 where
     pub number : n ≡ m
     pub totals-left : ts ≡ written m (totalsOf (factorsOf p) (runSumsOf p readings)) totals
     pub rows-left : rs ≡ written m (rowsOf p (runSumsOf p readings)) rows

@@ -1,6 +1,6 @@
 use borrow.Author.Needs.{needs}
-use Rattle.figures.proofs.handed.put_figures.Statement.{statement}
-use Rattle.figures.proofs.handed.put_figures.Tie as tie
+use Rattle.figures.proofs.tabulated.put_figures.Statement.{statement}
+use Rattle.figures.proofs.tabulated.put_figures.Tie as tie
 
 pub put-figures-spec : {M : Type 1} → statement M
 put-figures-spec =

@@ -2,8 +2,8 @@ use mathlib.Core.Path.{_∙_}
 use borrow.Author.Needs.{needs}
 use Rattle.algebra.specs.Laws.Machine.{kept}
 use Rattle.columns.specs.Laws.Copies.{copied-over}
-use Rattle.figures.proofs.handed.put_checks.Statement.{statement}
-use Rattle.figures.proofs.handed.put_checks.Tie as tie
+use Rattle.figures.proofs.tabulated.put_checks.Statement.{statement}
+use Rattle.figures.proofs.tabulated.put_checks.Tie as tie
 
 pub put-checks-spec : {M : Type 1} → statement M
 put-checks-spec =
