@@ -3,9 +3,8 @@
 --   figures, in-order, checks-in-order    some figures, all unlike, and their numbers
 --   rooms                                 the numbers of calls with slices of other lengths
 use mathlib.Core.Path.{_≡_, refl}
-use mathlib.Core.List.{List, [], _∷_, _++_}
-use Prim.Native.Nat.{ℕ}
-use lib.IntN.{ℤ, pos, negsuc}
+use mathlib.Core.List.{[], _∷_}
+use lib.IntN.{pos, negsuc}
 use lib.ListN.{replicate}
 use Rattle.algebra.specs.Bits.{bits}
 use Rattle.algebra.specs.Naturals.{Σℕ}

@@ -6,20 +6,18 @@
 use mathlib.Core.Path.{_≡_, refl, sym, ap, _∙_}
 use mathlib.Core.Bool.{Bool, false, not}
 use mathlib.Core.List.{List, [], _∷_, _++_}
-use mathlib.Core.Logic.{_⊎_, inl, inr}
 use Prim.Native.Nat.{ℕ, _*_, _%_, _^_, _≤_, _<_}
 use native.Mathlib.Omega.{arith}
 use borrow.Author.Tests.{eq-eqb, le-ltb}
 use lib.Dec.{eqb, ltb}
 use lib.IntN.{ℤ, natAbs}
 use lib.ListN.{length, getD, drop}
-use lib.Seq.{length-take-le, getD-take}
 use Rattle.algebra.specs.Laws.Tests.{none}
 use Rattle.contrasts.specs.Columns.{read}
 use Rattle.plan.specs.declared.types.Plan.{Plan}
-use Rattle.plan.specs.Plan.{addedSigns, factorsOf, allReadings}
+use Rattle.plan.specs.Plan.{factorsOf, allReadings}
 use Rattle.plan.specs.Limits.{readingLimit}
-use Rattle.plan.specs.Laws.Accepted.{accepted as accepted-plan, sizes}
+use Rattle.plan.specs.Laws.Accepted.{sizes}
 use Rattle.plan.specs.Laws.Alike.{Alike, same-refused, same-factors, same-limit}
 use Rattle.plan.specs.Laws.Answers.{written-new}
 use Rattle.plan.specs.Laws.Limits.{reading-fits}
