@@ -8,6 +8,9 @@
 #   CHECK         printed tables that belong to a sheet, or do not
 #   CASES         all of them
 
+import csv
+import io
+import json
 import re
 import tempfile
 from hashlib import sha256
@@ -171,13 +174,19 @@ SHOW = [
     as_csv("three levels", THREE),
     Case("show, names in LaTeX", [*LATEX, "a.csv"], of_lines(ODD), output=has(ODD_TEX, "\\end{tabular}\n")),
     Case("show, long names and signs in LaTeX", [*LATEX, "a.csv"], of_lines(LONG), output=has(
-        "% Added: E = -ABCD, F = +BCD", "\nA & 1 &", "& blocks \\\\\n", "$-0.", "\nE & 1 &", "\\hline\nBlocks & 3")),
+        "\nA & 1 &", "& blocks \\\\\n", "$-0.", "\nE & 1 &", "\\hline\nBlocks & 3", "\\end{tabular}\n\n\\noindent\n",
+        "Added: E = -ABCD, F = +BCD.\n", "Effects are high minus low.\n")),
     Case("show, three levels in LaTeX", [*LATEX, "a.csv"], of_lines(THREE),
          output=has("\\begin{tabular}{lrrrrrrl}", "Fraction", "A $\\times$ nitrogen & 4 &", "& error \\\\\n",
                     "\\hline\nBlocks", "\\end{tabular}\n", "\\begin{tabular}{lrrr}", "nitrogen &", "\\end{tabular}\n")),
     Case("show, to a file", [*JSON, "a.csv", "-o", "b.json"], of_lines(FOUR), written={"b.json": json_of(FOUR, "a.csv")}),
     Case("show, several files one after the other", ["show", "a.csv", "b.csv"], TWO,
          output=has(FOUR_TEXT + foot(FOUR) + "\nAnalysis of variance: b.csv\n", foot(EIGHT))),
+    Case("show, several files in JSON", [*JSON, "a.csv", "b.csv"], TWO,
+         output=lambda content: [own["file"] for own in json.loads(content)] == ["a.csv", "b.csv"]),
+    Case("show, several files in CSV", ["show", "--format", "csv", "a.csv", "b.csv"], TWO,
+         output=lambda content: content.count(b"file,part,") == 1 and {own["file"] for own in csv.DictReader(
+             io.StringIO(content.decode()))} == {"a.csv", "b.csv"}),
     Case("show, into a folder, one file of three refused", [*JSON, "a.csv", "b.csv", "c.sheet", "--into", "in"],
          {"a.csv": lines_of(FOUR), "b.csv": lines_of(FOUR._replace(marks=["mean"])), "c.sheet": sheet_of(THREE)}, status=1,
          error=["ftab: b.csv: refused 13 (", "row mean in line 7 has mark 1"],
@@ -312,6 +321,9 @@ def changed(*changes):
 NOT_OF = "it does not belong to a.sheet; "
 
 CHECK = [
+    Case("check, a table that ftab show wrote", ["check", "a.txt", "a.sheet"],
+         {"a.txt": b"Analysis of variance: a.csv\n", "a.sheet": sheet_of(FOUR)}, status=1, environment=NO_FACTAB,
+         error=["is the first line of no table that factab prints; it is a table that ftab show wrote\n"]),
     Case("check, the help", ["check", "--help"], output=has("usage: ftab check", "is not proved", "Exit status: 0")),
     belongs("a table", text_of(FOUR), FOUR),
     belongs("a table and lines", text_of(FRACTION), FRACTION, "a.csv"),

@@ -271,7 +271,10 @@ def csv_of(data, path):
         found = {(own["label"], int(own["level"]) if own["level"] else own["row"]): own["estimate"] for own in records
                  if own["part"] in (("level",) if data.plan.levels == 3 else ("row", "added"))}
         pairs.append((set(found), set(estimates)))
-        return pairs + [(as_meant(found[own], value), value) for own, value in estimates.items()]
+        # beside the word of an added factor stands the factor, and so its effect, with its own sign
+        factors = {row: value for (label, row), value in estimates.items() if label != row and data.plan.levels == 2}
+        meant = {own: factors.get(own[0], value) for own, value in estimates.items()}
+        return pairs + [(as_meant(found[own], value), value) for own, value in meant.items()]
     return all_equal(pairs_of)
 
 

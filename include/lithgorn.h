@@ -3,6 +3,7 @@
    Link with target/staticlib/liblithgorn.a or target/lib/liblithgorn.so, both for x86-64 Linux:
 
      gcc my.c -I include -L target/staticlib -llithgorn
+     gcc my.c -I include -L target/lib -llithgorn -Wl,-rpath,$PWD/target/lib
 
    examples/use.c is a whole program. What each call promises, and what of it is proved: docs/CALLS.md and docs/TRUST.md.
 
@@ -31,7 +32,8 @@
    Order. N is the number of runs, levels to the power k; R is the number of rows, 2 to the power k. A run is a number
    with the level of A as its lowest digit, 0 for low: at two levels (1), a, b, ab, c, ac, bc, abc. Effects are numbered in
    the same way. A row is its set of letters. There are N r readings, at most 1,024, those of a run together: reading j of
-   run i stands at place i * r + j. Totals and rows are those of the run sums.
+   run i stands at place i * r + j. Totals and rows are those of the run sums. At two levels a row has 1 degree; at three it
+   has 2 for each of its letters, multiplied, and 2 less where a block word has just these letters.
 
    Places. A slice is a pointer and its length, counted in places and not in bytes. Each must have just so many:
 

@@ -99,7 +99,7 @@ UNCLEAR = [
     (6, "run,1,1,8.0", "line 6: '8.0' is no whole number; for decimals there are lines such as scale,10"),
     (6, "run,1,1,8.125", "line 6: '8.125' is no whole number; for decimals there are lines such as scale,1000"),
     (6, "run,1,1,8e3", "line 6: '8e3' is no whole number; for decimals there are lines such as scale,10"),
-    (6, "run,1,1,eight", "line 6: 'eight' is no whole number from -2147483648 to 2147483647"),
+    (6, "run,1,1,eight", "line 6: 'eight' is no whole number"),
     (6, "run,1,1,2147483648", "line 6: '2147483648' is no whole number from -2147483648 to 2147483647"),
     (6, "run,1,1,-2147483649", "line 6: '-2147483649' is no whole number from -2147483648 to 2147483647"),
     (7, "error,AC", "line 7: 'AC' is no row, for there are 2 factors"),
@@ -120,7 +120,7 @@ UNCLEAR = [
     (7, "error,AB2", "line 7: 'AB2' is not made of different letters from A to P"),
     (7, "added,AB", "line 7: 2 cells, wanted 3"),
     (7, "added,,0", "line 7: '' is not made of different letters from A to P"),
-    (7, "added,AB,256", "line 7: '256' is no whole number from 0 to 255"),
+    (7, "added,AB,256", "line 7: '256' is no sign; signs are 0 and 1"),
     (7, "repeats,2", "line 3: 4 cells, wanted 5: run, 2 levels, 2 readings"),
     (7, "repeats,0", "line 3: 4 cells, wanted 3: run, 2 levels, 0 readings"),
     (7, "repeats,1\nrepeats,1", "line 8: repeats is already in line 7"),
@@ -143,7 +143,7 @@ UNCLEAR_TWICE = [
     (7, "run,1,1,8", "line 7: 4 cells, wanted 5: run, 2 levels, 2 readings"),
     (7, "run,1,1,8,", "line 7: 4 cells, wanted 5: run, 2 levels, 2 readings"),
     (7, "run,1,1,8,9,10", "line 7: 6 cells, wanted 5: run, 2 levels, 2 readings"),
-    (7, "run,1,1,,9", "line 7: '' is no whole number from -2147483648 to 2147483647"),
+    (7, "run,1,1,,9", "line 7: '' is no whole number"),
     (7, "run,1,1,8,9.5", "line 7: '9.5' is no whole number; for decimals there are lines such as scale,10"),
     (7, "run,1,2,8,9", "line 7: '2' is no level; levels are 0 to 1, unless a line coding says otherwise"),
     (7, "run,0,1,8,9", "line 7: the run is already in line 6"),
@@ -316,7 +316,8 @@ UNCLEAR_FORMS = [
     (3, "run;0;0;3", "line 3: 'run;0;0;3' is none of levels, factors, added, block, repeats, coding, scale, name, run, "
      "error; cells are parted by commas here"),
     (3, "sum,0,0,3", "line 3: the readings of a run are wanted, and here is their sum, from which they cannot be told"),
-    (3, ",0,0,3", "line 3: '' is none of levels, factors, added, block, repeats, coding, scale, name, run, error"),
+    (3, ",0,0,3", "line 3: the first cell is blank, and not one of levels, factors, added, block, repeats, coding, scale, "
+     "name, run, error"),
 ]
 
 

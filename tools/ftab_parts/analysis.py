@@ -16,6 +16,7 @@
 #   sums               the lines below those of the rows
 #   source_letters     what the rows stand for
 #   effect_letters     all effects
+#   row_effects        the effect that stands beside each row
 #   spelled            letters as names
 #   name_of            the name of a factor
 #   generators         the added factors as the trade writes them
@@ -124,6 +125,11 @@ def pooled_mains(analysis):
 def effect_letters(analysis):
     """All effects by their letters, those of added factors last."""
     return [own.label for own in analysis.effects + analysis.added]
+
+
+def row_effects(analysis):
+    """The effect that stands beside each row: beside the word of an added factor that of the factor, with its own sign."""
+    return list({own.row: own for own in analysis.effects + analysis.added}.values())
 
 
 def spelled(analysis, letters, most=None):

@@ -9,6 +9,7 @@
 #   field_causes              what makes refusal 1 apply to a sheet
 #   places                    the counts, readings, marks or lines for which a sheet is refused
 #   cause                     what a number says of a plan
+#   plan_causes               what is besides wrong with the plan of a sheet that is too long
 #   causes                    why a sheet is refused
 #   refusal                   the same with the number; nothing for a sheet that is accepted
 #   some_of                   of much the first
@@ -138,11 +139,21 @@ def cause(refused, plan):
     return CAUSES_OF_THREE.get(refused, CAUSES[refused]) if plan.levels == 3 else CAUSES[refused]
 
 
+def plan_causes(own_sheet):
+    """What is besides wrong with the plan of a sheet that is too long, in words."""
+    fields = sheet_bytes.fields_of(own_sheet)
+    if len(own_sheet) <= text_rules.MOST_SHEET or fields is None or sheet_bytes.bad_fields(fields):
+        return []
+    plan = sheet_bytes.contents_of(fields).plan
+    refused = totals_rules.plan_answer(plan)
+    return ["its plan would be refused %d: %s" % (refused, cause(refused, plan))] if refused else []
+
+
 def causes(own_sheet, lines=NO_LINES):
     """Why a sheet is refused, in words; nothing for a sheet that is accepted."""
     refused = text_rules.answer(own_sheet)
     if refused in (totals_rules.DONE, 1):
-        return field_causes(own_sheet)
+        return field_causes(own_sheet) + plan_causes(own_sheet)
     contents = sheet_bytes.contents_of(sheet_bytes.fields_of(own_sheet))
     return [cause(refused, contents.plan)] + some_of(places(refused, contents, lines))
 

@@ -2,8 +2,9 @@
 #
 # Cells are parted by commas, semicolons or tabs: by the one that stands after the first cell of the first line whose first
 # cell is known. A cell may be in quotes, and then has two where it means one. It may begin with blanks and end with them. A
-# cell that begins with # and all after it in the line is passed over, and so are blank lines and blank cells at the end of a
-# line. The first cell of a line says what the line is, in small letters or capitals. A cell ends where its line does.
+# cell that begins with # and all after it in the line is passed over, and so are blank lines, blank cells at the end of a
+# line, and the line sep=; with which some spreadsheets begin. The first cell of a line says what the line is, in small
+# letters or capitals. A cell ends where its line does.
 #
 # Where cells are parted by semicolons or tabs, a comma in a number with decimals is its point.
 #
@@ -34,6 +35,9 @@ Line = namedtuple("Line", "number cells separator")
 COMMA = ","
 SEPARATORS = {",": "commas", ";": "semicolons", "\t": "tabs"}
 FIRST_CELL = re.compile(' *"?([A-Za-z]+)"? *([,;\t])')
+
+# A line by which a spreadsheet says what parts its cells.
+SEPARATOR_LINE = re.compile('"?sep=[,;\t]"? *')
 
 # A cell in quotes or without, and what parts it from the next.
 CELLS = {own: re.compile('(?: *"((?:[^"]|"")*)" *|([^%s]*))(%s|$)' % (own, own)) for own in SEPARATORS}
@@ -85,6 +89,8 @@ def cells_of(number, text, separator):
 
 def unknown(cell, separator, kinds):
     """That a first cell is none of some kinds, in words; where its line looks parted in another way, that too."""
+    if not cell:
+        return "the first cell is blank, and not one of %s" % ", ".join(kinds)
     parted = "; cells are parted by %s here" % SEPARATORS[separator] if FIRST_CELL.match(cell) else ""
     return "%s is none of %s%s" % (quoted(cell), ", ".join(kinds), parted)
 
@@ -105,7 +111,8 @@ def lines_of(text, counts, elsewhere):
     """The lines of a text that are not passed over. `counts` has the first cells that there may be, and for each the least
     and the most number of cells, None for any; `elsewhere` has why other first cells are none here."""
     separator = separator_of(text, [*counts, *elsewhere])
-    numbered = [(number, cells_of(number, own, separator)) for number, own in enumerate(text.split("\n"), 1)]
+    numbered = [(number, cells_of(number, own, separator)) for number, own in enumerate(text.split("\n"), 1)
+                if not SEPARATOR_LINE.fullmatch(own)]
     lines = [line_of(number, cells, separator, counts, elsewhere) for number, cells in numbered if cells]
     if not lines:
         raise Problem("there is no line in it")

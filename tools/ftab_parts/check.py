@@ -12,6 +12,7 @@ from difflib import SequenceMatcher
 from itertools import zip_longest
 
 from ftab_parts import files, sheets
+from ftab_parts.factab import TITLE
 from reference.rules import text as text_rules
 
 # The first words of a table, and of what is printed of a sheet that is refused.
@@ -69,7 +70,8 @@ def printed(path):
     while len(lines) > 1 and not lines[-1].strip():
         lines.pop()
     if first_word(lines[0]) not in (OVER, REFUSED):
-        raise files.Problem("line 1: %s is the first line of no table that factab prints" % told(lines[0]))
+        shown = "; it is a table that ftab show wrote" if lines[0].startswith(TITLE) else ""
+        raise files.Problem("line 1: %s is the first line of no table that factab prints%s" % (told(lines[0]), shown))
     return lines
 
 

@@ -9,7 +9,7 @@
 #   effect_columns, mean_columns those of the effects, and of the means of levels
 #   estimate_texts               the values of effects
 #   kind_text                    what follows a row
-#   head_lines                   what stands above the table
+#   about, head_lines            what is to be known of a table; what stands above it
 #   text                         the table for reading
 #   PROVED, MEANING              what is proved; what the effects are
 
@@ -18,7 +18,7 @@ from collections import namedtuple
 
 from ftab_parts import effects, files
 from ftab_parts.analysis import effect_letters, generators, plan_text, pooled_mains, source_letters, spelled, sums
-from ftab_parts.factab import KEPT, MEAN, plain
+from ftab_parts.factab import KEPT, MEAN, TITLE, plain
 from ftab_parts.figures import aligned, decimals, exact, rounded
 
 # The most letters of a line, where numbers and the names of files let it.
@@ -97,10 +97,10 @@ def rounding_notes(analysis):
     lines = analysis.lines + sums(analysis)
     most = most_decimals(lines)
     if most is None:
-        return ["Sums of squares have 6 digits beside the fractions, mean squares 6 digits."]
+        return ["Sums of squares beside the fractions and mean squares have 6 digits, or all before the point."]
     if all(is_exact(line, most) for line in lines if line.mean is not None):
         return []
-    return ["Mean squares that do not end as decimals, or have many, have 6 digits."]
+    return ["Mean squares that do not end as decimals, or have many, have 6 digits, or all before the point."]
 
 
 def ratio_text(line):
@@ -159,16 +159,19 @@ def mean_columns(analysis):
     return with_names(analysis, columns, "name", columns[0].cells) if analysis.names else columns
 
 
-def head_lines(analysis):
-    """What stands above the table: the file, the plan in words, names and generators."""
-    lines = ["Analysis of variance: %s" % plain(files.name_of(analysis.path)), plan_text(analysis.plan)]
+def about(analysis):
+    """What is to be known of a table: the plan in words, names, generators and scale."""
     named = ["%s = %s" % own for own in sorted(analysis.names.items())]
-    lines += textwrap.wrap("Factors: %s" % ", ".join(named), WIDTH, subsequent_indent=GAP) if named else []
-    lines += textwrap.wrap("Added: %s" % ", ".join(generators(analysis)), WIDTH) if analysis.added else []
-    if analysis.scale != 1:
-        lines.append("Scale %d: numerators and check are of the readings times %d, all else is of the readings" % (
-            analysis.scale, analysis.scale))
-    return lines
+    found = [plan_text(analysis.plan)] + ["Factors: %s" % ", ".join(named)] * bool(named)
+    found += ["Added: %s" % ", ".join(generators(analysis))] * bool(analysis.added)
+    return found + ["Scale %d: numerators and check are of the readings times %d, all else is of the readings" % (
+        analysis.scale, analysis.scale)] * (analysis.scale != 1)
+
+
+def head_lines(analysis):
+    """What stands above the table: the file, and what is to be known."""
+    lines = [TITLE + plain(files.name_of(analysis.path))]
+    return lines + [line for own in about(analysis) for line in textwrap.wrap(own, WIDTH, subsequent_indent=GAP)]
 
 
 def ratio_note(analysis):

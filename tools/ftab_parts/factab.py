@@ -5,6 +5,7 @@
 # the environment names another. It is started once for a sheet and ends by itself.
 #
 # Defined here:
+#   TITLE            how a table of `ftab show` begins
 #   plain            a text that can be printed, as what a program writes or a file is called may not be
 #   program          the path of the program
 #   text_of          what the program prints for a sheet
@@ -26,6 +27,9 @@ HOME = dirname(dirname(abspath(__file__)))
 
 # The kinds of rows, as reference/rules/table.py has them; the text has a word for the last two alone.
 MEAN, KEPT, BLOCKS, ERROR = "mean", "kept", "blocks", "error"
+
+# How a table begins that `ftab show` writes; no text of factab does.
+TITLE = "Analysis of variance: "
 
 # The first word of the line of all squares; those of blocks and error are the kinds.
 TOTAL = "total"

@@ -112,12 +112,17 @@ def text_of(content):
     if content.startswith(TWO_BYTE_MARKS):
         raise Problem("it is in UTF-16, and UTF-8 is wanted")
     content = content[3 * content.startswith(b"\xef\xbb\xbf"):].replace(b"\r\n", b"\n").replace(b"\r", b"\n")
+    if content[:1] == b"\1":
+        raise Problem("it is a sheet, and a text is wanted")
+    if content.startswith(b"PK\3\4"):
+        raise Problem("it is a spreadsheet's own file; save it as CSV")
     if b"\0" in content:
         raise Problem("line %d: there is a zero byte, and text is wanted" % line_at(content, content.index(b"\0")))
     try:
         return content.decode()
     except UnicodeDecodeError as why:
-        raise Problem("line %d: the byte %d is no UTF-8" % (line_at(content, why.start), content[why.start])) from None
+        raise Problem("line %d: the byte %d is no UTF-8; save the file as CSV in UTF-8" % (
+            line_at(content, why.start), content[why.start])) from None
 
 
 def read_text(path):
@@ -142,10 +147,8 @@ def put(content):
 
 
 def put_whole(path, content):
-    """Writes a file whole or not at all: first another beside it, which then takes its name. Folders that are not there are
-    made."""
+    """Writes a file whole or not at all: first another beside it, which then takes its name."""
     folder = os.path.dirname(path)
-    os.makedirs(folder, exist_ok=True)
     other = os.path.join(folder, ".ftab-" + os.urandom(4).hex())
     try:
         with open(other, "xb") as file:
@@ -204,6 +207,16 @@ def add_places(parser, what):
     either.add_argument("--into", metavar="FOLDER", help="write %s to FOLDER, under the name of its FILE" % what)
 
 
+def make_folder(folder):
+    """Makes the folder into which files are to be written, where it is not there. Where it cannot be made, each file that is
+    written says so."""
+    try:
+        if folder is not None:
+            os.makedirs(folder, exist_ok=True)
+    except OSError:
+        pass
+
+
 def place_of(path, arguments, ending, otherwise):
     """Where the arguments say that what is made of a file is written."""
     if arguments.out is not None:
@@ -222,6 +235,7 @@ def places(arguments, ending, otherwise):
     if arguments.into is not None and STANDARD in paths:
         raise Usage("--into is for files with a name, and standard input has none")
     found, made = {}, {}
+    make_folder(arguments.into)
     for path in paths:
         place = place_of(path, arguments, ending, otherwise)
         real = os.path.realpath(place)

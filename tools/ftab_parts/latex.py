@@ -1,14 +1,16 @@
 # The table for papers, as LaTeX: a tabular with plain lines, which wants no package. The effects are its last column; at
-# three levels a second tabular has the means of levels. What else is to be known stands in comments above it.
+# three levels a second tabular has the means of levels. Below it a paragraph has the plan, letters and names, the scale and
+# the denominator; version and digest stand in comments above it.
 #
 # Defined here:
 #   escaped     a name as LaTeX sets it
+#   tex_notes   what is to be known of a table
 #   latex       an analysis in this format
 
 from ftab_parts import effects
-from ftab_parts.analysis import name_of, source_letters, sums
-from ftab_parts.columns import (LEFT, MEANING, MOST_SOURCE, POINT, PROVED, Column, estimate_texts, head_lines, kind_text,
-                                mean_columns, table_columns)
+from ftab_parts.analysis import name_of, row_effects, source_letters, sums
+from ftab_parts.columns import (LEFT, MEANING, MOST_SOURCE, POINT, PROVED, Column, about, estimate_texts, head_lines,
+                                kind_text, mean_columns, table_columns)
 
 ESCAPES = {"\\": r"\textbackslash{}", "&": r"\&", "%": r"\%", "$": r"\$", "#": r"\#", "_": r"\_", "{": r"\{", "}": r"\}",
            "~": r"\textasciitilde{}", "^": r"\textasciicircum{}", "<": r"\textless{}", ">": r"\textgreater{}",
@@ -50,9 +52,8 @@ def tex_columns(columns, names):
 
 
 def tex_estimates(analysis):
-    """The column of effects beside the rows; beside the word of an added factor stands the effect of that factor."""
-    own = {effect.row: effect for effect in analysis.effects + analysis.added}
-    texts = estimate_texts(list(own.values()))
+    """The column of effects beside the rows."""
+    texts = estimate_texts(row_effects(analysis))
     return Column("effect", ["", *texts[1:]] + [""] * len(sums(analysis)), POINT)
 
 
@@ -73,12 +74,19 @@ def tex_table(analysis):
     return tex_columns(columns + [kinds], tex_names(analysis) + [line.row.label.capitalize() for line in sums(analysis)])
 
 
+def tex_notes(analysis):
+    """What is to be known of a table, as a paragraph: the plan, letters and names, scale, denominator, direction."""
+    notes = [escaped(line) for line in about(analysis)]
+    notes += ["Numerators are over %d" % analysis.table.over] + ["Effects are high minus low"] * bool(analysis.effects)
+    return [r"\noindent"] + [note + "." for note in notes]
+
+
 def latex(analysis, version):
     """The table for papers: a tabular, and at three levels a second one with the level means."""
-    foot = ["Numerators are over %d.%s" % (analysis.table.over, " Effects are high minus low." * bool(analysis.effects)),
-            PROVED, "ftab %s, sheet sha256 %s" % (version, analysis.digest)]
-    lines = ["% " + line for line in head_lines(analysis) + foot]
+    foot = [PROVED, "ftab %s, sheet sha256 %s" % (version, analysis.digest)]
+    lines = ["% " + line for line in head_lines(analysis)[:1] + foot]
     lines += tex_tabular(tex_table(analysis), [len(analysis.lines)])
+    lines += ["", *tex_notes(analysis)]
     if analysis.means:
         means = [own for own in mean_columns(analysis) if own.how == POINT]
         names = [escaped(name_of(analysis, letter)) for letter, _ in analysis.means]

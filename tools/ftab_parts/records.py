@@ -13,7 +13,7 @@ import io
 import json as json_files
 
 from ftab_parts import effects, files
-from ftab_parts.analysis import block_label, effect_letters, name_of, source_letters, spelled, sums
+from ftab_parts.analysis import block_label, effect_letters, name_of, row_effects, source_letters, spelled, sums
 from ftab_parts.columns import PROVED
 from ftab_parts.factab import plain
 from ftab_parts.figures import decimals, exact, rounded
@@ -45,7 +45,7 @@ def csv_line(analysis, line, part, source, estimate):
 
 def csv_records(analysis):
     """The records of an analysis: the rows, the sums, the effects of added factors or the means of levels."""
-    estimates = [own.value for own in analysis.effects] or [None] * len(analysis.lines)
+    estimates = [own.value for own in row_effects(analysis)] or [None] * len(analysis.lines)
     found = [csv_line(analysis, line, "row", source, estimate)
              for line, source, estimate in zip(analysis.lines, spelled(analysis, source_letters(analysis)), estimates)]
     found += [csv_line(analysis, line, "sum", "", None) for line in sums(analysis)]

@@ -37,8 +37,8 @@ import re
 from collections import namedtuple
 
 from ftab_parts import files
-from ftab_parts.cells import (LETTERS, at_most_one, counted, decimal, decimal_parts, lines_of, of_kind, only, quoted, stop,
-                              three_digits, whole, with_minus, word)
+from ftab_parts.cells import (COMMA, LETTERS, at_most_one, counted, decimal, decimal_parts, lines_of, of_kind, only, quoted,
+                              stop, three_digits, whole, with_minus, word)
 from ftab_parts.files import Problem
 from reference.rules import sheet_bytes
 from reference.rules import table as table_rules
@@ -68,6 +68,10 @@ MOST_WORD = 65_535
 LEAST_READING, MOST_READING = -2 ** 31, 2 ** 31 - 1
 MOST_SCALE = 10 ** 18
 
+# Decimal marks, in words, and each one's other.
+MARKS = {",": "a comma", ".": "a point"}
+OTHER = {",": ".", ".": ","}
+
 # A cell that is a number, or might have been one, or is a level.
 NUMBER = re.compile("[+-]?(?:[0-9.,]+(?:[eE][+-]?[0-9]+)?)?")
 
@@ -76,6 +80,7 @@ SIGNS = {
     2: {"-": 0, "-1": 0, "+": 1, "+1": 1, "1": 1},
     3: {"-": 0, "-1": 0, "0": 1, "+": 2, "+1": 2, "1": 2},
 }
+WRITTEN = {2: "-+", 3: "-0+"}
 CODINGS = {"0": 0, "1": 1, "-": "-", "-1": "-"}
 
 
@@ -108,10 +113,17 @@ def three_word(line, cell):
     return number
 
 
+def sign_of(line, cell):
+    """The sign of an added factor; one over 1 is refused with the sheet."""
+    if not re.fullmatch("[0-9]{1,3}", cell) or int(cell) > MOST_BYTE:
+        stop(line, "%s is no sign; signs are 0 and 1" % quoted(cell))
+    return int(cell)
+
+
 def plan_of(lines):
     """The plan of lines, whether it is accepted or not."""
     levels, k = size_of(lines)
-    added = tuple((word(line, line.cells[1]), whole(line, line.cells[2], 0, MOST_BYTE))
+    added = tuple((word(line, line.cells[1]), sign_of(line, line.cells[2]))
                   for line in of_kind(lines, "added"))
     block_word = three_word if levels == 3 else word
     blocks = tuple(block_word(line, line.cells[1]) for line in of_kind(lines, "block"))
@@ -223,12 +235,28 @@ def reading_of(line, cell, scale):
     if parts and re.search("[.,eE]", cell):
         fitting = min(10 ** max(1, -parts[1]), MOST_SCALE)
         stop(line, "%s is no whole number; for decimals there are lines such as scale,%d" % (quoted(cell), fitting))
+    if not re.fullmatch("[+-]?[0-9]+", with_minus(cell)):
+        stop(line, "%s is no whole number" % quoted(cell))
     return whole(line, cell, LEAST_READING, MOST_READING)
+
+
+def check_marks(lines, plan):
+    """Stops where some readings have decimal commas and others points: a point may be one of thousands then."""
+    found = {}
+    for line in of_kind(lines, "run"):
+        for mark, cell in [(mark, cell) for cell in line.cells[1 + plan.k:] for mark in OTHER
+                           if mark in cell and OTHER[mark] not in cell]:
+            found.setdefault(mark, (line, cell))
+            if len(found) > 1 and line.separator != COMMA and not is_header(line):
+                before, own = found[OTHER[mark]]
+                stop(line, "%s has %s, and %s in line %d has %s: one of them may part thousands" % (
+                    quoted(cell), MARKS[mark], quoted(own), before.number, MARKS[OTHER[mark]]))
 
 
 def runs_of(lines, plan, names):
     """For each run, by its number, its line and its readings."""
     coding, scale = coding_of(lines, plan.levels), scale_of(lines)
+    check_marks(lines, plan)
     found = {}
     for line in of_kind(lines, "run"):
         if is_header(line):
@@ -241,12 +269,14 @@ def runs_of(lines, plan, names):
     return found
 
 
-def missing_run(plan, runs):
-    """Stops where a run has no line."""
-    for run in range(totals_rules.run_count(plan.levels, plan.k)):
-        if run not in runs:
-            levels_text = ",".join(str(digit) for digit in totals_rules.digits(plan.levels, plan.k, run))
-            raise Problem("there is no line for the run %s" % levels_text)
+def missing_run(plan, runs, coding):
+    """Stops where runs have no line, and names the first as lines write it."""
+    missing = [run for run in range(totals_rules.run_count(plan.levels, plan.k)) if run not in runs]
+    if missing:
+        digits = totals_rules.digits(plan.levels, plan.k, missing[0])
+        texts = [WRITTEN[plan.levels][digit] if coding == "-" else str(coding + digit) for digit in digits]
+        others = "; %d runs have none" % len(missing) if len(missing) > 1 else ""
+        raise Problem("there is no line for the run %s%s" % (",".join(texts), others))
 
 
 # ---- marks ----
@@ -301,7 +331,7 @@ def made(text):
     plan = plan_of(lines)
     names, scale = names_of(lines, plan), scale_of(lines) or 1
     runs = runs_of(lines, plan, names)
-    missing_run(plan, runs)
+    missing_run(plan, runs, coding_of(lines, plan.levels))
     marked = marked_rows(lines, plan)
     readings = [reading for run in sorted(runs) for reading in runs[run][1]]
     sheet = sheet_bytes.write(plan, readings, marks_of(marked, plan))

@@ -3,6 +3,7 @@
 #
 # Defined here:
 #   FORMATS     the formats: the file that writes them, and the ending of what is written
+#   joined      several tables in one text
 #   add, run    the arguments of the part, and the part
 
 from importlib import import_module
@@ -18,6 +19,9 @@ FORMATS = {
     "latex": ("latex", ".table.tex"),
 }
 
+# Formats in which several tables make one text.
+TOGETHER = ("csv", "json")
+
 ABOUT = """Shows the table of FILE, a sheet or lines of cells: sums of squares, mean squares
 and ratios to the error's mean square; below it the effects, high minus low, or at
 three levels the mean of the readings at each level.
@@ -30,7 +34,8 @@ reference program, and nothing is shown where they differ. JSON holds it whole."
 
 ENDING = """With --into FOLDER the table of NAME.csv or NAME.sheet is NAME.table.txt there, or
 with another format .table.csv, .table.json or .table.tex. Without it all tables
-go to standard output, one after the other.
+go to standard output, one after the other; in CSV with one head, in JSON as an
+array.
 
 Exit status: 0 done; 1 a file is not understood or its sheet is refused, or factab
 cannot be run; 2 wrong usage. The other files are shown all the same."""
@@ -44,13 +49,27 @@ def add(parser):
     files.add_places(parser, "the table")
 
 
+def joined(form, texts):
+    """Several tables in one text: in CSV with one head, in JSON as an array."""
+    if form == "json":
+        return "[\n%s]\n" % ",\n".join(text.rstrip("\n") for text in texts) if texts else "[]\n"
+    return "".join(texts[:1] + [text.split("\n", 1)[1] for text in texts[1:]])
+
+
 def run(arguments):
     """Writes the tables; the exit status."""
     module, ending = FORMATS[arguments.format]
     write = getattr(import_module("ftab_parts." + module), arguments.format)
     places = files.places(arguments, ending, files.STANDARD)
+    together = len(places) > 1 and arguments.into is None and arguments.format in TOGETHER
+    texts = []
 
     def work(path):
-        """Writes the table of a file."""
-        files.put_at(places[path], write(analysis_of(path), arguments.version).encode(errors="replace"))
-    return files.each(arguments.files, work)
+        """Writes the table of a file, or keeps it for the end."""
+        texts.append(write(analysis_of(path), arguments.version))
+        if not together:
+            files.put_at(places[path], texts.pop().encode(errors="replace"))
+    status = files.each(arguments.files, work)
+    if together:
+        files.put(joined(arguments.format, texts).encode(errors="replace"))
+    return status
