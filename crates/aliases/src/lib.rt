@@ -2,6 +2,8 @@
 //
 //   alias(p, effect)   the base word that the effect reduces to, and whether the sign turns
 //   Alias              its answer
+#![tactic(auto)]
+
 mod effects;
 mod types;
 

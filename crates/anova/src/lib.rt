@@ -4,6 +4,8 @@
 //   Table, Figures, Source, Checks                    what it answers
 //   table_refused(p, readings, marks, totals, rows)   the number of its refusal, 0 where it makes the table
 //   estimate(p, effect, total), Estimate              of the crate `estimates`
+#![tactic(auto)]
+
 mod amounts;
 mod refusals;
 mod rounds;

@@ -2,6 +2,8 @@
 //
 //   blockings(k, words, column)   writes the lists of so many words, and answers how many there are
 //   Blockings                     its answer
+#![tactic(auto)]
+
 mod calls;
 mod lists;
 mod refusals;

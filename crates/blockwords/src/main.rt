@@ -1,5 +1,7 @@
 // The program for planners: `blockwords K WORDS` prints every list of so many block words for k factors, and the effects that each confounds.
 // Where the arguments are not two whole numbers it prints no text. That, and a text that cannot be written, it tells on standard error.
+#![tactic(auto)]
+
 mod list_lines;
 mod lists;
 mod numbers;

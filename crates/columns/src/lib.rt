@@ -9,6 +9,8 @@
 //   copy(readings, column)                   readings as the values of a column
 //   copy_values(from, to)                    the values of a column to another
 //   Answer                                   done, or the number of the refusal
+#![tactic(auto)]
+
 mod bits;
 mod copies;
 mod refusals;

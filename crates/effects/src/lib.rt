@@ -3,6 +3,8 @@
 //   rows(p)       the row of each effect
 //   divisors(p)   the divisor of each effect
 //   weights(p)    the weight of each effect
+#![tactic(auto)]
+
 mod constants;
 mod fewer;
 mod letters;

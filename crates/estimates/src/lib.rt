@@ -2,6 +2,8 @@
 //
 //   estimate(p, effect, total)   the mean or a difference, as the double that it exactly is, or lost to blocks
 //   Estimate                     its answer
+#![tactic(auto)]
+
 mod effects;
 mod quotients;
 mod types;

@@ -1,5 +1,7 @@
 // The program: it reads one sheet from standard input and writes the sheet's text, a table or the line of its refusal, to standard output.
 // Where the input cannot be read it writes no text. That, and a text that cannot be written, it tells on standard error.
+#![tactic(auto)]
+
 use input::{Input, read_input};
 use libc::{STDERR_FILENO, STDOUT_FILENO};
 use printing::{INPUT, TEXT, print_input};

@@ -8,6 +8,8 @@
 //   blockings(k, words, column, lists)           every list of block words, and how many there are
 //
 // Each gives 0 where it is done and the number of the refusal where it is not, and then no place that it was lent has changed.
+#![tactic(auto)]
+
 mod blocks;
 mod plans;
 

@@ -4,6 +4,8 @@
 //   any_bad_field(sheet)      whether it applies for a field by itself, or for the order of the tags
 //   count(sheet, tag)         how many fields there are of a tag
 //   body(sheet, tag, place)   the body of one of them
+#![tactic(auto)]
+
 mod tags;
 mod walks;
 

@@ -2,6 +2,8 @@
 //
 //   put_fours(readings, column)    the passes of the first two factors, from the readings to a column
 //   both_over(spacing, column)     those of two factors that follow each other, in place
+#![tactic(auto)]
+
 mod firsts;
 mod rows;
 mod stretches;

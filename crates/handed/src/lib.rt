@@ -9,6 +9,8 @@
 //   marks(sheet)                            how many of its last bytes are its marks
 //
 // Each but the last gives 0 where it is done and the number of the refusal where it is not, and then no place that it was lent has changed.
+#![tactic(auto)]
+
 mod passing;
 mod recovering;
 mod sheets;

@@ -2,6 +2,8 @@
 //
 //   read_input(buffer)   reads until the lent buffer is full or the input ends
 //   Input                what came
+#![tactic(auto)]
+
 mod reads;
 mod types;
 

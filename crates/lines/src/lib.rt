@@ -5,6 +5,8 @@
 //   source_line(text, at, name, degrees, numerator)       a name, degrees and numerator
 //   check_line(text, at, totals, readings)                both check numbers
 //   row_line(text, at, row, degrees, numerator, kind)     a row: its label, degrees, numerator and, if so, `error` or `blocks`
+#![tactic(auto)]
+
 mod fields;
 mod printed;
 

@@ -10,6 +10,8 @@
 //
 // In C a slice is a pointer and a length, and a place or an array a pointer alone. What is lent to one call must not overlap: the contracts below
 // take places that lie apart, as Rattle lends them; that a program in C lends such is assumed (docs/TRUST.md).
+#![tactic(auto)]
+
 ghost use Rattle.std.specs.Prelude.{◌≡◌, ◌++◌, ◌-◌, length, drop};
 ghost use Rattle.blockings.specs.Blockings.{blockings_refused, blockings_column};
 ghost use Rattle.yates.specs.Calls.{pass_refused, pass_column, totals_refused, totals_column};

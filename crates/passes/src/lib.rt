@@ -2,6 +2,8 @@
 //
 //   pass_over(levels, spacing, column)                   the pass of a factor whose values lie the given distance apart
 //   form_totals(levels, k, repeats, readings, column)    the passes of k factors over run sums, which leave the totals of all effects
+#![tactic(auto)]
+
 mod stretches;
 mod totals;
 

@@ -13,6 +13,8 @@
 //   confounded(p, word)      whether the effect of a word is lost to blocks
 //
 //   Plan, Check              a plan, and the check's answer
+#![tactic(auto)]
+
 mod blocks;
 mod checks;
 mod conditions;

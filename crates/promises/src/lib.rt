@@ -1,5 +1,7 @@
 // Each call once more, with the whole of its promise as specs/Promised.antt has it: so that what is claimed of these promises is claimed of the
 // calls. Nothing calls these functions; that they are proved is what they are for.
+#![tactic(auto)]
+
 ghost use Rattle.std.specs.Prelude.{◌≡◌};
 ghost use Rattle.plan.specs.Check.{check_outcome};
 ghost use Rattle.runs.specs.Run.{run_outcome};

@@ -2,6 +2,8 @@
 //
 //   recover(p, totals, readings)   the readings that have these totals; where runs are made more than once, the sums of runs
 //   Answer                         done, or the number of the refusal: of the crate `columns`
+#![tactic(auto)]
+
 mod calls;
 mod quotients;
 mod sums;

@@ -4,6 +4,8 @@
 //   is_marked(marks, row)   whether a row has mark 1
 //   bad_marks(p, marks)     whether refusal 13 applies
 //   kinds(p, marks)         the kind of each row
+#![tactic(auto)]
+
 mod choices;
 mod counts;
 mod kinds_of_rows;

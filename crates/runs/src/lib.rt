@@ -2,6 +2,8 @@
 //
 //   run(p, number)   the letters that are high in a run, added factors included, and its block; at three levels no letters, and the block
 //   Run              its answer
+#![tactic(auto)]
+
 mod powers;
 mod treatments;
 mod types;

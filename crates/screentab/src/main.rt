@@ -1,6 +1,8 @@
 // The program for papers on main effects alone: it reads one sheet from standard input and writes to standard output what `factab` does, but the
 // line of the refusal where the screening call refuses the sheet. Where the input cannot be read it writes no text. That, and a text that cannot
 // be written, it tells on standard error.
+#![tactic(auto)]
+
 mod texts;
 
 use input::{Input, read_input};

@@ -5,6 +5,8 @@
 //   marks(sheet)          the part of the sheet that holds the marks
 //   sheet_refused(sheet, p, narrow)   the first number that applies to a sheet with such a plan
 //   Answer                done, or the number of the refusal: of the crate `columns`
+#![tactic(auto)]
+
 mod calls;
 mod refusals;
 mod types;

@@ -4,6 +4,8 @@
 //   reading_limit(p)                                how large a reading may be
 //   run_limit(p)                                    how large a run sum may be
 //   is_beyond(x, limit)                             whether a number is beyond a limit
+#![tactic(auto)]
+
 mod limits;
 
 pub use limits::{is_beyond, reading_limit, run_limit};

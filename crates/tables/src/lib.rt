@@ -6,6 +6,8 @@
 //   sheet_table(sheet, totals, rows, figures, checks)              the table of a sheet
 //
 // Each gives 0 where it is done and the number of the refusal where it is not, and then no place that it was lent has changed.
+#![tactic(auto)]
+
 mod calls;
 
 pub use calls::{screen, sheet_table, table};

@@ -5,6 +5,8 @@
 //   letters(text, at, word)   the letters of a word, A first
 //   number(text, at, n)       a number in decimal
 //   value(text, at, x)        the same of a value that may be below 0
+#![tactic(auto)]
+
 mod bytes;
 mod numbers;
 

@@ -3,6 +3,8 @@
 //   walk(p, totals, marks, rows)   writes the rows, and answers the sums
 //   Sums                           numerators and degrees of the four kinds of rows, and the sum of the totals
 //   square(x)                      a square
+#![tactic(auto)]
+
 mod bringing;
 mod parts;
 mod squares;

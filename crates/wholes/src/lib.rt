@@ -7,6 +7,8 @@
 //   table(levels, k, repeats, readings, marks, totals, rows, figures, checks)   the analysis of variance
 //
 // Each gives 0 where it is done and the number of the refusal where it is not, and then no place that it was lent has changed.
+#![tactic(auto)]
+
 mod calls;
 
 pub use calls::{pass, recover, table, totals};

@@ -8,6 +8,8 @@
 //   is_among(word, words)            whether the word is one of the words
 //   is_repeated(words)               whether one of them is there twice
 //   combine(first, chosen, words)    the first word combined with those of the words that are chosen
+#![tactic(auto)]
+
 mod letters;
 mod lists;
 

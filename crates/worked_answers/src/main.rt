@@ -2,6 +2,8 @@
 // the blocking call, the rows, divisors and weights of effects, and the screening call, by the records of its input. `reference/cases/answers.py`
 // makes the input and the text that this program must write, and says how both are laid out; `reference/cases/screening_answers.py` makes the part
 // about the screening call.
+#![tactic(auto)]
+
 mod estimated;
 mod listed;
 mod placed;

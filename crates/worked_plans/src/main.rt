@@ -1,6 +1,8 @@
 // Prints the blocks of the plans of AMCP 706-112, Table 12-3, the runs and aliases of those of its Table 12-4, and the blocks of those of
 // Yates's Table 43, by the run and alias calls. `reference/published/amcp.py` and `reference/published/yates.py` have the figures that the
 // tables print, and make of them the text that this program must write.
+#![tactic(auto)]
+
 mod blocked;
 mod fractional;
 mod grouped;

@@ -1,5 +1,7 @@
 // Tries the recovery call on the records of its input. `reference/cases/recovery_answers.py` makes the input and the text that this program must
 // write, and says how both are laid out.
+#![tactic(auto)]
+
 mod given;
 mod lent;
 mod text;

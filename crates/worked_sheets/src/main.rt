@@ -1,5 +1,7 @@
 // Tries the two calls that take a sheet, on the records of its input. `reference/cases/sheet_cases.py` makes the input and the text that this
 // program must write, and says how both are laid out.
+#![tactic(auto)]
+
 mod lent;
 mod parts;
 mod text;

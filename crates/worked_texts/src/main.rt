@@ -1,5 +1,7 @@
 // Makes the texts of many sheets, which are the records of its input. `reference/cases/text_cases.py` makes the input and the text that this
 // program must write, and says how both are laid out.
+#![tactic(auto)]
+
 use libc::{STDIN_FILENO, STDOUT_FILENO};
 use numerals::pair;
 use printing::{TEXT, print_sheet};

@@ -1,5 +1,7 @@
 // Works published examples by the step, totals and pass calls, and tries these at their limits and with repeats that are allowed or not.
 // `reference/published/examples.py` has the figures that the sources print, and makes of the readings the text that this program must write.
+#![tactic(auto)]
+
 mod calls;
 mod limits;
 mod readings;

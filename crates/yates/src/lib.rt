@@ -4,6 +4,8 @@
 //   step(p, from, to)             the report's own step, from one column to another: of the crate `steps`
 //   totals(p, readings, totals)   the totals of all effects
 //   Answer                        what they answer: of the crate `columns`
+#![tactic(auto)]
+
 mod calls;
 
 pub use calls::{pass, totals};
