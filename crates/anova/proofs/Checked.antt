@@ -13,14 +13,15 @@ use lib.ListN.{length, replicate}
 use mir.Syntax.{w64}
 use mir.Val.{SFits, to_z}
 use Rattle.algebra.specs.Laws.Size.{nat_abs-*ℤ}
-use Rattle.algebra.specs.Laws.Machine.{fits, wrap, back}
+use Rattle.algebra.specs.Laws.Machine.{fits, wrap}
+use Rattle.algebra.proofs.Laws.Machine.{back}
 use Rattle.contrasts.specs.Columns.{read, AllWithin, run_sums_in}
 use Rattle.contrasts.specs.Repeats.{run_sums}
-use Rattle.contrasts.specs.Factors.{three, of_levels}
+use Rattle.contrasts.proofs.Factors.{three, of_levels}
 use Rattle.contrasts.specs.Checks.{rounds}
-use Rattle.contrasts.specs.Laws.Levels.{some-levels, the-three, as-two, as-three}
-use Rattle.contrasts.specs.Laws.Repeats.{sums-long, sums-read, sums-within}
-use Rattle.contrasts.specs.Laws.TwoLevels.{rounds-two}
+use Rattle.contrasts.proofs.Laws.Levels.{some-levels, the-three, as-two, as-three}
+use Rattle.contrasts.proofs.Laws.Repeats.{sums-long, sums-read, sums-within}
+use Rattle.contrasts.proofs.Laws.TwoLevels.{rounds-two}
 use Rattle.repeats.specs.Ready.{RunOf, AllRuns}
 use Rattle.anova.specs.Inner.Ready.{Rounds, Checkable}
 

@@ -10,7 +10,7 @@ use Prim.Native.Nat.{ℕ, ◌<◌}
 use lib.IntN.{ℤ}
 use lib.ListN.{length, replicate}
 use Rattle.contrasts.specs.Columns.{read, totals_of, run_sums_in}
-use Rattle.contrasts.specs.Factors.{of_levels}
+use Rattle.contrasts.proofs.Factors.{of_levels}
 use Rattle.contrasts.specs.Totals.{total}
 use Rattle.plan.specs.declared.types.Plan.{Plan}
 use Rattle.plan.specs.Plan.{factors_of, runs_of, run_sums_of}
@@ -19,7 +19,7 @@ use Rattle.passes.specs.Ready.{RunReadings}
 use Rattle.walks.specs.declared.types.Sums.{Sums}
 use Rattle.walks.specs.After.{rows_after, sums_after}
 use Rattle.walks.specs.Ready.{PlanWalkable}
-use Rattle.walks.specs.Laws.After.{rows_agree, sums-agree}
+use Rattle.walks.proofs.Laws.After.{rows_agree, sums-agree}
 use Rattle.anova.specs.Inner.Effects.{rows_by_effects}
 use Rattle.anova.specs.Laws.Admitted.{TableReady, sums-ready}
 use Rattle.anova.specs.Laws.After.{rows-after-all, total-read, table-walkable}

@@ -12,15 +12,15 @@ use lib.IntN.{ℤ}
 use Rattle.contrasts.specs.Columns.{totals_of}
 use Rattle.plan.specs.declared.types.Plan.{Plan}
 use Rattle.plan.specs.Check.{plan_refused, run_count, reading_count}
-use Rattle.plan.specs.Laws.Answers.{stopped, completed}
+use Rattle.plan.proofs.Laws.Answers.{stopped, completed}
 use Rattle.plan.specs.Outcome.{Outcome, given, refused, outcome}
 use Rattle.plan.specs.Plan.{factors_of, all_readings, run_sums_of}
-use Rattle.plan.specs.Laws.Sizes.{reading-count}
+use Rattle.plan.proofs.Laws.Sizes.{reading-count}
 use Rattle.columns.specs.Refusals.{wrong_readings}
 use Rattle.columns.specs.Laws.Admitted.{not-wrong-readings}
 use Rattle.columns.specs.Laws.Lengths.{wrong, right}
 use Rattle.rows.specs.Kinds.{row_count}
-use Rattle.rows.specs.Laws.Rows.{rows-wrong, rows_right, rows-by}
+use Rattle.rows.proofs.Laws.Rows.{rows-wrong, rows_right, rows-by}
 use Rattle.anova.specs.declared.types.Figures.{Figures}
 use Rattle.anova.specs.Table.{wrong_lengths, table_refused, table_figures, table_totals, table_rows, rows_of}
 

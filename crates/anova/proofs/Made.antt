@@ -21,22 +21,22 @@ use lib.ListN.{length, replicate}
 use Rattle.algebra.specs.Laws.Products.{mul-pow}
 use Rattle.algebra.specs.Laws.Tab.{length-tab}
 use Rattle.contrasts.specs.Columns.{read, totals_of, run_sums_in, squares_of}
-use Rattle.contrasts.specs.Factors.{of_levels}
+use Rattle.contrasts.proofs.Factors.{of_levels}
 use Rattle.contrasts.specs.Repeats.{within_runs}
 use Rattle.contrasts.specs.Totals.{total, denominator}
 use Rattle.contrasts.specs.Checks.{rounds}
-use Rattle.contrasts.specs.Laws.Divisors.{denominator-pos}
-use Rattle.contrasts.specs.Laws.Levels.{the-three}
-use Rattle.contrasts.specs.Laws.Repeats.{sums-least, within-is}
-use Rattle.contrasts.specs.Laws.ThreeLevels.{denominator-three}
-use Rattle.contrasts.specs.Laws.TwoLevels.{denominator-two}
+use Rattle.contrasts.proofs.Laws.Divisors.{denominator-pos}
+use Rattle.contrasts.proofs.Laws.Levels.{the-three}
+use Rattle.contrasts.proofs.Laws.Repeats.{sums-least, within-is}
+use Rattle.contrasts.proofs.Laws.ThreeLevels.{denominator-three}
+use Rattle.contrasts.proofs.Laws.TwoLevels.{denominator-two}
 use Rattle.plan.specs.declared.types.Plan.{Plan}
 use Rattle.plan.specs.Limits.{reading_limit}
 use Rattle.plan.specs.Plan.{factors_of, runs_of, all_readings, run_sums_of, denominator_of}
-use Rattle.plan.specs.Laws.Limits.{plan-rounds, reading-fits, numerator-fits}
-use Rattle.plan.specs.Laws.Sizes.{as-power, plan-kind, factors-two, factors-three, runs-few, readings-few, some-repeat}
+use Rattle.plan.proofs.Laws.Limits.{plan-rounds, reading-fits, numerator-fits}
+use Rattle.plan.proofs.Laws.Sizes.{as-power, plan-kind, factors-two, factors-three, runs-few, readings-few, some-repeat}
 use Rattle.rows.specs.Kinds.{rows_in, Kind, mean_row, blocks_row, error_row, kept_row}
-use Rattle.rows.specs.Laws.Rows.{rows_few}
+use Rattle.rows.proofs.Laws.Rows.{rows_few}
 use Rattle.walks.specs.declared.types.Sums.{Sums}
 use Rattle.walks.specs.After.{sums_after}
 use Rattle.anova.specs.declared.types.Figures.{Figures}

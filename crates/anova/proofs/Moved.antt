@@ -20,18 +20,18 @@ use lib.ListN.{length, get_or, set, replicate}
 use Rattle.algebra.specs.Laws.Tab.{length-tab, get_or-tab, tab-set}
 use Rattle.contrasts.specs.Blocks.{block_numerator}
 use Rattle.contrasts.specs.Columns.{read, run_sums_in}
-use Rattle.contrasts.specs.Factors.{three}
+use Rattle.contrasts.proofs.Factors.{three}
 use Rattle.contrasts.specs.Limits.{three_reading_limit, most_three}
 use Rattle.contrasts.specs.Rows.{row_numerator}
-use Rattle.contrasts.specs.Laws.Repeats.{sums-long, sums-within}
+use Rattle.contrasts.proofs.Laws.Repeats.{sums-long, sums-within}
 use Rattle.plan.specs.declared.types.Plan.{Plan}
 use Rattle.plan.specs.Check.{used_row}
 use Rattle.plan.specs.Limits.{reading_limit}
 use Rattle.plan.specs.Plan.{factors_of, run_sums_of, three_word, word_row}
-use Rattle.plan.specs.Laws.Accepted.{accepted}
-use Rattle.plan.specs.Laws.Limits.{limit-three, numerator-fits}
-use Rattle.plan.specs.Laws.Sizes.{as-power, readings-few, some-repeat}
-use Rattle.plan.specs.Laws.Words.{three-levels, used-row}
+use Rattle.plan.proofs.Laws.Accepted.{accepted}
+use Rattle.plan.proofs.Laws.Limits.{limit-three, numerator-fits}
+use Rattle.plan.proofs.Laws.Sizes.{as-power, readings-few, some-repeat}
+use Rattle.plan.proofs.Laws.Words.{three-levels, used-row}
 use Rattle.repeats.specs.Ready.{AllRuns}
 use Rattle.blocks.specs.Ready.{Blockable}
 use Rattle.rows.specs.Kinds.{rows_in, Kind, mean_row, blocks_row, error_row, kept_row, kind_by_mark, kind_of, same}

@@ -22,12 +22,12 @@ use Rattle.algebra.specs.Laws.Fill.{Filled, filled_none, filled-long, filled-old
 use Rattle.algebra.specs.Laws.Tab.{length-tab, get_or-tab}
 use Rattle.contrasts.specs.Columns.{read, AllWithin}
 use Rattle.contrasts.specs.Limits.{value_limit}
-use Rattle.contrasts.specs.Factors.{three}
+use Rattle.contrasts.proofs.Factors.{three}
 use Rattle.contrasts.specs.Checks.{round, rounds}
-use Rattle.contrasts.specs.Laws.CheckSum.{rounds-cong}
-use Rattle.contrasts.specs.Laws.Within.{within-tab}
-use Rattle.contrasts.specs.Laws.ThreeLevels.{round-three, round-bound, size-three}
-use Rattle.contrasts.specs.Laws.Small.{Small}
+use Rattle.contrasts.proofs.Laws.CheckSum.{rounds-cong}
+use Rattle.contrasts.proofs.Laws.Within.{within-tab}
+use Rattle.contrasts.proofs.Laws.ThreeLevels.{round-three, round-bound, size-three}
+use Rattle.contrasts.proofs.Laws.Small.{Small}
 use Rattle.anova.specs.Inner.Ready.{Sets, Rounds}
 use Rattle.anova.specs.Inner.Readings.{after_round}
 

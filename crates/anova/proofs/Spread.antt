@@ -16,7 +16,7 @@ use lib.ListN.{length}
 use mir.Syntax.{w64}
 use mir.Val.{Fits}
 use Rattle.contrasts.specs.Columns.{run_sums_in, squares_of}
-use Rattle.contrasts.specs.Laws.Repeats.{sums-long, sums-once}
+use Rattle.contrasts.proofs.Laws.Repeats.{sums-long, sums-once}
 use Rattle.repeats.specs.Ready.{AllRuns}
 use Rattle.anova.specs.declared.types.Source.{Source}
 use Rattle.anova.specs.Inner.Ready.{SquaresFit, RunSquares, Joinable}

@@ -24,7 +24,7 @@ use Rattle.contrasts.specs.Columns.{run_sums_in, squares_of}
 use Rattle.contrasts.specs.Limits.{two_reading_limit, three_reading_limit, most_two, most_three, is_repeats, most_readings}
 use Rattle.contrasts.specs.Repeats.{run_sums, within_runs}
 use Rattle.contrasts.specs.Rows.{row_of, degrees_of}
-use Rattle.contrasts.specs.Factors.{two, three}
+use Rattle.contrasts.proofs.Factors.{two, three}
 use Rattle.contrasts.specs.Codings.{neg}
 use Rattle.contrasts.specs.Totals.{size, coef*, total, divisor*, denominator, weight*, numerator_of}
 use Rattle.contrasts.specs.Checks.{check_weight, round, rounds}

@@ -2,7 +2,7 @@
 ghost use Rattle.std.specs.Prelude.{◌≡◌, ◌-◌, ◌<◌, ◌≤◌, length, get_or, set, replicate};
 ghost use Rattle.contrasts.specs.Blocks.{block_numerator};
 ghost use Rattle.contrasts.specs.Columns.{read, run_sums_in};
-ghost use Rattle.contrasts.specs.Factors.{three};
+ghost use Rattle.contrasts.proofs.Factors.{three};
 ghost use Rattle.anova.specs.Inner.Figures.{leaves, moved_figures};
 ghost use Rattle.anova.specs.Inner.Ready.{Amountable, Leavable, Enterable, Movable};
 ghost use Rattle.anova.specs.Table.{joined};

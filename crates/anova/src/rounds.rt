@@ -1,9 +1,9 @@
 // The check number from the run sums.
 ghost use Rattle.std.specs.Prelude.{◌≡◌, pos, ◌+ℤ◌, ◌-ℤ◌, ◌*ℤ◌, length, replicate};
 ghost use Rattle.contrasts.specs.Columns.{read, run_sums_in};
-ghost use Rattle.contrasts.specs.Factors.{three, of_levels};
+ghost use Rattle.contrasts.proofs.Factors.{three, of_levels};
 ghost use Rattle.contrasts.specs.Checks.{rounds};
-ghost use Rattle.contrasts.specs.Laws.Small.{Small};
+ghost use Rattle.contrasts.proofs.Laws.Small.{Small};
 ghost use Rattle.anova.specs.Inner.Ready.{Sets, Rounds, Checkable};
 ghost use Rattle.anova.specs.Inner.Readings.{after_round};
 

@@ -14,10 +14,10 @@ use lib.Dec.{ltb}
 use lib.ListN.{length, drop}
 use Rattle.algebra.specs.Laws.Tests.{neither}
 use Rattle.plan.specs.Outcome.{given, outcome}
-use Rattle.plan.specs.Laws.Answers.{passed, completed}
+use Rattle.plan.proofs.Laws.Answers.{passed, completed}
 use Rattle.blockings.specs.Blockings.{blockings_of, blocking_words, bad_factor_count, bad_word_count, blockings_refused, blockings_column}
 use Rattle.blockings.specs.Inner.Ready.{InRange}
-use Rattle.blockings.specs.Laws.Members.{word-count}
+use Rattle.blockings.proofs.Laws.Members.{word-count}
 
 module _ (k b : ℕ) where
   pub in-range : bad_factor_count k ≡ false → bad_word_count b ≡ false → InRange k b

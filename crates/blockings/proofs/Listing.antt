@@ -24,11 +24,11 @@ use lib.Seq.{take_at, drop-drop, length-take-le, take-append_seam}
 use Rattle.algebra.specs.Tab.{tab}
 use Rattle.algebra.specs.Those.{those}
 use Rattle.algebra.specs.Laws.Tab.{length-tab}
-use Rattle.algebra.specs.Laws.Parts.{length_part}
+use Rattle.algebra.proofs.Laws.Parts.{length_part}
 use Rattle.algebra.specs.Laws.Searching.{Unfound, found, nowhere}
 use Rattle.algebra.specs.Laws.Collected.{placed, Room}
 use Rattle.plan.specs.Check.{plan_refused}
-use Rattle.plan.specs.Laws.Alike.{same-refused}
+use Rattle.plan.proofs.Laws.Alike.{same-refused}
 use Rattle.blockings.specs.Blockings.{strictly_rising, blocked_plan, is_blocking, blockings_of, blocking_words}
 use Rattle.blockings.specs.Inner.Numbered.{word_at, words_at, blockings-tab}
 

@@ -14,7 +14,7 @@ use Rattle.algebra.specs.Naturals.{Σℕ}
 use Rattle.algebra.specs.Search.{some}
 use Rattle.algebra.specs.Tab.{tab_from}
 use Rattle.algebra.specs.Those.{those}
-use Rattle.contrasts.specs.Factors.{two}
+use Rattle.contrasts.proofs.Factors.{two}
 use Rattle.contrasts.specs.Limits.{most_two, most_three, is_repeats, most_readings}
 use Rattle.contrasts.specs.Totals.{size}
 use Rattle.words.specs.Words.{letters, beyond, times, combined, any, among, repeated}

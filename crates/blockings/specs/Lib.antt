@@ -2,9 +2,7 @@
 --
 --   Blockings   the lists, what is refused, and the answer
 --   Examples    lists, numbers and columns, computed
---   Laws        laws on the lists
 --   Inner       what only private functions ask or leave
 pub mod Blockings
 pub mod Examples
-pub mod Laws
 pub mod Inner

@@ -28,17 +28,18 @@ use mir.Syntax.{w64}
 use mir.Val.{SFits}
 use Rattle.algebra.specs.Sum.{Σ}
 use Rattle.algebra.specs.Tab.{tab, tab_from}
-use Rattle.algebra.specs.Laws.Machine.{fits, wrap, back}
+use Rattle.algebra.specs.Laws.Machine.{fits, wrap}
+use Rattle.algebra.proofs.Laws.Machine.{back}
 use Rattle.algebra.specs.Laws.Naturals.{Σℕ-each}
 use Rattle.algebra.specs.Laws.Size.{sq, nat_abs-+ℤ, nat_abs-Σ}
 use Rattle.algebra.specs.Laws.Tab.{length-tab, get_or-tab, get_d_past, tab-set}
 use Rattle.contrasts.specs.Blocks.{block_of, block_sum, block_numerator}
 use Rattle.contrasts.specs.Columns.{read}
-use Rattle.contrasts.specs.Factors.{three}
+use Rattle.contrasts.proofs.Factors.{three}
 use Rattle.contrasts.specs.Rows.{row_of}
 use Rattle.contrasts.specs.Totals.{size}
-use Rattle.contrasts.specs.Laws.ThreeLevels.{size-three, weight-first}
-use Rattle.contrasts.specs.Laws.Blocks.{block-lt, block-set, amount-is}
+use Rattle.contrasts.proofs.Laws.ThreeLevels.{size-three, weight-first}
+use Rattle.contrasts.proofs.Laws.Blocks.{block-lt, block-set, amount-is}
 use Rattle.blocks.specs.Ready.{added, set_added, Addable, SetAddable, Blockable, BlockSized}
 
 -- ---- one value

@@ -11,7 +11,8 @@ use native.Mathlib.Omega.{arith}
 use lib.IntN.{ℤ, nat_abs, ◌-ℤ◌}
 use mir.Syntax.{w64}
 use mir.Val.{SFits}
-use Rattle.algebra.specs.Laws.Machine.{fits, wrap, back}
+use Rattle.algebra.specs.Laws.Machine.{fits, wrap}
+use Rattle.algebra.proofs.Laws.Machine.{back}
 use Rattle.algebra.specs.Laws.Size.{sq, nat_abs-sub}
 use Rattle.walks.specs.Ready.{Squarable}
 use Rattle.blocks.specs.Ready.{BlockSized}

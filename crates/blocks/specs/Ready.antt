@@ -8,7 +8,7 @@
 --   BlockSized z             a number as large as a block sum can be: one of readings that are not too many or too large
 use Rattle.std.specs.Prelude.{◌≡◌, List, ℕ, ◌+◌, ◌*◌, ◌%◌, ◌^◌, ◌<◌, ◌≤◌, ℤ, pos, nat_abs, ◌+ℤ◌, length, get_or, set, replicate}
 use Rattle.contrasts.specs.Columns.{AllWithin}
-use Rattle.contrasts.specs.Factors.{three}
+use Rattle.contrasts.proofs.Factors.{three}
 use Rattle.contrasts.specs.Rows.{row_of}
 
 pub record Blockable (k word : ℕ) (sums : List ℤ) : Type 0 where

@@ -3,7 +3,7 @@ ghost use Rattle.std.specs.Prelude.{◌≡◌, ◌+◌, ◌*◌, ◌%◌, ◌^�
 ghost use Rattle.algebra.specs.Laws.Size.{sq};
 ghost use Rattle.contrasts.specs.Blocks.{block_numerator};
 ghost use Rattle.contrasts.specs.Columns.{read};
-ghost use Rattle.contrasts.specs.Factors.{three};
+ghost use Rattle.contrasts.proofs.Factors.{three};
 ghost use Rattle.blocks.specs.Ready.{added, set_added, Addable, SetAddable, Blockable, BlockSized};
 
 use plan::three_block;

@@ -19,7 +19,7 @@ use Rattle.algebra.specs.Tab.{tab, tab_from}
 use Rattle.contrasts.specs.Columns.{read, totals_of, run_sums_in, pass_of}
 use Rattle.contrasts.specs.Contrast.{sum_where, count_where}
 use Rattle.contrasts.specs.Limits.{value_limit, two_reading_limit, three_reading_limit, most_two, most_three, is_repeats, most_readings}
-use Rattle.contrasts.specs.Factors.{two, three}
+use Rattle.contrasts.proofs.Factors.{two, three}
 use Rattle.contrasts.specs.Codings.{neg}
 use Rattle.contrasts.specs.Recovery.{back_sum, readings_back, no_readings}
 use Rattle.contrasts.specs.Repeats.{run_sums}

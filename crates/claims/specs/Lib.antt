@@ -17,7 +17,6 @@
 --   Starred        the starred runs, as one fact
 --   WrongPrograms  the programs that have to break their statements
 --   Examples       worked examples
---   Laws           the proofs
 pub mod LowestNumber
 pub mod Refusals
 pub mod Letters
@@ -35,4 +34,3 @@ pub mod ReturnTrip
 pub mod Starred
 pub mod WrongPrograms
 pub mod Examples
-pub mod Laws

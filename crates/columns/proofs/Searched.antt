@@ -23,7 +23,7 @@ use Rattle.algebra.specs.Laws.Size.{nat_abs-sub}
 use Rattle.algebra.specs.Laws.Machine.{fits-half}
 use Rattle.contrasts.specs.Columns.{read}
 use Rattle.plan.specs.Limits.{is_beyond}
-use Rattle.plan.specs.Laws.Beyond.{over, under}
+use Rattle.plan.proofs.Laws.Beyond.{over, under}
 use Rattle.columns.specs.Refusals.{any_beyond}
 
 -- ---- the tests

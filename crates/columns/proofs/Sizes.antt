@@ -16,7 +16,7 @@ use lib.Signed.{mag}
 use Rattle.algebra.specs.Laws.Signs.{size-mag}
 use Rattle.contrasts.specs.Columns.{read, AllWithin}
 use Rattle.contrasts.specs.Limits.{value_limit}
-use Rattle.contrasts.specs.Laws.Within.{within-upto}
+use Rattle.contrasts.proofs.Laws.Within.{within-upto}
 use Rattle.columns.specs.Refusals.{any_beyond}
 use Rattle.columns.specs.Laws.Admitted.{none-beyond}
 

@@ -1,14 +1,12 @@
--- The factors of two, three, four and five levels, from their codings. The laws of a coding are one test of the whole of it,
--- which is computed.
+-- What makes a coding a factor. The laws of a coding are one test of the whole of it, which is computed.
 --
 --   dividing, rows_apart, columns_apart   the tests of its divisors, of its rows and of its columns
 --   tests, lawful                         all tests, by their number, and whether all pass
 --   some_level, some-common, divides, rows, columns
 --                                        the laws that a lawful coding has
 --   factor_of                            so it makes a factor
---   codings, coding-lawful               the four by their number, and that all are lawful
---   two, three, four, five               the factors
---   of_levels n                          the factor of two levels, or that of three
+--
+-- The factors are in proofs/Factors.antt, for each is made with the proof that its coding is lawful.
 use Rattle.std.specs.Prelude.{◌≡◌, Bool, true, cond, [], ◌∷◌, ℕ, ◌*◌, ◌/◌, ◌<◌, T, ltb, eqb, get_or, pos, ◌*ℤ◌}
 use Rattle.std.proofs.Math.Dec.{ltb→lt, eqb→eq}
 use Rattle.std.proofs.Common.{lit<}
@@ -16,7 +14,7 @@ use Rattle.algebra.specs.Sum.{Σ}
 use Rattle.algebra.specs.Tests.{every, eq_z}
 use Rattle.algebra.specs.Laws.Tests.{every-at, eqZ→eq}
 use Rattle.contrasts.specs.Factor.{Factor}
-use Rattle.contrasts.specs.Codings.{Coding, levels_of, coef_of, divisor_of, two_coding, three_coding, four_coding, five_coding}
+use Rattle.contrasts.specs.Codings.{Coding, levels_of, coef_of, divisor_of}
 
 -- ---- the test
 
@@ -82,37 +80,3 @@ module _ (t : Coding) (ok : T (lawful t)) where
     rows = rows;
     columns = columns;
   }
-
--- ---- the one test of all four, and the factors
-
-unfoldable pub codings : ℕ → Coding
-codings n = get_or (two_coding ∷ three_coding ∷ four_coding ∷ five_coding ∷ []) n two_coding
-
--- F9: "orthogonality tested once over them"
-all-lawful : T (every 4 (λ n. lawful (codings n)))
-unfolding codings lawful tests dividing rows_apart columns_apart every Σ
-all-lawful = tt
-
-pub coding-lawful : (n : ℕ) → n < 4 → T (lawful (codings n))
-coding-lawful n h = every-at 4 (λ n. lawful (codings n)) all-lawful n h
-
-unfoldable pub two : Factor
-unfolding codings
-two = factor_of two_coding (coding-lawful 0 (lit< tt))
-
-unfoldable pub three : Factor
-unfolding codings
-three = factor_of three_coding (coding-lawful 1 (lit< tt))
-
-unfoldable pub four : Factor
-unfolding codings
-four = factor_of four_coding (coding-lawful 2 (lit< tt))
-
-unfoldable pub five : Factor
-unfolding codings
-five = factor_of five_coding (coding-lawful 3 (lit< tt))
-
--- the kind of a plan's base factors, which are alike: two, or three for any other number; a plan of other levels is refused before this is
--- asked
-abbrev pub of_levels : ℕ → Factor
-of_levels n = cond (eqb n 2) two three

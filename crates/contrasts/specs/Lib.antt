@@ -3,7 +3,7 @@
 --
 --   Factor      a factor and its law of orthogonal rows
 --   Codings     the rows of coefficients of two to five levels
---   Factors     the factors, from codings that pass one computed test
+--   Factors     what makes a coding a factor: one computed test
 --   Totals      totals, divisors and numerators
 --   Passes      passes, and lists of pass calls
 --   Steps       the report's own step
@@ -15,8 +15,7 @@
 --   Columns     the definitions over columns that are lists
 --   Recovery    readings back from totals
 --   Contrast    the readings of some runs less those of the others
---   Examples    the worked examples, computed
---   Laws        the theorems
+--   Laws        what laws speak of and no rule names
 pub mod Factor
 pub mod Codings
 pub mod Factors
@@ -31,5 +30,4 @@ pub mod Repeats
 pub mod Columns
 pub mod Recovery
 pub mod Contrast
-pub mod Examples
 pub mod Laws

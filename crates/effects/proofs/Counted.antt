@@ -17,8 +17,8 @@ use Rattle.algebra.specs.Tab.{tab}
 use Rattle.algebra.specs.Laws.Fill.{filled-blank}
 use Rattle.plan.specs.declared.types.Plan.{Plan}
 use Rattle.plan.specs.Check.{bad_levels, bad_factors, run_count}
-use Rattle.plan.specs.Laws.Accepted.{factors-known}
-use Rattle.plan.specs.Laws.Sizes.{RunsTwo, RunsThree, runs-known}
+use Rattle.plan.proofs.Laws.Accepted.{factors-known}
+use Rattle.plan.proofs.Laws.Sizes.{RunsTwo, RunsThree, runs-known}
 
 pub threes-of : (k : ℕ) → 0 < k → 3 ^ k % 3 ≡ 0
 threes-of k h =

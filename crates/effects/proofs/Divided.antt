@@ -14,7 +14,7 @@ use native.Mathlib.Omega.{arith}
 use lib.ListN.{length, get_or, set, replicate}
 use Rattle.algebra.specs.Laws.Fill.{Filled, filled_none, filled-long, filled-old, filled_more, filled-all}
 use Rattle.algebra.specs.Laws.Tab.{length-tab, get_or-tab, tab-cong}
-use Rattle.contrasts.specs.Factors.{three}
+use Rattle.contrasts.proofs.Factors.{three}
 use Rattle.contrasts.specs.Totals.{divisor*}
 use Rattle.effects.specs.Inner.Divisors.{six_factors, thirds, divisors_of}
 

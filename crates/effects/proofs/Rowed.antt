@@ -19,15 +19,15 @@ use Rattle.algebra.specs.Laws.Fill.{filled-blank}
 use Rattle.algebra.specs.Tab.{tab}
 use Rattle.algebra.specs.Laws.Tab.{tab-cong}
 use Rattle.contrasts.specs.Rows.{row_of}
-use Rattle.contrasts.specs.Factors.{three}
+use Rattle.contrasts.proofs.Factors.{three}
 use Rattle.contrasts.specs.Totals.{size}
-use Rattle.contrasts.specs.Laws.Degrees.{row_lt}
-use Rattle.contrasts.specs.Laws.Rows.{row-none, row-fewer, row-two}
-use Rattle.contrasts.specs.Laws.ThreeLevels.{size-three, row-three}
+use Rattle.contrasts.proofs.Laws.Degrees.{row_lt}
+use Rattle.contrasts.proofs.Laws.Rows.{row-none, row-fewer, row-two}
+use Rattle.contrasts.proofs.Laws.ThreeLevels.{size-three, row-three}
 use Rattle.plan.specs.declared.types.Plan.{Plan}
 use Rattle.plan.specs.Check.{run_count}
 use Rattle.plan.specs.Plan.{factors_of}
-use Rattle.plan.specs.Laws.Sizes.{RunsTwo, RunsThree, runs-known}
+use Rattle.plan.proofs.Laws.Sizes.{RunsTwo, RunsThree, runs-known}
 use Rattle.effects.specs.Effects.{effect_rows}
 use Rattle.effects.proofs.Counted.{threes-of, few-three, is-three}
 use Rattle.effects.proofs.Filling.{Threes, threes-none, threes-read, threes-more}

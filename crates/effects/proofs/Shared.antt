@@ -14,11 +14,11 @@ use lib.Dec.{ltb}
 use lib.ListN.{get_or, replicate}
 use Rattle.algebra.specs.Tab.{tab}
 use Rattle.algebra.specs.Laws.Tab.{get_or-tab, tab-cong}
-use Rattle.contrasts.specs.Factors.{three}
+use Rattle.contrasts.proofs.Factors.{three}
 use Rattle.contrasts.specs.Totals.{divisor*, weight*}
-use Rattle.contrasts.specs.Laws.Divisors.{shares, weight-pos}
-use Rattle.contrasts.specs.Laws.ThreeLevels.{divisor-three, denominator-three}
-use Rattle.contrasts.specs.Laws.TwoLevels.{divisor-two}
+use Rattle.contrasts.proofs.Laws.Divisors.{shares, weight-pos}
+use Rattle.contrasts.proofs.Laws.ThreeLevels.{divisor-three, denominator-three}
+use Rattle.contrasts.proofs.Laws.TwoLevels.{divisor-two}
 use Rattle.plan.specs.declared.types.Plan.{Plan}
 use Rattle.plan.specs.Check.{run_count}
 use Rattle.plan.specs.Plan.{factors_of, divisor_of}

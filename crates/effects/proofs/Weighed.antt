@@ -18,10 +18,10 @@ use lib.ListN.{get_or, set, replicate}
 use Rattle.algebra.specs.Laws.Fill.{Filled, filled_none, filled-blank, filled-long, filled_more}
 use Rattle.algebra.specs.Tab.{tab}
 use Rattle.algebra.specs.Laws.Tab.{get_or-tab, tab-cong}
-use Rattle.contrasts.specs.Factors.{three}
+use Rattle.contrasts.proofs.Factors.{three}
 use Rattle.contrasts.specs.Totals.{weight*}
-use Rattle.contrasts.specs.Laws.ThreeLevels.{weight-first, weight-fits, weight-three}
-use Rattle.contrasts.specs.Laws.TwoLevels.{weight-two}
+use Rattle.contrasts.proofs.Laws.ThreeLevels.{weight-first, weight-fits, weight-three}
+use Rattle.contrasts.proofs.Laws.TwoLevels.{weight-two}
 use Rattle.plan.specs.declared.types.Plan.{Plan}
 use Rattle.plan.specs.Check.{run_count}
 use Rattle.plan.specs.Plan.{factors_of}

@@ -9,7 +9,7 @@ use Rattle.std.specs.Prelude.{◌≡◌, refl, [], ◌∷◌, ◌++◌, take}
 use Rattle.algebra.specs.Tab.{tab_from}
 use Rattle.contrasts.specs.Limits.{most_two, most_three}
 use Rattle.contrasts.specs.Rows.{row_of}
-use Rattle.contrasts.specs.Factors.{two, three}
+use Rattle.contrasts.proofs.Factors.{two, three}
 use Rattle.contrasts.specs.Totals.{size, divisor*, denominator, weight*}
 use Rattle.plan.specs.Check.{bad_levels, bad_factors, run_count}
 use Rattle.plan.specs.Examples.{plan, made}

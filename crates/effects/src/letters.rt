@@ -2,7 +2,7 @@
 ghost use Rattle.std.specs.Prelude.{◌≡◌, cond, ◌%◌, ◌≤◌, ltb, replicate};
 ghost use Rattle.algebra.specs.Tab.{tab};
 ghost use Rattle.contrasts.specs.Rows.{row_of};
-ghost use Rattle.contrasts.specs.Factors.{three};
+ghost use Rattle.contrasts.proofs.Factors.{three};
 ghost use Rattle.effects.specs.Effects.{effect_rows};
 
 use plan::Plan;

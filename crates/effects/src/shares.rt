@@ -1,7 +1,7 @@
 // The divisors of effects, with runs made r times.
 ghost use Rattle.std.specs.Prelude.{◌≡◌, cond, ◌*◌, ◌^◌, ◌≤◌, ltb, replicate};
 ghost use Rattle.algebra.specs.Tab.{tab};
-ghost use Rattle.contrasts.specs.Factors.{three};
+ghost use Rattle.contrasts.proofs.Factors.{three};
 ghost use Rattle.contrasts.specs.Totals.{divisor*};
 ghost use Rattle.effects.specs.Effects.{effect_divisors};
 

@@ -1,7 +1,7 @@
 // The weights of effects: denominator over divisor. Each comes from that of a lower effect, so that none needs a division.
 ghost use Rattle.std.specs.Prelude.{◌≡◌, cond, ◌^◌, ◌<◌, ◌≤◌, ltb, replicate};
 ghost use Rattle.algebra.specs.Tab.{tab};
-ghost use Rattle.contrasts.specs.Factors.{three};
+ghost use Rattle.contrasts.proofs.Factors.{three};
 ghost use Rattle.contrasts.specs.Totals.{weight*};
 ghost use Rattle.effects.specs.Effects.{effect_weights};
 

@@ -14,11 +14,11 @@ use Rattle.algebra.specs.Laws.Machine.{wrap}
 use Rattle.plan.specs.declared.types.Plan.{Plan}
 use Rattle.plan.specs.Check.{confounded_accepted}
 use Rattle.plan.specs.Outcome.{Outcome, given, refused, outcome}
-use Rattle.plan.specs.Laws.Answers.{refused-with, given-with}
-use Rattle.plan.specs.Laws.Sizes.{confounded-is}
+use Rattle.plan.proofs.Laws.Answers.{refused-with, given-with}
+use Rattle.plan.proofs.Laws.Sizes.{confounded-is}
 use Rattle.estimates.specs.Quotient.{InDouble}
 use Rattle.estimates.specs.Estimate.{Value, power_of, value_by, estimate_refused, estimate_value}
-use Rattle.estimates.specs.Laws.Given.{Admitted, admitted, some-power, held}
+use Rattle.estimates.proofs.Laws.Given.{Admitted, admitted, some-power, held}
 
 module _ (p : Plan) (e : ℕ) {t : ℤ} (f : SFits w64 t) {n : ℕ} (d : n ≡ estimate_refused p e (wrap t)) where
   found : n ≡ estimate_refused p e t

@@ -21,7 +21,7 @@ use mir.Val.{SFits}
 use Rattle.algebra.specs.Laws.Gathered.{one_shifted}
 use Rattle.algebra.specs.Laws.Machine.{wrap}
 use Rattle.estimates.specs.Quotient.{negative, quotient, InDouble}
-use Rattle.estimates.specs.Laws.Exact.{exact, of-value}
+use Rattle.estimates.proofs.Laws.Exact.{exact, of-value}
 
 -- ---- the quotient of two doubles that are whole numbers is the fraction, rounded once
 

@@ -8,3 +8,4 @@ pub mod Division
 pub mod Negation
 pub mod Limit
 pub mod Answers
+pub mod Laws

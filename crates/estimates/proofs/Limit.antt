@@ -10,8 +10,8 @@ use Rattle.contrasts.specs.Limits.{two_reading_limit}
 use Rattle.plan.specs.declared.types.Plan.{Plan}
 use Rattle.plan.specs.Check.{plan_refused}
 use Rattle.plan.specs.Limits.{reading_limit, run_limit}
-use Rattle.plan.specs.Laws.Limits.{limit-two}
-use Rattle.plan.specs.Laws.Sizes.{runs-two, readings-few}
+use Rattle.plan.proofs.Laws.Limits.{limit-two}
+use Rattle.plan.proofs.Laws.Sizes.{runs-two, readings-few}
 use Rattle.estimates.specs.Estimate.{total_limit}
 
 module _ (p : Plan) (two : p.levels ≡ 2) where

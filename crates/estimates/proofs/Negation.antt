@@ -12,7 +12,8 @@ use lib.IntN.{ℤ, pos, nat_abs, neg_ℤ, ◌-ℤ◌, +ℤ_idl}
 use mir.Facts.{to_z-of_z}
 use mir.Syntax.{w64}
 use mir.Val.{SFits}
-use Rattle.algebra.specs.Laws.Machine.{wrap, fits, back}
+use Rattle.algebra.specs.Laws.Machine.{wrap, fits}
+use Rattle.algebra.proofs.Laws.Machine.{back}
 use Rattle.algebra.specs.Laws.Size.{nat_abs-neg}
 use Rattle.words.specs.Words.{odd_word}
 use Rattle.estimates.specs.Estimate.{printed_total}

@@ -14,7 +14,7 @@ use Rattle.algebra.specs.Naturals.{Σℕ}
 use Rattle.algebra.specs.Bits.{bits}
 use Rattle.algebra.specs.Search.{some}
 use Rattle.contrasts.specs.Limits.{two_reading_limit, three_reading_limit, most_two, most_three, is_repeats, most_readings}
-use Rattle.contrasts.specs.Factors.{two, three}
+use Rattle.contrasts.proofs.Factors.{two, three}
 use Rattle.contrasts.specs.Totals.{size}
 use Rattle.contrasts.specs.Codings.{neg}
 use Rattle.words.specs.Words.{letters, beyond, times, combined, any, among, repeated}

@@ -3,8 +3,6 @@
 --   Quotient   a total over a power of two, as a double
 --   Estimate   the call's answer
 --   Examples   small plans, computed
---   Laws       laws on estimates
 pub mod Quotient
 pub mod Estimate
 pub mod Examples
-pub mod Laws

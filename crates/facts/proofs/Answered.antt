@@ -17,7 +17,7 @@ use mir.Val.{SFits, bool_byte}
 use Rattle.algebra.specs.Laws.Machine.{wrap}
 use Rattle.plan.specs.declared.types.Plan.{Plan}
 use Rattle.plan.specs.Outcome.{given, outcome}
-use Rattle.plan.specs.Laws.Answers.{given_is, refused-is, unwritten, written_new}
+use Rattle.plan.proofs.Laws.Answers.{given_is, refused-is, unwritten, written_new}
 use Rattle.contents.specs.Held.{held}
 use Rattle.heads.specs.Heads.{head_plan, head_refused}
 use Rattle.runs.specs.declared.types.Run.{Run}

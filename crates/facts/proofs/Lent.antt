@@ -9,7 +9,7 @@ use mathlib.Core.List.{List}
 use Prim.Native.Nat.{ℕ}
 use Rattle.plan.specs.declared.types.Plan.{Plan}
 use Rattle.plan.specs.Outcome.{given, refused, outcome, written}
-use Rattle.plan.specs.Laws.Answers.{given_is, refused-is, unwritten, written_new}
+use Rattle.plan.proofs.Laws.Answers.{given_is, refused-is, unwritten, written_new}
 use Rattle.contents.specs.Held.{held}
 use Rattle.heads.specs.Heads.{head_plan, head_refused, called}
 use Rattle.heads.specs.Laws.Called.{stops, goes, plan-is}

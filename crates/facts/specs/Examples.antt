@@ -18,7 +18,7 @@ use Rattle.algebra.specs.Search.{some}
 use Rattle.algebra.specs.Tab.{tab, tab_from}
 use Rattle.algebra.specs.Those.{those}
 use Rattle.contrasts.specs.Codings.{neg}
-use Rattle.contrasts.specs.Factors.{two, three}
+use Rattle.contrasts.proofs.Factors.{two, three}
 use Rattle.contrasts.specs.Limits.{two_reading_limit, three_reading_limit, most_two, most_three, is_repeats, most_readings}
 use Rattle.contrasts.specs.Totals.{size}
 use Rattle.words.specs.Words.{letters, beyond, shared, odd_in, times, combined, any, among, repeated}

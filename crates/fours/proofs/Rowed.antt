@@ -10,9 +10,10 @@ use mathlib.Core.List.{List}
 use Prim.Native.Nat.{ℕ, ◌+◌, ◌*◌}
 use lib.IntN.{ℤ, ◌+ℤ◌, ◌-ℤ◌}
 use lib.ListN.{set}
-use Rattle.algebra.specs.Laws.Machine.{wrap, back}
-use Rattle.contrasts.specs.Laws.Sets.{sum-size, less-size}
-use Rattle.contrasts.specs.Laws.Small.{Small, Mild, sum-mild, less-mild, held}
+use Rattle.algebra.specs.Laws.Machine.{wrap}
+use Rattle.algebra.proofs.Laws.Machine.{back}
+use Rattle.contrasts.proofs.Laws.Sets.{sum-size, less-size}
+use Rattle.contrasts.proofs.Laws.Small.{Small, Mild, sum-mild, less-mild, held}
 use Rattle.fours.specs.declared.rows.Rows.{Rows}
 use Rattle.fours.specs.Inner.Rows.{rows_by, put_rows, MildRows, FourPlaces}
 

@@ -3,7 +3,7 @@
 --   FirstFours xs ys    readings in fours, and a column of as many places that they go to
 --   AllFours h xs       a column in stretches of 4 h values: two two-level factors, the values of the first h apart
 use Rattle.std.specs.Prelude.{List, ℕ, ℤ}
-use Rattle.contrasts.specs.Laws.Both.{FirstStretches, BothStretches}
+use Rattle.contrasts.proofs.Laws.Both.{FirstStretches, BothStretches}
 
 abbrev pub FirstFours : List ℤ → List ℤ → Type 0
 FirstFours xs ys = FirstStretches 4 xs ys

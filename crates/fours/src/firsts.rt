@@ -1,7 +1,7 @@
 // The passes of the first two factors, from the readings to a column: the copy and both passes in one go.
 ghost use Rattle.std.specs.Prelude.{◌≡◌};
-ghost use Rattle.contrasts.specs.Factors.{two};
-ghost use Rattle.contrasts.specs.Laws.Both.{both_over};
+ghost use Rattle.contrasts.proofs.Factors.{two};
+ghost use Rattle.contrasts.proofs.Laws.Both.{both_over};
 ghost use Rattle.fours.specs.Ready.{FirstFours};
 ghost use Rattle.fours.specs.Inner.Stretch.{FirstFour};
 

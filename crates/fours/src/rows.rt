@@ -1,6 +1,6 @@
 // The two rows of two values: of one pair at the first pass, and of two of these at the second.
 ghost use Rattle.std.specs.Prelude.{◌≡◌};
-ghost use Rattle.contrasts.specs.Laws.Small.{Mild};
+ghost use Rattle.contrasts.proofs.Laws.Small.{Mild};
 ghost use Rattle.fours.specs.Inner.Rows.{rows_by, rows_from, put_rows, TwoReadings, FourPlaces};
 
 // The sum, and first minus second.

@@ -1,8 +1,8 @@
 // The passes of two factors that follow each other, in place: the column falls into consecutive stretches of four times the spacing of the
 // first, and each stretch is worked by itself.
 ghost use Rattle.std.specs.Prelude.{◌≡◌};
-ghost use Rattle.contrasts.specs.Factors.{two};
-ghost use Rattle.contrasts.specs.Laws.Both.{both_over};
+ghost use Rattle.contrasts.proofs.Factors.{two};
+ghost use Rattle.contrasts.proofs.Laws.Both.{both_over};
 ghost use Rattle.fours.specs.Ready.{AllFours};
 ghost use Rattle.fours.specs.Inner.Stretch.{Fours};
 

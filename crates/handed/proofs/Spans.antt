@@ -11,7 +11,7 @@ use native.Mathlib.Omega.{arith}
 use lib.IntN.{ℤ}
 use lib.ListN.{length, drop, drop_of_length-le}
 use Rattle.plan.specs.Outcome.{outcome}
-use Rattle.plan.specs.Laws.Answers.{unwritten, written_new, given_is, refused-is}
+use Rattle.plan.proofs.Laws.Answers.{unwritten, written_new, given_is, refused-is}
 use Rattle.columns.specs.declared.types.Answer.{Answer}
 use Rattle.columns.specs.declared.types.Answer.TheVariants.{Done, Refused}
 use Rattle.columns.specs.Refusals.{answer_outcome}

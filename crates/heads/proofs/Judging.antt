@@ -11,7 +11,7 @@ use lib.Dec.{eqb}
 use lib.ListN.{length}
 use Rattle.plan.specs.declared.types.Plan.{Plan}
 use Rattle.plan.specs.Check.{plan_refused}
-use Rattle.plan.specs.Laws.Answers.{plan-first, after-plan}
+use Rattle.plan.proofs.Laws.Answers.{plan-first, after-plan}
 use Rattle.fields.specs.Fields.{Fields, fields_of, bodies}
 use Rattle.fields.specs.Tags.{bad_from}
 use Rattle.contents.specs.Contents.{needless}

@@ -11,9 +11,10 @@ use Prim.Native.Nat.{ℕ, ◌+◌, ◌*◌}
 use lib.Dec.{lit≤}
 use lib.IntN.{ℤ, pos, ◌+ℤ◌, ◌-ℤ◌, ◌*ℤ◌}
 use lib.ListN.{set}
-use Rattle.algebra.specs.Laws.Machine.{wrap, back}
-use Rattle.contrasts.specs.Laws.Sets.{less-size, all-size, third-size}
-use Rattle.contrasts.specs.Laws.Small.{Small, Mild, less-mild, all-mild, third-mild, held}
+use Rattle.algebra.specs.Laws.Machine.{wrap}
+use Rattle.algebra.proofs.Laws.Machine.{back}
+use Rattle.contrasts.proofs.Laws.Sets.{less-size, all-size, third-size}
+use Rattle.contrasts.proofs.Laws.Small.{Small, Mild, less-mild, all-mild, third-mild, held}
 use Rattle.nines.specs.declared.rows.Rows.{Rows}
 use Rattle.nines.specs.Inner.Rows.{rows_by, put_rows, MildRows, NinePlaces}
 

@@ -18,16 +18,17 @@ use lib.Dec.{lit<}
 use lib.IntN.{ℤ, pos}
 use lib.ListN.{length}
 use Rattle.algebra.specs.Laws.Machine.{wrap}
-use Rattle.algebra.specs.Laws.Spread.{Turned, opened, put, closed, as_long}
+use Rattle.algebra.specs.Laws.Spread.{Turned}
+use Rattle.algebra.proofs.Laws.Spread.{opened, put, closed, as_long}
 use Rattle.algebra.specs.Laws.Tab.{get_or-tab}
 use Rattle.contrasts.specs.Columns.{read}
-use Rattle.contrasts.specs.Factors.{three}
+use Rattle.contrasts.proofs.Factors.{three}
 use Rattle.contrasts.specs.Passes.{pass_at}
 use Rattle.contrasts.specs.Totals.{Column}
-use Rattle.contrasts.specs.Laws.Both.{both_over, both_at, both-still, both_small, first-begun, first_ended}
-use Rattle.contrasts.specs.Laws.Small.{Small, mild-small}
-use Rattle.contrasts.specs.Laws.Stretches.{pass_over}
-use Rattle.contrasts.specs.Laws.ThreeLevels.{pass-three}
+use Rattle.contrasts.proofs.Laws.Both.{both_over, both_at, both-still, both_small, first-begun, first_ended}
+use Rattle.contrasts.proofs.Laws.Small.{Small, mild-small}
+use Rattle.contrasts.proofs.Laws.Stretches.{pass_over}
+use Rattle.contrasts.proofs.Laws.ThreeLevels.{pass-three}
 use Rattle.nines.specs.declared.rows.Rows.{Rows}
 use Rattle.nines.specs.Inner.Rows.{rows_by, rows_from, sums_of, gaps_of, curves_of, put_rows, ThreeReadings, MildRows, NinePlaces}
 use Rattle.nines.specs.Inner.Stretch.{FirstNine, Nines}

@@ -3,7 +3,7 @@
 --   FirstNines xs ys    readings in nines, and a column of as many places that they go to
 --   AllNines h xs       a column in stretches of 9 h values: two three-level factors, the values of the first h apart
 use Rattle.std.specs.Prelude.{List, ℕ, ℤ}
-use Rattle.contrasts.specs.Laws.Both.{FirstStretches, BothStretches}
+use Rattle.contrasts.proofs.Laws.Both.{FirstStretches, BothStretches}
 
 abbrev pub FirstNines : List ℤ → List ℤ → Type 0
 FirstNines xs ys = FirstStretches 9 xs ys

@@ -1,6 +1,6 @@
 // The three rows of three values: of one set of three at the first pass, and of three of these at the second.
 ghost use Rattle.std.specs.Prelude.{◌≡◌};
-ghost use Rattle.contrasts.specs.Laws.Small.{Mild};
+ghost use Rattle.contrasts.proofs.Laws.Small.{Mild};
 ghost use Rattle.nines.specs.Inner.Rows.{rows_by, rows_from, put_rows, ThreeReadings, NinePlaces};
 
 // The sum, first minus third, and first minus twice middle plus third.

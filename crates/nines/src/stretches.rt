@@ -1,8 +1,8 @@
 // The passes of two factors that follow each other, in place: the column falls into consecutive stretches of nine times the spacing of the
 // first, and each stretch is worked by itself.
 ghost use Rattle.std.specs.Prelude.{◌≡◌};
-ghost use Rattle.contrasts.specs.Factors.{three};
-ghost use Rattle.contrasts.specs.Laws.Both.{both_over};
+ghost use Rattle.contrasts.proofs.Factors.{three};
+ghost use Rattle.contrasts.proofs.Laws.Both.{both_over};
 ghost use Rattle.nines.specs.Ready.{AllNines};
 ghost use Rattle.nines.specs.Inner.Stretch.{Nines};
 

@@ -19,18 +19,18 @@ use Rattle.algebra.specs.Tab.{tab}
 use Rattle.algebra.specs.Laws.Tab.{length-tab, get_or-tab}
 use Rattle.contrasts.specs.Columns.{read, AllWithin, passes_of, totals_of}
 use Rattle.contrasts.specs.Limits.{value_limit}
-use Rattle.contrasts.specs.Factors.{of_levels}
+use Rattle.contrasts.proofs.Factors.{of_levels}
 use Rattle.contrasts.specs.Totals.{size}
 use Rattle.contrasts.specs.Passes.{passes, count}
-use Rattle.contrasts.specs.Laws.Both.{both_over, BothStretches, FirstStretches}
-use Rattle.contrasts.specs.Laws.Replicated.{size-alike, spacing-alike}
-use Rattle.contrasts.specs.Laws.Levels.{some-levels}
-use Rattle.contrasts.specs.Laws.Small.{value-mild}
-use Rattle.contrasts.specs.Laws.Limits.{values-fit}
-use Rattle.contrasts.specs.Laws.Lists.{tab-read, pass-over, passes-list, passes-more, order-list}
-use Rattle.contrasts.specs.Laws.Within.{within-tab}
-use Rattle.contrasts.specs.Laws.Order.{in_order, in-order}
-use Rattle.contrasts.specs.Laws.Stretches.{pass_over}
+use Rattle.contrasts.proofs.Laws.Both.{both_over, BothStretches, FirstStretches}
+use Rattle.contrasts.proofs.Laws.Replicated.{size-alike, spacing-alike}
+use Rattle.contrasts.proofs.Laws.Levels.{some-levels}
+use Rattle.contrasts.proofs.Laws.Small.{value-mild}
+use Rattle.contrasts.proofs.Laws.Limits.{values-fit}
+use Rattle.contrasts.proofs.Laws.Lists.{tab-read, pass-over, passes-list, passes-more, order-list}
+use Rattle.contrasts.proofs.Laws.Within.{within-tab}
+use Rattle.contrasts.proofs.Laws.Order.{in_order, in-order}
+use Rattle.contrasts.proofs.Laws.Stretches.{pass_over}
 use Rattle.passes.specs.Ready.{Stretches, PassReadings}
 use Rattle.passes.specs.Laws.Powers.{in-stretches}
 use Rattle.passes.specs.Inner.Lent.{SeveralFactors}

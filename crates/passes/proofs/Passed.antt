@@ -12,10 +12,11 @@ use native.Mathlib.Nat.{mul-le-mul_right, mul-pos}
 use native.Mathlib.Omega.{arith}
 use lib.IntN.{ℤ}
 use lib.ListN.{length, take, drop}
-use Rattle.algebra.specs.Laws.Parts.{part, length_part, Making, making-none, room-from, next, joined}
-use Rattle.contrasts.specs.Factors.{of_levels}
-use Rattle.contrasts.specs.Laws.Within.{within-part}
-use Rattle.contrasts.specs.Laws.Stretches.{pass_over, length_over, stretch-alone}
+use Rattle.algebra.specs.Laws.Parts.{part, Making}
+use Rattle.algebra.proofs.Laws.Parts.{length_part, making-none, room-from, next, joined}
+use Rattle.contrasts.proofs.Factors.{of_levels}
+use Rattle.contrasts.proofs.Laws.Within.{within-part}
+use Rattle.contrasts.proofs.Laws.Stretches.{pass_over, length_over, stretch-alone}
 use Rattle.passes.specs.Ready.{Stretch, Stretches}
 
 abbrev pub Passing : ℕ → ℕ → List ℤ → ℕ → List ℤ → Type 0

@@ -10,8 +10,8 @@ use native.Mathlib.Nat.{mul-one, one-mul}
 use lib.IntN.{ℤ}
 use lib.ListN.{length, replicate}
 use Rattle.contrasts.specs.Columns.{totals_of, run_sums_in}
-use Rattle.contrasts.specs.Factors.{of_levels}
-use Rattle.contrasts.specs.Laws.Repeats.{sums-long, sums-once, sums-within}
+use Rattle.contrasts.proofs.Factors.{of_levels}
+use Rattle.contrasts.proofs.Laws.Repeats.{sums-long, sums-once, sums-within}
 use Rattle.passes.specs.Ready.{PassReadings, RunReadings}
 use Rattle.repeats.specs.Ready.{AllRuns}
 

@@ -12,13 +12,14 @@ use lib.Dec.{lit<}
 use lib.IntN.{ℤ, pos, ◌+ℤ◌, ◌-ℤ◌, ◌*ℤ◌}
 use lib.ListN.{set}
 use Rattle.algebra.specs.Laws.Machine.{wrap}
-use Rattle.algebra.specs.Laws.Spread.{Turned, begun, ended, unread}
+use Rattle.algebra.specs.Laws.Spread.{Turned}
+use Rattle.algebra.proofs.Laws.Spread.{begun, ended, unread}
 use Rattle.contrasts.specs.Columns.{read}
-use Rattle.contrasts.specs.Factors.{two, three, of_levels}
+use Rattle.contrasts.proofs.Factors.{two, three, of_levels}
 use Rattle.contrasts.specs.Passes.{pass_at}
-use Rattle.contrasts.specs.Laws.Stretches.{pass_over, stretch-value}
-use Rattle.contrasts.specs.Laws.Small.{Mild}
-use Rattle.contrasts.specs.Laws.Sets.{turn-two, turn-three}
+use Rattle.contrasts.proofs.Laws.Stretches.{pass_over, stretch-value}
+use Rattle.contrasts.proofs.Laws.Small.{Mild}
+use Rattle.contrasts.proofs.Laws.Sets.{turn-two, turn-three}
 use Rattle.passes.specs.Ready.{Stretch}
 
 abbrev pub Stretched : ℕ → ℕ → List ℤ → ℕ → List ℤ → Type 0

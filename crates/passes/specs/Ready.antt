@@ -6,9 +6,9 @@
 --   RunReadings levels k r xs ys    readings of a plan of k factors whose runs are made r times, and a column with a place for each run
 use Rattle.std.specs.Prelude.{◌≡◌, List, ℕ, ◌*◌, ◌<◌, ◌≤◌, ◌^◌, ℤ, length, replicate}
 use Rattle.contrasts.specs.Columns.{AllWithin}
-use Rattle.contrasts.specs.Factors.{of_levels}
-use Rattle.contrasts.specs.Laws.Limits.{Passable}
-use Rattle.contrasts.specs.Laws.Small.{mild_limit}
+use Rattle.contrasts.proofs.Factors.{of_levels}
+use Rattle.contrasts.proofs.Laws.Limits.{Passable}
+use Rattle.contrasts.proofs.Laws.Small.{mild_limit}
 
 pub record Stretch (levels h : ℕ) (xs : List ℤ) : Type 0 where
   pub kind : (of_levels levels).levels ≡ levels

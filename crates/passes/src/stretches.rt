@@ -1,7 +1,7 @@
 // The pass of a factor over a column: the column falls into consecutive stretches, and each stretch is worked by itself.
 ghost use Rattle.std.specs.Prelude.{◌≡◌};
-ghost use Rattle.contrasts.specs.Factors.{two, three, of_levels};
-ghost use Rattle.contrasts.specs.Laws.Stretches.{pass_over};
+ghost use Rattle.contrasts.proofs.Factors.{two, three, of_levels};
+ghost use Rattle.contrasts.proofs.Laws.Stretches.{pass_over};
 ghost use Rattle.passes.specs.Ready.{Stretch, Stretches};
 
 // The pairs of a stretch at two levels: first and second become their sum, and first minus second.

@@ -2,7 +2,7 @@
 // there are two; of others the run sums are formed first, and worked one factor after the other.
 ghost use Rattle.std.specs.Prelude.{◌≡◌, length, replicate};
 ghost use Rattle.contrasts.specs.Columns.{totals_of, run_sums_in};
-ghost use Rattle.contrasts.specs.Factors.{of_levels};
+ghost use Rattle.contrasts.proofs.Factors.{of_levels};
 ghost use Rattle.passes.specs.Ready.{PassReadings, RunReadings};
 ghost use Rattle.passes.specs.Inner.Lent.{SeveralFactors};
 

@@ -19,7 +19,7 @@ use Rattle.algebra.specs.Bits.{bits}
 use Rattle.algebra.specs.Search.{some}
 use Rattle.algebra.specs.Tab.{tab, tab_from}
 use Rattle.contrasts.specs.Limits.{most_two, most_three, is_repeats, most_readings}
-use Rattle.contrasts.specs.Factors.{two, three}
+use Rattle.contrasts.proofs.Factors.{two, three}
 use Rattle.contrasts.specs.Totals.{size}
 use Rattle.words.specs.Words.{letters, beyond, times, combined, any, among, repeated}
 use Rattle.plan.specs.declared.types.Plan.{Plan}

@@ -5,10 +5,8 @@
 --   Outcome    what every call answers, and the first number that applies
 --   Check      the refusals 2 to 8 and 16, and the check's answer
 --   Examples   the small inputs of refusals 2 to 8 and 16
---   Laws       laws about plans
 pub mod Plan
 pub mod Limits
 pub mod Outcome
 pub mod Check
 pub mod Examples
-pub mod Laws

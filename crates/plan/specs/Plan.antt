@@ -17,7 +17,7 @@
 use Rattle.std.specs.Prelude.{Bool, cond, ◌&&◌, List, ℕ, ◌+◌, ◌*◌, ◌^◌, eqb, ltb, ℤ, length, take, get_or, replicate}
 use Rattle.algebra.specs.Search.{some}
 use Rattle.contrasts.specs.Factor.{Factor}
-use Rattle.contrasts.specs.Factors.{of_levels}
+use Rattle.contrasts.proofs.Factors.{of_levels}
 use Rattle.contrasts.specs.Rows.{row_of}
 use Rattle.contrasts.specs.Totals.{size, divisor*, denominator}
 use Rattle.contrasts.specs.Columns.{run_sums_in}

@@ -2,7 +2,7 @@
 ghost use Rattle.std.specs.Prelude.{◌≡◌, cond, ◌%◌, ◌≤◌, eqb, replicate};
 ghost use Rattle.words.specs.Words.{any};
 ghost use Rattle.contrasts.specs.Blocks.{block_of};
-ghost use Rattle.contrasts.specs.Factors.{three};
+ghost use Rattle.contrasts.proofs.Factors.{three};
 ghost use Rattle.contrasts.specs.Rows.{row_of};
 ghost use Rattle.plan.specs.Check.{used_digits, lowest_digit, bad_digits};
 

@@ -24,15 +24,16 @@ use mir.Syntax.{w32, w64}
 use mir.Val.{SFits, to_z, of_z}
 use mir.ValLaws.{to_z_pos}
 use Rattle.algebra.specs.Laws.Fill.{Filled, filled_none, filled-long, filled-old, filled_more, filled-all}
-use Rattle.algebra.specs.Laws.Machine.{fits, wrap, back, fits-half}
+use Rattle.algebra.specs.Laws.Machine.{fits, wrap, fits-half}
+use Rattle.algebra.proofs.Laws.Machine.{back}
 use Rattle.algebra.specs.Laws.Quotients.{quot-back, quot-within}
 use Rattle.algebra.specs.Laws.Searching.{Seen, seen_none, seen_more, seen_all}
 use Rattle.algebra.specs.Laws.Size.{nat_abs-sub}
 use Rattle.algebra.specs.Laws.Tests.{eq-eq_z, ne-eq_z}
 use Rattle.contrasts.specs.Columns.{read}
 use Rattle.contrasts.specs.Limits.{value_limit}
-use Rattle.contrasts.specs.Laws.Recovery.{missed, any_missed, quotients}
-use Rattle.contrasts.specs.Laws.Small.{room}
+use Rattle.contrasts.proofs.Laws.Recovery.{missed, any_missed, quotients}
+use Rattle.contrasts.proofs.Laws.Small.{room}
 use Rattle.plan.specs.Limits.{is_beyond}
 use Rattle.recovery.specs.Inner.Lent.{Sums}
 

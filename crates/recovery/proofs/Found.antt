@@ -19,28 +19,28 @@ use lib.IntN.{ℤ}
 use lib.ListN.{length}
 use Rattle.algebra.specs.Tab.{tab}
 use Rattle.contrasts.specs.Columns.{read}
-use Rattle.contrasts.specs.Factors.{two, three, of_levels}
+use Rattle.contrasts.proofs.Factors.{two, three, of_levels}
 use Rattle.contrasts.specs.Limits.{value_limit, most_two, most_three}
 use Rattle.contrasts.specs.Recovery.{back_sum, readings_back, no_readings}
 use Rattle.contrasts.specs.Totals.{denominator}
-use Rattle.contrasts.specs.Laws.Divisors.{denominator-pos}
-use Rattle.contrasts.specs.Laws.Recovery.{any_missed, quotients, quotients-back, judged, back_found}
-use Rattle.contrasts.specs.Laws.Replicated.{denominator-alike}
-use Rattle.contrasts.specs.Laws.Small.{mild_limit}
-use Rattle.contrasts.specs.Laws.Undo.{sums_from, sums-back, all-within, gentle-alike}
+use Rattle.contrasts.proofs.Laws.Divisors.{denominator-pos}
+use Rattle.contrasts.proofs.Laws.Recovery.{any_missed, quotients, quotients-back, judged, back_found}
+use Rattle.contrasts.proofs.Laws.Replicated.{denominator-alike}
+use Rattle.contrasts.proofs.Laws.Small.{mild_limit}
+use Rattle.contrasts.proofs.Laws.Undo.{sums_from, sums-back, all-within, gentle-alike}
 use Rattle.plan.specs.declared.types.Plan.{Plan}
 use Rattle.plan.specs.Check.{plan_refused}
 use Rattle.plan.specs.Limits.{run_limit}
 use Rattle.plan.specs.Outcome.{given, refused}
 use Rattle.plan.specs.Plan.{factors_of, runs_of}
-use Rattle.plan.specs.Laws.Accepted.{accepted}
-use Rattle.plan.specs.Laws.Answers.{stopped, completed}
-use Rattle.plan.specs.Laws.Limits.{run-admitted}
-use Rattle.plan.specs.Laws.Sizes.{factors-two, factors-three, as-power, plan-kind, runs-few}
+use Rattle.plan.proofs.Laws.Accepted.{accepted}
+use Rattle.plan.proofs.Laws.Answers.{stopped, completed}
+use Rattle.plan.proofs.Laws.Limits.{run-admitted}
+use Rattle.plan.proofs.Laws.Sizes.{factors-two, factors-three, as-power, plan-kind, runs-few}
 use Rattle.recovery.specs.Calls.{recover_refused, recover_column}
 use Rattle.recovery.specs.Inner.Answered.{Answered}
 use Rattle.recovery.specs.Inner.Lent.{Summable, Sums, Narrow, Judgeable, Lent}
-use Rattle.recovery.specs.Laws.Judged.{Lengths, by-readings}
+use Rattle.recovery.proofs.Laws.Judged.{Lengths, by-readings}
 use Rattle.recovery.proofs.Summed.{kind-gentle}
 
 pub denominator-few : (p : Plan) → plan_refused p ≡ 0 → denominator (factors_of p) ≤ 46_656

@@ -10,9 +10,10 @@ use native.Mathlib.Omega.{arith}
 use lib.IntN.{ℤ, pos, nat_abs, ◌+ℤ◌, ◌-ℤ◌, ◌*ℤ◌}
 use mir.Syntax.{w64}
 use mir.Val.{SFits}
-use Rattle.algebra.specs.Laws.Machine.{fits, wrap, back}
+use Rattle.algebra.specs.Laws.Machine.{fits, wrap}
+use Rattle.algebra.proofs.Laws.Machine.{back}
 use Rattle.algebra.specs.Laws.Size.{nat_abs-+ℤ, nat_abs-sub, nat_abs-*ℤ}
-use Rattle.contrasts.specs.Laws.Small.{mild_limit, Mild, room}
+use Rattle.contrasts.proofs.Laws.Small.{mild_limit, Mild, room}
 
 pub record Held (n : ℕ) (z v : ℤ) : Type 0 where
   pub so : v ≡ z

@@ -10,3 +10,4 @@ pub mod Worked
 pub mod Summed
 pub mod Divided
 pub mod Found
+pub mod Laws

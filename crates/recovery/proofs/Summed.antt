@@ -16,16 +16,17 @@ use native.Mathlib.Omega.{arith}
 use lib.Dec.{T, eqb}
 use lib.IntN.{ℤ}
 use lib.ListN.{length, replicate, take, drop}
-use Rattle.algebra.specs.Laws.Parts.{part, length_part, Making, making-none, room-from, next, joined}
+use Rattle.algebra.specs.Laws.Parts.{part, Making}
+use Rattle.algebra.proofs.Laws.Parts.{length_part, making-none, room-from, next, joined}
 use Rattle.contrasts.specs.Columns.{AllWithin}
-use Rattle.contrasts.specs.Factors.{two, three, of_levels}
+use Rattle.contrasts.proofs.Factors.{two, three, of_levels}
 use Rattle.contrasts.specs.Limits.{value_limit}
 use Rattle.contrasts.specs.Totals.{denominator}
-use Rattle.contrasts.specs.Laws.Levels.{some-levels}
-use Rattle.contrasts.specs.Laws.Replicated.{denominator-alike}
-use Rattle.contrasts.specs.Laws.Small.{mild_limit}
-use Rattle.contrasts.specs.Laws.Undo.{sums_over, sums_from, length-sums, length_from, gentle, two-gentle, three-gentle, gentle-alike, all-within, sums-alone}
-use Rattle.contrasts.specs.Laws.Within.{within-part}
+use Rattle.contrasts.proofs.Laws.Levels.{some-levels}
+use Rattle.contrasts.proofs.Laws.Replicated.{denominator-alike}
+use Rattle.contrasts.proofs.Laws.Small.{mild_limit}
+use Rattle.contrasts.proofs.Laws.Undo.{sums_over, sums_from, length-sums, length_from, gentle, two-gentle, three-gentle, gentle-alike, all-within, sums-alone}
+use Rattle.contrasts.proofs.Laws.Within.{within-part}
 use Rattle.passes.specs.Ready.{Stretch, Stretches}
 use Rattle.passes.specs.Laws.Powers.{in-stretches}
 use Rattle.recovery.specs.Inner.Lent.{Summable}

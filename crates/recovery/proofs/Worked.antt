@@ -13,11 +13,12 @@ use lib.Dec.{lit<, lit≤}
 use lib.IntN.{ℤ, pos, ◌+ℤ◌, ◌-ℤ◌, ◌*ℤ◌}
 use lib.ListN.{set}
 use Rattle.algebra.specs.Laws.Machine.{wrap}
-use Rattle.algebra.specs.Laws.Spread.{Turned, begun, ended, unread, opened, put, closed}
+use Rattle.algebra.specs.Laws.Spread.{Turned}
+use Rattle.algebra.proofs.Laws.Spread.{begun, ended, unread, opened, put, closed}
 use Rattle.contrasts.specs.Columns.{read}
-use Rattle.contrasts.specs.Factors.{three}
-use Rattle.contrasts.specs.Laws.Small.{Mild}
-use Rattle.contrasts.specs.Laws.Undo.{undo_sum, sums_over, undo-stretch, first-sum, middle-sum, third-sum}
+use Rattle.contrasts.proofs.Factors.{three}
+use Rattle.contrasts.proofs.Laws.Small.{Mild}
+use Rattle.contrasts.proofs.Laws.Undo.{undo_sum, sums_over, undo-stretch, first-sum, middle-sum, third-sum}
 use Rattle.passes.specs.Ready.{Stretch}
 use Rattle.recovery.proofs.Held.{Held, one, plus, minus, times}
 

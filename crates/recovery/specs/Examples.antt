@@ -14,7 +14,7 @@ use Rattle.algebra.specs.Search.{some}
 use Rattle.algebra.specs.Sum.{Σ}
 use Rattle.algebra.specs.Tab.{tab_from}
 use Rattle.contrasts.specs.Limits.{two_reading_limit, three_reading_limit, most_two, most_three, is_repeats, most_readings}
-use Rattle.contrasts.specs.Factors.{two, three}
+use Rattle.contrasts.proofs.Factors.{two, three}
 use Rattle.contrasts.specs.Codings.{neg}
 use Rattle.contrasts.specs.Recovery.{back_sum, readings_back, no_readings}
 use Rattle.contrasts.specs.Totals.{size, coef*, total, divisor*, denominator, weight*}

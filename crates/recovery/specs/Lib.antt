@@ -2,9 +2,7 @@
 --
 --   Calls      its number, and the column that it leaves
 --   Examples   small columns, computed
---   Laws       laws on it
 --   Inner      what the inner functions ask and leave; no promise of a call
 pub mod Calls
 pub mod Examples
-pub mod Laws
 pub mod Inner

@@ -1,7 +1,7 @@
 // The sums over the denominator: readings, where all are whole and within the limit.
 ghost use Rattle.std.specs.Prelude.{◌≡◌, ◌<◌, ◌^◌, pos, nat_abs, ◌*ℤ◌};
 ghost use Rattle.std.specs.Int.Signed.{quot_z};
-ghost use Rattle.contrasts.specs.Laws.Recovery.{missed, any_missed, quotients};
+ghost use Rattle.contrasts.proofs.Laws.Recovery.{missed, any_missed, quotients};
 ghost use Rattle.recovery.specs.Inner.Lent.{Sums, Narrow};
 
 use sizes::is_beyond;

@@ -1,9 +1,9 @@
 // The sums back of all runs: each total times its weight and its coefficient, added up, one factor after the other. At two levels these are
 // passes once more; at three the rows (2, 3, 1), (2, 0, -2) and (2, -3, 1).
 ghost use Rattle.std.specs.Prelude.{◌≡◌, replicate};
-ghost use Rattle.contrasts.specs.Factors.{three, of_levels};
+ghost use Rattle.contrasts.proofs.Factors.{three, of_levels};
 ghost use Rattle.contrasts.specs.Totals.{denominator};
-ghost use Rattle.contrasts.specs.Laws.Undo.{sums_over, sums_from};
+ghost use Rattle.contrasts.proofs.Laws.Undo.{sums_over, sums_from};
 ghost use Rattle.passes.specs.Ready.{Stretch, Stretches};
 ghost use Rattle.recovery.specs.Inner.Lent.{Summable};
 

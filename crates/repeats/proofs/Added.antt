@@ -14,7 +14,8 @@ use lib.Signed.{mag}
 use mir.Syntax.{w32, w64}
 use mir.Val.{SFits, to_z, of_z}
 use Rattle.algebra.specs.Sum.{Σ}
-use Rattle.algebra.specs.Laws.Machine.{fits, wrap, back, widened}
+use Rattle.algebra.specs.Laws.Machine.{fits, wrap}
+use Rattle.algebra.proofs.Laws.Machine.{back, widened}
 use Rattle.algebra.specs.Laws.Signs.{size-mag}
 use Rattle.algebra.specs.Laws.Size.{nat_abs-+ℤ}
 use Rattle.contrasts.specs.Columns.{read}

@@ -16,7 +16,7 @@ use Rattle.algebra.specs.Laws.Tab.{get_d_past}
 use Rattle.words.specs.Words.{combined}
 use Rattle.plan.specs.declared.types.Plan.{Plan}
 use Rattle.plan.specs.Plan.{block_words, some_combination, combines_to, confounded_in}
-use Rattle.plan.specs.Laws.Combinations.{combination, the-combination, each-fails}
+use Rattle.plan.proofs.Laws.Combinations.{combination, the-combination, each-fails}
 use Rattle.rows.specs.Kinds.{marked, bad_mark, bad_marks}
 use Rattle.rows.specs.Inner.Written.{any_over}
 

@@ -4,3 +4,4 @@
 --   Judging    refusal 13 as the code judges it
 pub mod Putting
 pub mod Judging
+pub mod Laws

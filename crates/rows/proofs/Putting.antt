@@ -25,7 +25,7 @@ use Rattle.words.specs.Words.{combined}
 use Rattle.plan.specs.declared.types.Plan.{Plan}
 use Rattle.plan.specs.Plan.{block_words, some_combination, combines_to, confounded_in}
 use Rattle.rows.specs.Kinds.{mean_row, blocks_row, kept_row, kind_by_mark, kind_of, code_of, kinds_of}
-use Rattle.rows.specs.Laws.Kinds.{code_by}
+use Rattle.rows.proofs.Laws.Kinds.{code_by}
 use Rattle.rows.specs.Inner.Written.{with_marks, with_blocks}
 
 -- ---- marks

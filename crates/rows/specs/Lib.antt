@@ -2,9 +2,7 @@
 --
 --   Kinds      the kinds of rows, and the marks that are refused
 --   Examples   kinds of rows, computed
---   Laws       laws on rows
 --   Inner      what the inner functions ask and leave; no promise of a call
 pub mod Kinds
 pub mod Examples
-pub mod Laws
 pub mod Inner

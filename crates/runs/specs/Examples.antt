@@ -12,7 +12,7 @@ use Rattle.algebra.specs.Search.{some}
 use Rattle.algebra.specs.Tab.{tab, tab_from}
 use Rattle.contrasts.specs.Limits.{most_two, most_three, is_repeats, most_readings}
 use Rattle.contrasts.specs.Blocks.{digit_sum}
-use Rattle.contrasts.specs.Factors.{two, three}
+use Rattle.contrasts.proofs.Factors.{two, three}
 use Rattle.contrasts.specs.Totals.{size}
 use Rattle.words.specs.Words.{letters, beyond, shared, odd_in, times, combined, any, among, repeated}
 use Rattle.plan.specs.Examples.{plan, made, ABC, AD}

@@ -1,7 +1,7 @@
 // The run call: the letters that are high in a run, and its block.
 ghost use Rattle.std.specs.Prelude.{◌≡◌, cond, ◌+◌, ◌^◌, ◌≤◌, ◌<◌, leb, length, replicate, take};
 ghost use Rattle.contrasts.specs.Blocks.{block_of};
-ghost use Rattle.contrasts.specs.Factors.{three};
+ghost use Rattle.contrasts.proofs.Factors.{three};
 ghost use Rattle.plan.specs.Outcome.{outcome};
 ghost use Rattle.runs.specs.Run.{high_by, high_letters, block_number, run_refused, run_values, run_outcome};
 

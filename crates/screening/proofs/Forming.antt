@@ -12,7 +12,7 @@ use Rattle.algebra.specs.Laws.Fill.{Filled, filled-blank, filled_more, filled-fi
 use Rattle.algebra.specs.Laws.Tab.{tab-cong}
 use Rattle.aliases.specs.Alias.{base_word}
 use Rattle.screening.specs.Inner.Formed.{main_formed}
-use Rattle.screening.specs.Laws.Words.{main-formed}
+use Rattle.screening.proofs.Laws.Words.{main-formed}
 
 pub record Forming (k : ℕ) (words : List ℕ) (factors i : ℕ) (mains : List ℕ) : Type 0 where
   pub within : i ≤ factors

@@ -14,14 +14,14 @@ use Rattle.plan.specs.declared.types.Plan.{Plan}
 use Rattle.plan.specs.Check.{plan_refused}
 use Rattle.plan.specs.Outcome.{Outcome, refused, outcome}
 use Rattle.plan.specs.Plan.{factors_of, run_sums_of}
-use Rattle.plan.specs.Laws.Answers.{stopped}
+use Rattle.plan.proofs.Laws.Answers.{stopped}
 use Rattle.rows.specs.Kinds.{marked}
 use Rattle.anova.specs.declared.types.Figures.{Figures}
 use Rattle.anova.specs.Table.{table_refused, table_figures, table_totals, table_rows, rows_of}
 use Rattle.screening.specs.Screening.{main_words, meet, marked_main, screen_refused, screen_totals, screen_rows}
 use Rattle.screening.specs.Inner.Formed.{some_pair}
-use Rattle.screening.specs.Laws.Admitted.{by-table, table-made}
-use Rattle.screening.specs.Laws.Words.{meet-pairs}
+use Rattle.screening.proofs.Laws.Admitted.{by-table, table-made}
+use Rattle.screening.proofs.Laws.Words.{meet-pairs}
 
 otherwise : (b : Bool) (m n : ℕ) → cond (not b) m n ≡ cond b n m
 otherwise true m n = refl

@@ -4,3 +4,5 @@
 --   Judging   what the screening call refuses, as the code judges it
 pub mod Forming
 pub mod Judging
+pub mod Laws
+pub mod Examples

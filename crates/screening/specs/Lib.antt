@@ -1,10 +1,6 @@
 -- What the screening call promises, and laws that callers cite.
 --
 --   Screening   the call's number, and the columns that it leaves; its figures are the table call's
---   Examples    plans of the published tables, computed
---   Laws        laws on the profile
 --   Inner       what the inner functions form; no promise of a call
 pub mod Screening
-pub mod Examples
-pub mod Laws
 pub mod Inner

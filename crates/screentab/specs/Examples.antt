@@ -13,7 +13,7 @@ use Rattle.algebra.specs.Sum.{Σ}
 use Rattle.algebra.specs.Tab.{tab_from}
 use Rattle.contrasts.specs.Limits.{two_reading_limit, three_reading_limit, most_two, most_three, is_repeats, most_readings}
 use Rattle.contrasts.specs.Rows.{row_of, degrees_of}
-use Rattle.contrasts.specs.Factors.{two, three}
+use Rattle.contrasts.proofs.Factors.{two, three}
 use Rattle.contrasts.specs.Totals.{size, coef*, total, divisor*, denominator, weight*, numerator_of}
 use Rattle.contrasts.specs.Checks.{check_weight, round, rounds}
 use Rattle.contrasts.specs.Columns.{run_sums_in, squares_of}

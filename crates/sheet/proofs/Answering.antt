@@ -18,8 +18,8 @@ use Rattle.plan.specs.declared.types.Plan.{Plan}
 use Rattle.plan.specs.Check.{reading_count}
 use Rattle.plan.specs.Outcome.{Outcome, given, refused, outcome}
 use Rattle.plan.specs.Plan.{factors_of, all_readings}
-use Rattle.plan.specs.Laws.Answers.{stopped, completed, unwritten, written_new}
-use Rattle.plan.specs.Laws.Sizes.{reading-count}
+use Rattle.plan.proofs.Laws.Answers.{stopped, completed, unwritten, written_new}
+use Rattle.plan.proofs.Laws.Sizes.{reading-count}
 use Rattle.columns.specs.Laws.Admitted.{all-readings}
 use Rattle.fields.specs.Fields.{fields_of, body_at}
 use Rattle.contents.specs.Contents.{plan_in, readings_of, readings_in, marks_in}

@@ -16,11 +16,11 @@ use lib.ListN.{length}
 use Rattle.plan.specs.declared.types.Plan.{Plan}
 use Rattle.plan.specs.Check.{plan_refused, reading_count}
 use Rattle.plan.specs.Limits.{reading_limit}
-use Rattle.plan.specs.Laws.Answers.{plan-first, after-plan}
-use Rattle.plan.specs.Laws.Sizes.{reading-count}
+use Rattle.plan.proofs.Laws.Answers.{plan-first, after-plan}
+use Rattle.plan.proofs.Laws.Sizes.{reading-count}
 use Rattle.columns.specs.Refusals.{wrong_readings, any_beyond}
 use Rattle.rows.specs.Kinds.{wrong_rows, bad_marks, row_count}
-use Rattle.rows.specs.Laws.Rows.{rows-by}
+use Rattle.rows.proofs.Laws.Rows.{rows-by}
 use Rattle.fields.specs.Fields.{Fields, body_at}
 use Rattle.fields.specs.Tags.{bad_fields}
 use Rattle.contents.specs.Contents.{needless, readings_of}

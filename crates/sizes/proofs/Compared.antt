@@ -15,7 +15,7 @@ use mir.ValLaws.{to_z_pos}
 use Rattle.algebra.specs.Laws.Machine.{fits, wrap}
 use Rattle.algebra.specs.Laws.Size.{nat_abs-sub}
 use Rattle.plan.specs.Limits.{is_beyond}
-use Rattle.plan.specs.Laws.Beyond.{over, under}
+use Rattle.plan.proofs.Laws.Beyond.{over, under}
 
 pub negated : (m : ℕ) → m < 2 ^ 63 → SFits w64 (pos 0 -ℤ to_z w64 m)
 negated m k = rw (to_z_pos w64 m k) (fits (pos 0 -ℤ pos m) (omega (arith, nat_abs-sub (pos 0) (pos m))))

@@ -12,12 +12,12 @@ use lib.ListN.{length}
 use Rattle.contrasts.specs.Columns.{step_of}
 use Rattle.contrasts.specs.Factor.{Factor}
 use Rattle.contrasts.specs.Limits.{value_limit}
-use Rattle.contrasts.specs.Factors.{of_levels}
-use Rattle.contrasts.specs.Laws.Levels.{some-levels}
+use Rattle.contrasts.proofs.Factors.{of_levels}
+use Rattle.contrasts.proofs.Laws.Levels.{some-levels}
 use Rattle.plan.specs.declared.types.Plan.{Plan}
 use Rattle.plan.specs.Plan.{runs_of}
-use Rattle.plan.specs.Laws.Accepted.{accepted}
-use Rattle.plan.specs.Laws.Sizes.{as-power, plan-kind}
+use Rattle.plan.proofs.Laws.Accepted.{accepted}
+use Rattle.plan.proofs.Laws.Sizes.{as-power, plan-kind}
 use Rattle.columns.specs.Laws.Admitted.{Columns}
 use Rattle.steps.specs.Inner.Ready.{Sets}
 

@@ -12,13 +12,14 @@ use native.Mathlib.Omega.{arith}
 use lib.IntN.{ℤ, pos, ◌+ℤ◌, ◌-ℤ◌, ◌*ℤ◌}
 use lib.ListN.{set}
 use Rattle.algebra.specs.Laws.Machine.{wrap}
-use Rattle.algebra.specs.Laws.Spread.{Turned, begun, ended}
+use Rattle.algebra.specs.Laws.Spread.{Turned}
+use Rattle.algebra.proofs.Laws.Spread.{begun, ended}
 use Rattle.contrasts.specs.Columns.{read, step_of}
-use Rattle.contrasts.specs.Factors.{two, three, of_levels}
+use Rattle.contrasts.proofs.Factors.{two, three, of_levels}
 use Rattle.contrasts.specs.Steps.{step}
-use Rattle.contrasts.specs.Laws.Steps.{step_value}
-use Rattle.contrasts.specs.Laws.Small.{Mild, mild-small}
-use Rattle.contrasts.specs.Laws.Sets.{turn-two, turn-three}
+use Rattle.contrasts.proofs.Laws.Steps.{step_value}
+use Rattle.contrasts.proofs.Laws.Small.{Mild, mild-small}
+use Rattle.contrasts.proofs.Laws.Sets.{turn-two, turn-three}
 use Rattle.steps.specs.Inner.Ready.{Sets}
 
 abbrev pub Stepped : ℕ → ℕ → List ℤ → List ℤ → ℕ → List ℤ → Type 0

@@ -12,7 +12,7 @@ use Rattle.algebra.specs.Sum.{Σ}
 use Rattle.algebra.specs.Tab.{tab_from}
 use Rattle.contrasts.specs.Columns.{step_of}
 use Rattle.contrasts.specs.Limits.{value_limit, most_two, most_three, is_repeats, most_readings}
-use Rattle.contrasts.specs.Factors.{two, three}
+use Rattle.contrasts.proofs.Factors.{two, three}
 use Rattle.contrasts.specs.Codings.{neg}
 use Rattle.contrasts.specs.Totals.{size}
 use Rattle.contrasts.specs.Steps.{step}

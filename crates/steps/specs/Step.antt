@@ -6,7 +6,7 @@
 use Rattle.std.specs.Prelude.{List, ℕ, ℤ}
 use Rattle.contrasts.specs.Columns.{step_of}
 use Rattle.contrasts.specs.Limits.{value_limit}
-use Rattle.contrasts.specs.Factors.{of_levels}
+use Rattle.contrasts.proofs.Factors.{of_levels}
 use Rattle.plan.specs.declared.types.Plan.{Plan}
 use Rattle.plan.specs.Outcome.{Refusal, written}
 use Rattle.plan.specs.Plan.{runs_of}

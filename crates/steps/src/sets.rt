@@ -1,7 +1,7 @@
 // The report's own step: all sums first, then the differences, at three levels then the third combination.
 ghost use Rattle.std.specs.Prelude.{◌≡◌, length};
 ghost use Rattle.contrasts.specs.Columns.{step_of};
-ghost use Rattle.contrasts.specs.Factors.{two, three};
+ghost use Rattle.contrasts.proofs.Factors.{two, three};
 ghost use Rattle.plan.specs.Outcome.{outcome};
 ghost use Rattle.columns.specs.Refusals.{answer_outcome};
 ghost use Rattle.steps.specs.Step.{step_refused, step_column};

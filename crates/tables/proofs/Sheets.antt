@@ -20,11 +20,11 @@ use Rattle.algebra.specs.Laws.Tests.{neither}
 use Rattle.plan.specs.declared.types.Plan.{Plan}
 use Rattle.plan.specs.Check.{plan_refused, run_count}
 use Rattle.plan.specs.Plan.{factors_of, all_readings}
-use Rattle.plan.specs.Laws.Sizes.{run-count, readings-few}
+use Rattle.plan.proofs.Laws.Sizes.{run-count, readings-few}
 use Rattle.columns.specs.Refusals.{wrong_length}
 use Rattle.columns.specs.Laws.Admitted.{all-readings, as_long}
 use Rattle.rows.specs.Kinds.{row_count, wrong_rows}
-use Rattle.rows.specs.Laws.Rows.{row-count, rows-as-long}
+use Rattle.rows.proofs.Laws.Rows.{row-count, rows-as-long}
 use Rattle.fields.specs.Fields.{fields_of, body_at}
 use Rattle.contents.specs.Contents.{plan_in, readings_of, readings_in, marks_in}
 use Rattle.contents.specs.Held.{held}

@@ -6,3 +6,4 @@
 pub mod Parted
 pub mod Walked
 pub mod Planned
+pub mod Laws

@@ -14,19 +14,19 @@ use Rattle.contrasts.specs.Columns.{read}
 use Rattle.contrasts.specs.Rows.{row_of}
 use Rattle.effects.specs.Effects.{effect_rows, effect_weights}
 use Rattle.plan.specs.declared.types.Plan.{Plan}
-use Rattle.plan.specs.Laws.Accepted.{accepted}
-use Rattle.plan.specs.Laws.Sizes.{runs-few, runs-two}
+use Rattle.plan.proofs.Laws.Accepted.{accepted}
+use Rattle.plan.proofs.Laws.Sizes.{runs-few, runs-two}
 use Rattle.plan.specs.Plan.{factors_of, runs_of}
 use Rattle.rows.specs.Kinds.{rows_in, kinds_of}
-use Rattle.rows.specs.Laws.Rows.{rows_few}
+use Rattle.rows.proofs.Laws.Rows.{rows_few}
 use Rattle.walks.specs.declared.types.Sums.{Sums}
 use Rattle.walks.specs.After.{kind_at, numerator_at, rows_after, sums_after}
 use Rattle.walks.specs.Ready.{PlanWalkable}
 use Rattle.walks.specs.State.{zeros}
 use Rattle.walks.specs.Inner.Ready.{WalkableTwo, WalkableThree}
 use Rattle.walks.specs.Inner.Walk.{Walked, WalkedTwo, WalkedThree}
-use Rattle.walks.specs.Laws.After.{walked-agrees, two-agrees, three-agrees}
-use Rattle.walks.specs.Laws.Plans.{two-walkable, three-walkable}
+use Rattle.walks.proofs.Laws.After.{walked-agrees, two-agrees, three-agrees}
+use Rattle.walks.proofs.Laws.Plans.{two-walkable, three-walkable}
 
 halves : (k : ℕ) → 0 < k → 2 ^ k ≡ 2 * 2 ^ (k - 1)
 halves k h = let e : k ≡ suc (k - 1) = omega arith in ap (λ n. 2 ^ n) e ∙ pow-succ' 2 (k - 1)

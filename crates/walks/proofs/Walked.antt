@@ -23,14 +23,15 @@ use lib.ListN.{length, get_or, set, replicate}
 use mir.Syntax.{w64}
 use mir.Val.{SFits, to_z, of_z}
 use Rattle.algebra.specs.Laws.Fill.{Filled, filled_none, filled-long, filled_more, filled-all}
-use Rattle.algebra.specs.Laws.Machine.{fits, wrap, back, kept}
+use Rattle.algebra.specs.Laws.Machine.{fits, wrap}
+use Rattle.algebra.proofs.Laws.Machine.{back, kept}
 use Rattle.algebra.specs.Sum.{Σ}
 use Rattle.contrasts.specs.Columns.{read}
 use Rattle.contrasts.specs.Totals.{Column}
 use Rattle.walks.specs.State.{place_of, plus_at, brought, held_in, zeros, Held, Holding, course_two, course_three, RunningTwo, RunningThree}
 use Rattle.walks.specs.Inner.Ready.{Weighable, Gatherable, BringsTwo, BringsThree, Walkable, WalkableTwo, WalkableThree}
 use Rattle.walks.specs.Inner.Walk.{Walking, WalkingTwo, WalkingThree, Walked, WalkedTwo, WalkedThree}
-use Rattle.walks.specs.Laws.Walking.{sum-small, total-small, numerator-small, rows_long, sums-within, row_fits, addable, sums-held, two-walks, three-walks}
+use Rattle.walks.proofs.Laws.Walking.{sum-small, total-small, numerator-small, rows_long, sums-within, row_fits, addable, sums-held, two-walks, three-walks}
 
 -- ---- rows of 0
 

@@ -2,9 +2,7 @@
 --
 --   Writer       the bytes of a sheet
 --   RoundTrip    what is asked and said of a sheet that is read back
---   Laws         that it is
 --   Examples     small sheets
 pub mod Writer
 pub mod RoundTrip
-pub mod Laws
 pub mod Examples

@@ -8,15 +8,15 @@ use Prim.Native.Nat.{ℕ}
 use lib.IntN.{ℤ}
 use lib.ListN.{length-replicate, get_or-replicate}
 use Rattle.contrasts.specs.Columns.{pass_of}
-use Rattle.contrasts.specs.Factors.{of_levels}
-use Rattle.contrasts.specs.Laws.Lists.{pass-over}
-use Rattle.contrasts.specs.Laws.Small.{value-mild}
-use Rattle.contrasts.specs.Laws.Stretches.{pass_over}
+use Rattle.contrasts.proofs.Factors.{of_levels}
+use Rattle.contrasts.proofs.Laws.Lists.{pass-over}
+use Rattle.contrasts.proofs.Laws.Small.{value-mild}
+use Rattle.contrasts.proofs.Laws.Stretches.{pass_over}
 use Rattle.plan.specs.declared.types.Plan.{Plan}
 use Rattle.plan.specs.Check.{spacing_at}
 use Rattle.plan.specs.Plan.{factors_of}
-use Rattle.plan.specs.Laws.Accepted.{accepted}
-use Rattle.plan.specs.Laws.Sizes.{as-power, spacing-power, spacing-is, plan-kind}
+use Rattle.plan.proofs.Laws.Accepted.{accepted}
+use Rattle.plan.proofs.Laws.Sizes.{as-power, spacing-power, spacing-is, plan-kind}
 use Rattle.passes.specs.Ready.{Stretches}
 use Rattle.passes.specs.Laws.Powers.{in-stretches}
 use Rattle.yates.specs.Laws.Admitted.{PassAdmitted}

@@ -15,7 +15,7 @@ use Rattle.algebra.specs.Tab.{tab_from}
 use Rattle.contrasts.specs.Columns.{pass_of, totals_of, run_sums_in}
 use Rattle.contrasts.specs.Repeats.{run_sums}
 use Rattle.contrasts.specs.Limits.{two_reading_limit, three_reading_limit, value_limit, most_two, most_three, is_repeats, most_readings}
-use Rattle.contrasts.specs.Factors.{two, three}
+use Rattle.contrasts.proofs.Factors.{two, three}
 use Rattle.contrasts.specs.Codings.{neg}
 use Rattle.contrasts.specs.Totals.{size, coef*, total}
 use Rattle.contrasts.specs.Passes.{pass_at, pass_from}

@@ -5,7 +5,7 @@ use Rattle.std.specs.Prelude.{◌≡◌, ℕ}
 use Rattle.std.proofs.Math.Path.{refl}
 use Rattle.plan.specs.declared.types.Plan.{Plan}
 use Rattle.plan.specs.Check.{with_plan}
-use Rattle.plan.specs.Laws.Alike.{Alike, same-refused as same-plan-refused}
+use Rattle.plan.proofs.Laws.Alike.{Alike, same-refused as same-plan-refused}
 use Rattle.aliases.specs.Alias.{alias_refused, alias_values}
 
 module _ {p q : Plan} (a : Alike p q) (e : ℕ) where

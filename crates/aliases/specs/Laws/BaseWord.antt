@@ -26,7 +26,7 @@ use Rattle.words.specs.Laws.Parity.{letters-one}
 use Rattle.words.specs.Laws.Combined.{combined-within, combined-own, combined-one, letters-one-of, combined-xor}
 use Rattle.plan.specs.declared.types.Plan.{Plan}
 use Rattle.plan.specs.Plan.{added_words}
-use Rattle.plan.specs.Laws.Accepted.{Accepted}
+use Rattle.plan.proofs.Laws.Accepted.{Accepted}
 use Rattle.aliases.specs.Alias.{base_word, sign_ones, odd_signs, turned, alias_values}
 
 pub base-small : (p : Plan) → Accepted p → (e : ℕ) → (alias_values p e).0 < 2 ^ p.k

@@ -15,7 +15,7 @@ use Rattle.words.specs.Words.{has, beyond}
 use Rattle.plan.specs.Plan.{all_letters}
 use Rattle.plan.specs.Check.{plan_refused}
 use Rattle.aliases.specs.Alias.{sign_ones, alias_refused}
-use Rattle.plan.specs.Laws.Answers.{after-plan}
+use Rattle.plan.proofs.Laws.Answers.{after-plan}
 
 -- of the first j added factors, n are replaced and have sign 1
 pub record Counted (replaced : ℕ) (signs : List ℕ) (j n : ℕ) : Type 0 where

@@ -24,8 +24,8 @@ use Rattle.words.specs.Laws.Combined.{shared-combined}
 use Rattle.words.specs.Laws.Parity.{odd-add, plus-odd}
 use Rattle.plan.specs.declared.types.Plan.{Plan}
 use Rattle.plan.specs.Plan.{added_words, added_signs, all_letters}
-use Rattle.plan.specs.Laws.Accepted.{Accepted, signs-small}
-use Rattle.plan.specs.Laws.Sizes.{letters-few}
+use Rattle.plan.proofs.Laws.Accepted.{Accepted, signs-small}
+use Rattle.plan.proofs.Laws.Sizes.{letters-few}
 use Rattle.runs.specs.Run.{high_by, high_letters, run_values}
 use Rattle.runs.specs.Laws.High.{high-added, values-two}
 use Rattle.runs.specs.Laws.BaseLetters.{high-letter}

@@ -6,7 +6,7 @@ use Rattle.std.specs.Prelude.{cond, List, ℕ, ◌-◌, ◌*◌, ltb, ℤ, lengt
 use Rattle.algebra.specs.Tab.{tab}
 use Rattle.contrasts.specs.Checks.{round}
 use Rattle.contrasts.specs.Columns.{read, run_sums_in, squares_of}
-use Rattle.contrasts.specs.Factors.{three}
+use Rattle.contrasts.proofs.Factors.{three}
 
 -- V16, as code forms it: r times the squares of the readings, less those of the run sums (`within-is`)
 unfoldable pub about_means : ℕ → ℕ → List ℤ → ℕ

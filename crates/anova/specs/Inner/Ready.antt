@@ -14,7 +14,7 @@
 use Rattle.std.specs.Prelude.{◌≡◌, Bool, true, not, List, ℕ, ◌+◌, ◌-◌, ◌*◌, ◌^◌, ◌<◌, ◌≤◌, ℤ, length, replicate}
 use Rattle.contrasts.specs.Columns.{AllWithin, run_sums_in, squares_of}
 use Rattle.contrasts.specs.Limits.{value_limit}
-use Rattle.contrasts.specs.Factors.{three, of_levels}
+use Rattle.contrasts.proofs.Factors.{three, of_levels}
 use Rattle.contrasts.specs.Rows.{row_of}
 use Rattle.rows.specs.Kinds.{error_row}
 use Rattle.walks.specs.declared.types.Sums.{Sums}

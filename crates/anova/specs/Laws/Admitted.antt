@@ -14,20 +14,20 @@ use borrow.Author.Tests.{eq-eqb}
 use Rattle.std.proofs.lemmas.List.{length-replicate}
 use Rattle.algebra.specs.Laws.Tests.{neither}
 use Rattle.contrasts.specs.Columns.{read, AllWithin}
-use Rattle.contrasts.specs.Factors.{of_levels}
+use Rattle.contrasts.proofs.Factors.{of_levels}
 use Rattle.contrasts.specs.Totals.{denominator, squared}
-use Rattle.contrasts.specs.Laws.Limits.{total-fits}
-use Rattle.contrasts.specs.Laws.Repeats.{sums-within}
+use Rattle.contrasts.proofs.Laws.Limits.{total-fits}
+use Rattle.contrasts.proofs.Laws.Repeats.{sums-within}
 use Rattle.plan.specs.declared.types.Plan.{Plan}
 use Rattle.plan.specs.Check.{plan_refused}
 use Rattle.plan.specs.Limits.{reading_limit, run_limit, numerator_limit}
 use Rattle.plan.specs.Plan.{factors_of, runs_of, all_readings, run_sums_of, three_word}
-use Rattle.plan.specs.Laws.Answers.{passed, plan-passed, after-plan}
-use Rattle.plan.specs.Laws.Limits.{plan-roomy}
+use Rattle.plan.proofs.Laws.Answers.{passed, plan-passed, after-plan}
+use Rattle.plan.proofs.Laws.Limits.{plan-roomy}
 use Rattle.columns.specs.Refusals.{wrong_length, wrong_readings, any_beyond}
 use Rattle.columns.specs.Laws.Admitted.{all-within, as_long, all-readings}
 use Rattle.rows.specs.Kinds.{rows_in, wrong_rows, bad_marks}
-use Rattle.rows.specs.Laws.Rows.{rows-as-long}
+use Rattle.rows.proofs.Laws.Rows.{rows-as-long}
 use Rattle.anova.specs.Table.{wrong_lengths, table_refused}
 
 pub record TableReady (p : Plan) (readings : List ℤ) (marks : List ℕ) (totals : List ℤ) (rows : List ℕ) : Type 0 where

@@ -15,14 +15,14 @@ use Rattle.algebra.specs.Naturals.{Σℕ}
 use Rattle.algebra.specs.Sorted.{sum_at}
 use Rattle.contrasts.specs.Columns.{read, totals_of}
 use Rattle.contrasts.specs.Rows.{row_numerator}
-use Rattle.contrasts.specs.Laws.Rows.{numerators-of-kind, degrees-of-kind}
-use Rattle.contrasts.specs.Laws.Squares.{numerators}
+use Rattle.contrasts.proofs.Laws.Rows.{numerators-of-kind, degrees-of-kind}
+use Rattle.contrasts.proofs.Laws.Squares.{numerators}
 use Rattle.contrasts.specs.Totals.{total, denominator, numerator_of, squared}
 use Rattle.plan.specs.declared.types.Plan.{Plan}
-use Rattle.plan.specs.Laws.Limits.{numerator-fits}
+use Rattle.plan.proofs.Laws.Limits.{numerator-fits}
 use Rattle.plan.specs.Plan.{factors_of, runs_of}
 use Rattle.rows.specs.Kinds.{rows_in, Kind, kind_of, code_of}
-use Rattle.rows.specs.Laws.Kinds.{four-kinds}
+use Rattle.rows.proofs.Laws.Kinds.{four-kinds}
 use Rattle.walks.specs.After.{kind_at, numerator_at, rows_after, sums_by, sums_after}
 use Rattle.walks.specs.Ready.{PlanWalkable}
 use Rattle.anova.specs.Inner.Effects.{effect_source, rows_by_effects}

@@ -10,7 +10,7 @@ use Rattle.algebra.specs.Laws.Tab.{tab-cong}
 use Rattle.plan.specs.declared.types.Plan.{Plan}
 use Rattle.plan.specs.Check.{with_plan}
 use Rattle.plan.specs.Plan.{factors_of, run_sums_of}
-use Rattle.plan.specs.Laws.Alike.{Alike, same-refused as same-plan-refused, same-limit}
+use Rattle.plan.proofs.Laws.Alike.{Alike, same-refused as same-plan-refused, same-limit}
 use Rattle.columns.specs.Refusals.{wrong_length, wrong_readings}
 use Rattle.rows.specs.Kinds.{rows_in, wrong_rows, kind_of, bad_mark, bad_marks}
 use Rattle.anova.specs.Table.{wrong_lengths, table_refused, block_degrees, block_amount, block_source, row_degrees, row_left, source_of, within_source, total_source, checks_of}

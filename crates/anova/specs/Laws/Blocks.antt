@@ -24,17 +24,17 @@ use Rattle.algebra.specs.Laws.Naturals.{Σℕ-add, Σℕ-cong, Σℕ-one}
 use Rattle.algebra.specs.Laws.Tab.{tab-cong}
 use Rattle.contrasts.specs.Blocks.{block_numerator}
 use Rattle.contrasts.specs.Columns.{read}
-use Rattle.contrasts.specs.Factors.{three}
+use Rattle.contrasts.proofs.Factors.{three}
 use Rattle.contrasts.specs.Rows.{row_of, degrees_of, row_numerator}
-use Rattle.contrasts.specs.Laws.Blocks.{amount-is, never-negative}
-use Rattle.contrasts.specs.Laws.Degrees.{row_lt}
-use Rattle.contrasts.specs.Laws.ThreeLevels.{used-degrees}
+use Rattle.contrasts.proofs.Laws.Blocks.{amount-is, never-negative}
+use Rattle.contrasts.proofs.Laws.Degrees.{row_lt}
+use Rattle.contrasts.proofs.Laws.ThreeLevels.{used-degrees}
 use Rattle.plan.specs.declared.types.Plan.{Plan}
 use Rattle.plan.specs.Check.{plan_refused}
 use Rattle.plan.specs.Plan.{factors_of, three_word, word_row}
-use Rattle.plan.specs.Laws.Accepted.{accepted}
-use Rattle.plan.specs.Laws.Sizes.{factors-three, some-repeat}
-use Rattle.plan.specs.Laws.Words.{three-levels, no_number, none-lost, uses-letters, row-of-digits}
+use Rattle.plan.proofs.Laws.Accepted.{accepted}
+use Rattle.plan.proofs.Laws.Sizes.{factors-three, some-repeat}
+use Rattle.plan.proofs.Laws.Words.{three-levels, no_number, none-lost, uses-letters, row-of-digits}
 use Rattle.rows.specs.Kinds.{rows_in, Kind, kind_by_mark, kind_of, same}
 use Rattle.anova.specs.Inner.Effects.{effect_source, rows_by_effects}
 use Rattle.anova.specs.Laws.Admitted.{rows-power}

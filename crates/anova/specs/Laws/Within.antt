@@ -26,20 +26,20 @@ use Rattle.contrasts.specs.Repeats.{within_runs}
 use Rattle.contrasts.specs.Rows.{row_of, degrees_of, row_numerator}
 use Rattle.contrasts.specs.Totals.{total, denominator, numerator, squared}
 use Rattle.contrasts.specs.Checks.{rounds}
-use Rattle.contrasts.specs.Laws.CheckSum.{check-rounds}
-use Rattle.contrasts.specs.Laws.Degrees.{row_lt, degrees-sum}
-use Rattle.contrasts.specs.Laws.Digits.{size-pos}
-use Rattle.contrasts.specs.Laws.Divisors.{denominator-pos}
-use Rattle.contrasts.specs.Laws.Limits.{numerators-fit}
-use Rattle.contrasts.specs.Laws.Repeats.{all-squares, squares-fit}
-use Rattle.contrasts.specs.Laws.Squares.{numerators, total-within, check-within}
+use Rattle.contrasts.proofs.Laws.CheckSum.{check-rounds}
+use Rattle.contrasts.proofs.Laws.Degrees.{row_lt, degrees-sum}
+use Rattle.contrasts.proofs.Laws.Digits.{size-pos}
+use Rattle.contrasts.proofs.Laws.Divisors.{denominator-pos}
+use Rattle.contrasts.proofs.Laws.Limits.{numerators-fit}
+use Rattle.contrasts.proofs.Laws.Repeats.{all-squares, squares-fit}
+use Rattle.contrasts.proofs.Laws.Squares.{numerators, total-within, check-within}
 use Rattle.plan.specs.declared.types.Plan.{Plan}
 use Rattle.plan.specs.Limits.{reading_limit, numerator_limit}
 use Rattle.plan.specs.Plan.{factors_of, runs_of, all_readings, run_sums_of, denominator_of}
-use Rattle.plan.specs.Laws.Limits.{plan-roomy, some-reading}
-use Rattle.plan.specs.Laws.Sizes.{some-repeat}
+use Rattle.plan.proofs.Laws.Limits.{plan-roomy, some-reading}
+use Rattle.plan.proofs.Laws.Sizes.{some-repeat}
 use Rattle.rows.specs.Kinds.{rows_in, Kind, mean_row, blocks_row, error_row, kept_row, kind_of, code_of, same}
-use Rattle.rows.specs.Laws.Kinds.{four-kinds}
+use Rattle.rows.proofs.Laws.Kinds.{four-kinds}
 use Rattle.anova.specs.Inner.Effects.{effect_source, effect_figures}
 use Rattle.anova.specs.Laws.Admitted.{TableReady, SumsReady, sums-ready, rows-power, within-limit}
 use Rattle.anova.specs.Laws.Blocks.{all_left, all-degrees-left, numerator-moved, degrees-moved}

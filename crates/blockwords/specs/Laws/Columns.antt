@@ -13,11 +13,11 @@ use Rattle.algebra.specs.Laws.Among.{in-at}
 use Rattle.algebra.specs.Laws.Joined.{flat-part}
 use Rattle.algebra.specs.Laws.Tests.{neither}
 use Rattle.plan.specs.Outcome.{outcome}
-use Rattle.plan.specs.Laws.Answers.{passed, given_is, written_new}
+use Rattle.plan.proofs.Laws.Answers.{passed, given_is, written_new}
 use Rattle.blockings.specs.declared.types.Blockings.{Blockings}
 use Rattle.blockings.specs.declared.types.Blockings.TheVariants.{Written}
 use Rattle.blockings.specs.Blockings.{blockings_of, blocking_words, bad_factor_count, blockings_refused, blockings_column, blockings_outcome}
-use Rattle.blockings.specs.Laws.Members.{only, wide, word-count}
+use Rattle.blockings.proofs.Laws.Members.{only, wide, word-count}
 use Rattle.blockwords.specs.Inner.Ready.{Blocked, ListsIn}
 
 -- ---- the column

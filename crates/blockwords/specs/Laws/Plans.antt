@@ -10,7 +10,7 @@ use Rattle.std.proofs.Math.Seq.{append_snoc}
 use Rattle.std.proofs.lemmas.List.{set_at}
 use Rattle.plan.specs.Check.{confounded_accepted}
 use Rattle.plan.specs.Plan.{confounded_in}
-use Rattle.plan.specs.Laws.Accepted.{sizes}
+use Rattle.plan.proofs.Laws.Accepted.{sizes}
 use Rattle.blockings.specs.Blockings.{blocked_plan}
 use Rattle.blockwords.specs.Inner.Ready.{Blocked}
 

@@ -12,12 +12,12 @@ use Rattle.std.proofs.lemmas.Bool.{not-false}
 use Rattle.algebra.specs.Laws.Search.{some-false, none-at}
 use Rattle.algebra.specs.Laws.Tests.{neither}
 use Rattle.contrasts.specs.Columns.{read, AllWithin}
-use Rattle.contrasts.specs.Laws.Within.{within-upto}
+use Rattle.contrasts.proofs.Laws.Within.{within-upto}
 use Rattle.plan.specs.declared.types.Plan.{Plan}
 use Rattle.plan.specs.Check.{plan_refused}
 use Rattle.plan.specs.Plan.{runs_of, all_readings}
 use Rattle.plan.specs.Limits.{reading_limit, is_beyond}
-use Rattle.plan.specs.Laws.Answers.{passed, plan-passed, after-plan}
+use Rattle.plan.proofs.Laws.Answers.{passed, plan-passed, after-plan}
 use Rattle.columns.specs.Refusals.{wrong_length, wrong_readings, any_beyond, columns_refused, readings_refused}
 
 pub all-within : (limit : ℕ) (xs : List ℤ) → any_beyond limit xs ≡ false → AllWithin limit xs

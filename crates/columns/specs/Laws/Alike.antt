@@ -5,7 +5,7 @@
 use Rattle.std.specs.Prelude.{◌≡◌, refl, List, ℕ, ℤ}
 use Rattle.plan.specs.declared.types.Plan.{Plan}
 use Rattle.plan.specs.Check.{with_plan}
-use Rattle.plan.specs.Laws.Alike.{Alike, same-refused, same-factors, same-limit}
+use Rattle.plan.proofs.Laws.Alike.{Alike, same-refused, same-factors, same-limit}
 use Rattle.columns.specs.Refusals.{wrong_length, wrong_readings, columns_refused, readings_refused}
 
 pub same-columns : {p q : Plan} → Alike p q → (limit : ℕ) (xs ys : List ℤ) → columns_refused limit p xs ys ≡ columns_refused limit q xs ys

@@ -14,8 +14,8 @@ use Rattle.plan.specs.declared.types.Plan.{Plan}
 use Rattle.plan.specs.Check.{plan_refused, with_plan, run_count, reading_count}
 use Rattle.plan.specs.Outcome.{Refusal, refusal, lowest}
 use Rattle.plan.specs.Plan.{runs_of}
-use Rattle.plan.specs.Laws.Answers.{passed, plan-passed, plan-first, after-plan}
-use Rattle.plan.specs.Laws.Sizes.{run-count, reading-count}
+use Rattle.plan.proofs.Laws.Answers.{passed, plan-passed, plan-first, after-plan}
+use Rattle.plan.proofs.Laws.Sizes.{run-count, reading-count}
 use Rattle.columns.specs.Refusals.{wrong_length, wrong_readings, lengths_refused}
 
 module _ (p : Plan) (ok : plan_refused p ≡ 0) {n : ℕ} (e : n ≡ run_count p) (m : ℕ) where

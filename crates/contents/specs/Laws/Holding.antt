@@ -9,7 +9,7 @@ use Rattle.std.proofs.Math.Bool.{or-true}
 use Rattle.std.proofs.Math.Decide.{dec_le}
 use Rattle.plan.specs.declared.types.Plan.{Plan}
 use Rattle.plan.specs.Check.{bad_counts, plan_refused}
-use Rattle.plan.specs.Laws.Accepted.{sizes}
+use Rattle.plan.proofs.Laws.Accepted.{sizes}
 use Rattle.contents.specs.Held.{held}
 
 min-small : (n m : ℕ) → n ≤ m → min n m ≡ n

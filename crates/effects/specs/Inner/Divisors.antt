@@ -5,7 +5,7 @@
 --   divisors_of k    the table for k factors
 use Rattle.std.specs.Prelude.{List, ℕ, ◌-◌, ◌^◌, ◌/◌, length, get_or, replicate}
 use Rattle.algebra.specs.Tab.{tab}
-use Rattle.contrasts.specs.Factors.{three}
+use Rattle.contrasts.proofs.Factors.{three}
 use Rattle.contrasts.specs.Totals.{divisor*}
 
 -- "at three levels the product of 3, 2 or 6 by digit. The 729 divisors of six three-level factors are kept as one constant table"

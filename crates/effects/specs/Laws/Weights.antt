@@ -4,11 +4,11 @@
 use Rattle.std.specs.Prelude.{◌≡◌, ℕ, ◌/◌, ◌<◌, get_or}
 use Rattle.std.proofs.Common.{sym, ◌∙◌, arith, lt-ltb}
 use Rattle.algebra.specs.Laws.Tab.{get_or-tab}
-use Rattle.contrasts.specs.Laws.Repeats.{same-weight}
+use Rattle.contrasts.proofs.Laws.Repeats.{same-weight}
 use Rattle.plan.specs.declared.types.Plan.{Plan}
 use Rattle.plan.specs.Check.{plan_refused}
 use Rattle.plan.specs.Plan.{factors_of, runs_of, denominator_of, divisor_of}
-use Rattle.plan.specs.Laws.Sizes.{run-count, runs-few, some-repeat}
+use Rattle.plan.proofs.Laws.Sizes.{run-count, runs-few, some-repeat}
 use Rattle.effects.specs.Effects.{effect_weights}
 
 -- T19, T30: "The denominator, all divisors [..] are multiplied by r": no weight changes

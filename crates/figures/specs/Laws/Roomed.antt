@@ -19,7 +19,7 @@ use Rattle.algebra.specs.Laws.Tests.{neither}
 use Rattle.contrasts.specs.Columns.{totals_of}
 use Rattle.plan.specs.declared.types.Plan.{Plan}
 use Rattle.plan.specs.Check.{plan_refused}
-use Rattle.plan.specs.Laws.Answers.{plan-first, after-plan, unwritten, written_new, given_is, refused-is}
+use Rattle.plan.proofs.Laws.Answers.{plan-first, after-plan, unwritten, written_new, given_is, refused-is}
 use Rattle.plan.specs.Outcome.{refusal, outcome, written}
 use Rattle.plan.specs.Plan.{factors_of, run_sums_of}
 use Rattle.anova.specs.declared.types.Figures.{Figures}

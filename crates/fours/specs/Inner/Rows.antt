@@ -10,7 +10,7 @@
 use Rattle.std.specs.Prelude.{List, ℕ, ◌+◌, ◌*◌, ◌<◌, ℤ, ◌+ℤ◌, ◌-ℤ◌, length, set}
 use Rattle.contrasts.specs.Columns.{read, AllWithin}
 use Rattle.contrasts.specs.Limits.{value_limit}
-use Rattle.contrasts.specs.Laws.Small.{Mild}
+use Rattle.contrasts.proofs.Laws.Small.{Mild}
 use Rattle.fours.specs.declared.rows.Rows.{Rows}
 
 abbrev pub rows_by : ℤ → ℤ → Rows

@@ -6,7 +6,7 @@ use Rattle.std.specs.Prelude.{◌≡◌, refl, List, ℕ, take}
 use Rattle.std.proofs.Math.Path.{sym}
 use Rattle.std.proofs.Common.{ap, ◌∙◌}
 use Rattle.plan.specs.Check.{plan_refused}
-use Rattle.plan.specs.Laws.Answers.{after-plan, written_new}
+use Rattle.plan.proofs.Laws.Answers.{after-plan, written_new}
 use Rattle.fields.specs.Fields.{fields_of}
 use Rattle.contents.specs.Contents.{plan_in}
 use Rattle.sheet.specs.Sheet.{read_refused}

@@ -4,7 +4,7 @@
 use Rattle.std.specs.Prelude.{◌≡◌, ℕ}
 use Rattle.std.proofs.Common.{sym, ap, ◌∙◌}
 use Rattle.plan.specs.Outcome.{refused_of, outcome}
-use Rattle.plan.specs.Laws.Answers.{refused-of}
+use Rattle.plan.proofs.Laws.Answers.{refused-of}
 use Rattle.columns.specs.declared.types.Answer.{Answer}
 use Rattle.columns.specs.Refusals.{answer_outcome}
 

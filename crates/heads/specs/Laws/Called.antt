@@ -9,7 +9,7 @@ use Rattle.std.proofs.Common.{sym, ◌∙◌, arith, eq-eqb, ne_eqb}
 use Rattle.std.proofs.Math.Path.{ap}
 use Rattle.plan.specs.declared.types.Plan.{Plan}
 use Rattle.plan.specs.Check.{plan_refused, with_plan}
-use Rattle.plan.specs.Laws.Answers.{passed, plan-passed, unwritten, written_new}
+use Rattle.plan.proofs.Laws.Answers.{passed, plan-passed, unwritten, written_new}
 use Rattle.fields.specs.Fields.{fields_of}
 use Rattle.contents.specs.Held.{held}
 use Rattle.contents.specs.Laws.Holding.{held_all}

@@ -3,7 +3,7 @@
 --   FirstNine xs ys    nine readings, and a stretch of the column that they go to
 --   Nines h xs         a stretch of 9 h values: two three-level factors, the values of the first h apart
 use Rattle.std.specs.Prelude.{List, ℕ, ℤ}
-use Rattle.contrasts.specs.Laws.Both.{FirstStretch, BothStretch}
+use Rattle.contrasts.proofs.Laws.Both.{FirstStretch, BothStretch}
 
 abbrev pub FirstNine : List ℤ → List ℤ → Type 0
 FirstNine xs ys = FirstStretch 9 xs ys

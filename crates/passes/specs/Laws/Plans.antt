@@ -6,8 +6,8 @@ use Rattle.std.proofs.Common.{◌∙◌}
 use Rattle.plan.specs.declared.types.Plan.{Plan}
 use Rattle.plan.specs.Limits.{reading_limit}
 use Rattle.plan.specs.Plan.{factors_of}
-use Rattle.plan.specs.Laws.Limits.{plan-roomy}
-use Rattle.plan.specs.Laws.Sizes.{as-power, plan-kind, some-repeat}
+use Rattle.plan.proofs.Laws.Limits.{plan-roomy}
+use Rattle.plan.proofs.Laws.Sizes.{as-power, plan-kind, some-repeat}
 use Rattle.columns.specs.Laws.Admitted.{Readings}
 use Rattle.passes.specs.Ready.{RunReadings}
 

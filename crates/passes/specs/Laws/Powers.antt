@@ -5,9 +5,9 @@ use Rattle.std.specs.Prelude.{◌≡◌, List, ℕ, suc, ◌-◌, ◌^◌, ◌<�
 use Rattle.std.proofs.Common.{◌∙◌, ap, arith, pow-add}
 use Rattle.std.proofs.Math.Nat.{pow-succ', one-le-pow}
 use Rattle.contrasts.specs.Columns.{AllWithin}
-use Rattle.contrasts.specs.Factors.{of_levels}
-use Rattle.contrasts.specs.Laws.Levels.{some-levels}
-use Rattle.contrasts.specs.Laws.Small.{mild_limit}
+use Rattle.contrasts.proofs.Factors.{of_levels}
+use Rattle.contrasts.proofs.Laws.Levels.{some-levels}
+use Rattle.contrasts.proofs.Laws.Small.{mild_limit}
 use Rattle.passes.specs.Ready.{Stretches}
 
 pub in-stretches : (l f k s : ℕ) (xs : List ℤ) → (of_levels l).levels ≡ l → f < k → s ≡ l ^ f → length xs ≡ l ^ k → AllWithin mild_limit xs

@@ -10,7 +10,7 @@ use Rattle.plan.specs.declared.types.Plan.{Plan}
 use Rattle.plan.specs.Check.{plan_refused}
 use Rattle.plan.specs.Plan.{run_sums_of}
 use Rattle.rows.specs.Kinds.{rows_in, kind_of}
-use Rattle.rows.specs.Laws.Rows.{rows_few}
+use Rattle.rows.proofs.Laws.Rows.{rows_few}
 use Rattle.fields.specs.Fields.{fields_of}
 use Rattle.contents.specs.Contents.{plan_in, readings_in, marks_in}
 use Rattle.sheet.specs.Sheet.{marks_refused}

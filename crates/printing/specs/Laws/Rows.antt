@@ -19,21 +19,21 @@ use Rattle.algebra.specs.Laws.Gathered.{one_shifted}
 use Rattle.algebra.specs.Laws.Tab.{get_or-tab}
 use Rattle.contrasts.specs.Limits.{most_three}
 use Rattle.contrasts.specs.Rows.{row_of, degrees_of}
-use Rattle.contrasts.specs.Factors.{two, three}
-use Rattle.contrasts.specs.Laws.Degrees.{degrees-power, some-digit}
-use Rattle.contrasts.specs.Laws.Rows.{row-none}
+use Rattle.contrasts.proofs.Factors.{two, three}
+use Rattle.contrasts.proofs.Laws.Degrees.{degrees-power, some-digit}
+use Rattle.contrasts.proofs.Laws.Rows.{row-none}
 use Rattle.words.specs.Words.{letters}
 use Rattle.words.specs.Laws.Letters.{letters-ones}
 use Rattle.plan.specs.declared.types.Plan.{Plan}
 use Rattle.plan.specs.Check.{used_row}
 use Rattle.plan.specs.Plan.{factors_of, three_word, word_row}
-use Rattle.plan.specs.Laws.Accepted.{accepted}
-use Rattle.plan.specs.Laws.Sizes.{plan-kind, factors-two, factors-three}
-use Rattle.plan.specs.Laws.Words.{no_number, used-row}
-use Rattle.contrasts.specs.Laws.Levels.{the-three}
+use Rattle.plan.proofs.Laws.Accepted.{accepted}
+use Rattle.plan.proofs.Laws.Sizes.{plan-kind, factors-two, factors-three}
+use Rattle.plan.proofs.Laws.Words.{no_number, used-row}
+use Rattle.contrasts.proofs.Laws.Levels.{the-three}
 use Rattle.rows.specs.Kinds.{rows_in, kind_of, code_of, kind_in, kinds_of}
-use Rattle.rows.specs.Laws.Kinds.{kind-in}
-use Rattle.rows.specs.Laws.Rows.{rows_few}
+use Rattle.rows.proofs.Laws.Kinds.{kind-in}
+use Rattle.rows.proofs.Laws.Rows.{rows_few}
 use Rattle.text.specs.Text.{Wrote}
 use Rattle.text.specs.Laws.Writing.{nothing, then, retext}
 use Rattle.lines.specs.Lines.{row_line}

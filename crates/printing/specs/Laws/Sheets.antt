@@ -11,13 +11,13 @@ use Rattle.std.proofs.Math.ListN.{drop}
 use Rattle.plan.specs.declared.types.Plan.{Plan}
 use Rattle.plan.specs.Outcome.{outcome}
 use Rattle.plan.specs.Plan.{all_readings}
-use Rattle.plan.specs.Laws.Answers.{written_new, given_is, refused-is}
-use Rattle.plan.specs.Laws.Sizes.{readings-few}
+use Rattle.plan.proofs.Laws.Answers.{written_new, given_is, refused-is}
+use Rattle.plan.proofs.Laws.Sizes.{readings-few}
 use Rattle.columns.specs.declared.types.Answer.{Answer}
 use Rattle.columns.specs.declared.types.Answer.TheVariants.{Done, Refused}
 use Rattle.columns.specs.Refusals.{answer_outcome}
 use Rattle.columns.specs.Laws.Admitted.{all-readings}
-use Rattle.rows.specs.Laws.Rows.{rows-as-long}
+use Rattle.rows.proofs.Laws.Rows.{rows-as-long}
 use Rattle.fields.specs.Fields.{fields_of}
 use Rattle.contents.specs.Contents.{plan_in, readings_in, marks_in}
 use Rattle.sheet.specs.Sheet.{read_refused, no_plan, read_plan, read_column, marks_refused, marks_of}

@@ -14,16 +14,17 @@ use Rattle.std.proofs.Math.Path.{sym, ap, ap₂}
 use Rattle.std.proofs.Common.{◌∙◌, arith, eq-eqb, ne_eqb, length-take-le}
 use Rattle.std.proofs.Math.ListN.{length}
 use Rattle.std.specs.Int.Signed.{mag}
-use Rattle.algebra.specs.Laws.Machine.{wrap, kept}
+use Rattle.algebra.specs.Laws.Machine.{wrap}
+use Rattle.algebra.proofs.Laws.Machine.{kept}
 use Rattle.algebra.specs.Laws.Tab.{length-tab}
 use Rattle.plan.specs.declared.types.Plan.{Plan}
 use Rattle.plan.specs.Outcome.{outcome}
 use Rattle.plan.specs.Check.{run_count, reading_count, plan_refused}
 use Rattle.plan.specs.Plan.{runs_of, all_readings, run_sums_of}
-use Rattle.plan.specs.Laws.Answers.{written_new, given_is, refused-is}
-use Rattle.plan.specs.Laws.Sizes.{run-count, reading-count, runs-few, readings-few}
+use Rattle.plan.proofs.Laws.Answers.{written_new, given_is, refused-is}
+use Rattle.plan.proofs.Laws.Sizes.{run-count, reading-count, runs-few, readings-few}
 use Rattle.rows.specs.Kinds.{rows_in, row_count}
-use Rattle.rows.specs.Laws.Rows.{row-count, rows_few}
+use Rattle.rows.proofs.Laws.Rows.{row-count, rows_few}
 use Rattle.text.specs.Text.{ascii, Wrote}
 use Rattle.text.specs.Laws.Writing.{then, retext}
 use Rattle.lines.specs.Lines.{named_line, source_line, check_line}

@@ -8,9 +8,9 @@
 --   Worked p ts xs ys        the same, with places for both
 use Rattle.std.specs.Prelude.{◌≡◌, List, ℕ, ◌*◌, ◌^◌, ◌<◌, ◌≤◌, ℤ, length}
 use Rattle.contrasts.specs.Columns.{AllWithin}
-use Rattle.contrasts.specs.Factors.{of_levels}
+use Rattle.contrasts.proofs.Factors.{of_levels}
 use Rattle.contrasts.specs.Limits.{value_limit}
-use Rattle.contrasts.specs.Laws.Small.{mild_limit}
+use Rattle.contrasts.proofs.Laws.Small.{mild_limit}
 use Rattle.plan.specs.declared.types.Plan.{Plan}
 use Rattle.plan.specs.Check.{plan_refused}
 use Rattle.plan.specs.Plan.{runs_of}

@@ -5,7 +5,7 @@ use Rattle.std.specs.Prelude.{◌≡◌, ℕ}
 use Rattle.std.proofs.Math.Path.{refl}
 use Rattle.plan.specs.declared.types.Plan.{Plan}
 use Rattle.plan.specs.Check.{with_plan}
-use Rattle.plan.specs.Laws.Alike.{Alike, same-refused as same-plan-refused, same-factors}
+use Rattle.plan.proofs.Laws.Alike.{Alike, same-refused as same-plan-refused, same-factors}
 use Rattle.runs.specs.Run.{run_refused, run_values}
 
 module _ {p q : Plan} (a : Alike p q) (r : ℕ) where

@@ -17,7 +17,7 @@ use Rattle.words.specs.Laws.Combined.{keeps-odd, shared-combined}
 use Rattle.words.specs.Laws.Parity.{none-odd}
 use Rattle.words.specs.Laws.Even.{combined-none, even-combined}
 use Rattle.plan.specs.Plan.{some_combination, combines_to}
-use Rattle.plan.specs.Laws.Combinations.{combination as chosen, the-combination}
+use Rattle.plan.proofs.Laws.Combinations.{combination as chosen, the-combination}
 use Rattle.runs.specs.Run.{block_number}
 
 module _ (ws : List ℕ) where

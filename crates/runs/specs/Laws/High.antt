@@ -18,8 +18,8 @@ use Rattle.plan.specs.declared.types.Plan.{Plan}
 use Rattle.plan.specs.Plan.{added_words, added_signs, block_words, runs_of}
 use Rattle.plan.specs.Check.{plan_refused}
 use Rattle.runs.specs.Run.{high_by, high_in, high_letters, block_number, run_values, run_refused}
-use Rattle.plan.specs.Laws.Sizes.{two-levels, runs-two}
-use Rattle.plan.specs.Laws.Answers.{after-plan}
+use Rattle.plan.proofs.Laws.Sizes.{two-levels, runs-two}
+use Rattle.plan.proofs.Laws.Answers.{after-plan}
 
 module _ (k : ℕ) (words signs : List ℕ) (r : ℕ) where
   pub base-high : r < 2 ^ k → r ≡ bits k (high_in k words signs r)

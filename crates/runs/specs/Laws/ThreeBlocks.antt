@@ -9,15 +9,15 @@ use Rattle.std.proofs.Common.{◌∙◌, ap, eq-eqb}
 use Rattle.algebra.specs.Naturals.{Σℕ}
 use Rattle.algebra.specs.Laws.Naturals.{Σℕ-cong}
 use Rattle.contrasts.specs.Blocks.{block_of}
-use Rattle.contrasts.specs.Factors.{three}
-use Rattle.contrasts.specs.Laws.Blocks.{block_none, block-lt, block-runs}
+use Rattle.contrasts.proofs.Factors.{three}
+use Rattle.contrasts.proofs.Laws.Blocks.{block_none, block-lt, block-runs}
 use Rattle.plan.specs.declared.types.Plan.{Plan}
 use Rattle.plan.specs.Plan.{three_word, word_row, runs_of}
 use Rattle.plan.specs.Check.{plan_refused}
-use Rattle.plan.specs.Laws.Accepted.{accepted}
-use Rattle.plan.specs.Laws.Answers.{after-plan}
-use Rattle.plan.specs.Laws.Sizes.{factors-three}
-use Rattle.plan.specs.Laws.Words.{three-levels, uses-letters}
+use Rattle.plan.proofs.Laws.Accepted.{accepted}
+use Rattle.plan.proofs.Laws.Answers.{after-plan}
+use Rattle.plan.proofs.Laws.Sizes.{factors-three}
+use Rattle.plan.proofs.Laws.Words.{three-levels, uses-letters}
 use Rattle.runs.specs.Run.{run_refused, run_values}
 
 module _ (p : Plan) where

@@ -8,7 +8,7 @@ use Rattle.plan.specs.declared.types.Plan.{Plan}
 use Rattle.plan.specs.Outcome.{outcome}
 use Rattle.plan.specs.Check.{run_count, reading_count, plan_refused}
 use Rattle.plan.specs.Plan.{runs_of, all_readings}
-use Rattle.plan.specs.Laws.Answers.{given_is, refused-is}
+use Rattle.plan.proofs.Laws.Answers.{given_is, refused-is}
 use Rattle.rows.specs.Kinds.{rows_in, row_count}
 use Rattle.anova.specs.declared.types.Figures.{Figures}
 use Rattle.anova.specs.declared.types.Table.{Table}

@@ -8,11 +8,11 @@ use Rattle.std.proofs.Common.{◌∙◌, arith, le-ltb}
 use Rattle.std.proofs.lemmas.List.{length-replicate}
 use Rattle.plan.specs.declared.types.Plan.{Plan}
 use Rattle.plan.specs.Outcome.{refusal, lowest}
-use Rattle.plan.specs.Laws.Answers.{passed}
+use Rattle.plan.proofs.Laws.Answers.{passed}
 use Rattle.plan.specs.Plan.{runs_of}
 use Rattle.columns.specs.Laws.Admitted.{all-readings}
 use Rattle.rows.specs.Kinds.{rows_in}
-use Rattle.rows.specs.Laws.Rows.{rows-as-long}
+use Rattle.rows.proofs.Laws.Rows.{rows-as-long}
 use Rattle.anova.specs.Table.{table_refused}
 use Rattle.anova.specs.Laws.Admitted.{table-admits}
 use Rattle.fields.specs.Fields.{fields_of}
@@ -21,7 +21,7 @@ use Rattle.sheet.specs.Sheet.{marks_refused}
 use Rattle.sheet.specs.Laws.Admitted.{marks-admitted}
 use Rattle.sheet.specs.Laws.Lengths.{longest}
 use Rattle.screening.specs.Screening.{meet, marked_main}
-use Rattle.screening.specs.Laws.Admitted.{by-table}
+use Rattle.screening.proofs.Laws.Admitted.{by-table}
 use Rattle.printing.specs.Printed.{longest_sheet, print_refused}
 use Rattle.screentab.specs.Screened.{screen_number}
 

@@ -10,7 +10,7 @@ use Rattle.std.proofs.Math.Decide.{ℕ_discrete}
 use Rattle.plan.specs.declared.types.Plan.{Plan}
 use Rattle.plan.specs.Outcome.{outcome}
 use Rattle.plan.specs.Plan.{all_readings}
-use Rattle.plan.specs.Laws.Answers.{given_is, refused-is}
+use Rattle.plan.proofs.Laws.Answers.{given_is, refused-is}
 use Rattle.columns.specs.declared.types.Answer.{Answer}
 use Rattle.columns.specs.declared.types.Answer.TheVariants.{Done, Refused}
 use Rattle.columns.specs.Refusals.{answer_outcome}

@@ -12,7 +12,7 @@ use Rattle.algebra.specs.Laws.Tests.{neither}
 use Rattle.plan.specs.declared.types.Plan.{Plan}
 use Rattle.plan.specs.Check.{plan_refused}
 use Rattle.plan.specs.Limits.{reading_limit}
-use Rattle.plan.specs.Laws.Answers.{passed, plan-first, plan-passed, after-plan}
+use Rattle.plan.proofs.Laws.Answers.{passed, plan-first, plan-passed, after-plan}
 use Rattle.plan.specs.Plan.{all_readings}
 use Rattle.columns.specs.Refusals.{wrong_readings, any_beyond}
 use Rattle.rows.specs.Kinds.{wrong_rows, bad_marks}

@@ -8,12 +8,12 @@ use Rattle.std.proofs.Math.Nat.{pow-le-pow_left}
 use Rattle.plan.specs.declared.types.Plan.{Plan}
 use Rattle.plan.specs.Check.{plan_refused}
 use Rattle.plan.specs.Plan.{runs_of, all_readings}
-use Rattle.plan.specs.Laws.Accepted.{accepted, sizes}
-use Rattle.plan.specs.Laws.Answers.{written_new}
-use Rattle.plan.specs.Laws.Sizes.{runs-power, readings-few, some-repeat}
+use Rattle.plan.proofs.Laws.Accepted.{accepted, sizes}
+use Rattle.plan.proofs.Laws.Answers.{written_new}
+use Rattle.plan.proofs.Laws.Sizes.{runs-power, readings-few, some-repeat}
 use Rattle.columns.specs.Laws.Admitted.{all-readings}
 use Rattle.rows.specs.Kinds.{rows_in}
-use Rattle.rows.specs.Laws.Rows.{rows-as-long, rows_few}
+use Rattle.rows.proofs.Laws.Rows.{rows-as-long, rows_few}
 use Rattle.fields.specs.Fields.{Fields, fields_of, bodies, body_at}
 use Rattle.fields.specs.Laws.Passed.{counted}
 use Rattle.fields.specs.Laws.Lengths.{span-of-sheet, four-whole}

@@ -13,10 +13,10 @@ use Rattle.algebra.specs.Laws.Search.{none-at}
 use Rattle.algebra.specs.Laws.Tests.{neither}
 use Rattle.plan.specs.declared.types.Plan.{Plan}
 use Rattle.plan.specs.Plan.{all_readings, confounded_in}
-use Rattle.plan.specs.Laws.Answers.{written_new}
-use Rattle.plan.specs.Laws.Sizes.{readings-few}
+use Rattle.plan.proofs.Laws.Answers.{written_new}
+use Rattle.plan.proofs.Laws.Sizes.{readings-few}
 use Rattle.rows.specs.Kinds.{rows_in, bad_mark, bad_marks}
-use Rattle.rows.specs.Laws.Rows.{rows-as-long}
+use Rattle.rows.proofs.Laws.Rows.{rows-as-long}
 use Rattle.fields.specs.Fields.{fields_of}
 use Rattle.contents.specs.Contents.{plan_in, marks_in}
 use Rattle.sheet.specs.Sheet.{read_refused, no_plan, read_plan, marks_refused, marks_of}

@@ -5,7 +5,7 @@ use Rattle.std.specs.Prelude.{◌≡◌, List, ℤ}
 use Rattle.std.proofs.Math.Path.{refl}
 use Rattle.contrasts.specs.Limits.{value_limit}
 use Rattle.plan.specs.declared.types.Plan.{Plan}
-use Rattle.plan.specs.Laws.Alike.{Alike, same-factors}
+use Rattle.plan.proofs.Laws.Alike.{Alike, same-factors}
 use Rattle.columns.specs.Laws.Alike.{same-columns}
 use Rattle.steps.specs.Step.{step_refused, step_column}
 

@@ -10,7 +10,7 @@ use Rattle.contrasts.specs.Limits.{value_limit}
 use Rattle.plan.specs.declared.types.Plan.{Plan}
 use Rattle.plan.specs.Check.{plan_refused}
 use Rattle.plan.specs.Plan.{runs_of}
-use Rattle.plan.specs.Laws.Answers.{passed, plan-passed, after-plan}
+use Rattle.plan.proofs.Laws.Answers.{passed, plan-passed, after-plan}
 use Rattle.columns.specs.Refusals.{wrong_length, any_beyond}
 use Rattle.columns.specs.Laws.Admitted.{all-within, none-beyond, as_long, not-wrong}
 use Rattle.yates.specs.Calls.{pass_refused}

@@ -6,7 +6,7 @@ use Rattle.std.specs.Prelude.{◌≡◌, List, ℕ, ℤ}
 use Rattle.std.proofs.Math.Path.{refl}
 use Rattle.plan.specs.declared.types.Plan.{Plan}
 use Rattle.plan.specs.Check.{with_plan}
-use Rattle.plan.specs.Laws.Alike.{Alike, same-refused as same-plan-refused, same-factors}
+use Rattle.plan.proofs.Laws.Alike.{Alike, same-refused as same-plan-refused, same-factors}
 use Rattle.columns.specs.Refusals.{wrong_length}
 use Rattle.columns.specs.Laws.Alike.{same-readings}
 use Rattle.yates.specs.Calls.{pass_refused, pass_column, totals_refused, totals_column}

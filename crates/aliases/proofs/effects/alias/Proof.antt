@@ -2,8 +2,8 @@ use mathlib.Core.Path.{◌≡◌, refl, sym, ◌∙◌}
 use borrow.Author.Rules.{rules}
 use Rattle.aliases.specs.Alias.{alias_refused}
 use Rattle.plan.specs.Check.{plan_refused}
-use Rattle.plan.specs.Laws.Accepted.{sizes}
-use Rattle.plan.specs.Laws.Answers.{refused-by-plan, after-plan}
+use Rattle.plan.proofs.Laws.Accepted.{sizes}
+use Rattle.plan.proofs.Laws.Answers.{refused-by-plan, after-plan}
 use Rattle.aliases.specs.Laws.Counted.{alias-two}
 use Rattle.aliases.proofs.effects.alias.Statement.{statement}
 use Rattle.aliases.proofs.effects.alias.Tie as tie

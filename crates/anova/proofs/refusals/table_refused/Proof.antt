@@ -1,6 +1,6 @@
 use mathlib.Core.Path.{refl, sym, ◌∙◌}
 use Rattle.algebra.specs.Laws.Tests.{is}
-use Rattle.plan.specs.Laws.Answers.{plan-first, after-plan}
+use Rattle.plan.proofs.Laws.Answers.{plan-first, after-plan}
 use Rattle.anova.specs.Table.{table_refused}
 use Rattle.anova.proofs.refusals.table_refused.Statement.{statement}
 use Rattle.anova.proofs.refusals.table_refused.Tie as tie

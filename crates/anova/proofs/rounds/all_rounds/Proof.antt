@@ -1,7 +1,7 @@
 use mathlib.Core.Path.{◌∙◌}
 use Prim.Native.Nat.{◌-◌}
 use native.Mathlib.Omega.{arith}
-use Rattle.algebra.specs.Laws.Machine.{kept}
+use Rattle.algebra.proofs.Laws.Machine.{kept}
 use Rattle.anova.proofs.Rounded.{Left, left-none, left-sets, left-some, left-more, left-all}
 use Rattle.anova.proofs.rounds.all_rounds.Statement.{statement}
 use Rattle.anova.proofs.rounds.all_rounds.Tie as tie

@@ -1,6 +1,6 @@
 use mathlib.Core.Path.{refl, ◌∙◌}
 use native.Mathlib.Omega.{arith}
-use Rattle.algebra.specs.Laws.Machine.{kept}
+use Rattle.algebra.proofs.Laws.Machine.{kept}
 use Rattle.anova.proofs.Checked.{count_fits, first_run, first_fits, first-is, runs-ready, rounds-ready, rounds-made, column-kept}
 use Rattle.anova.proofs.rounds.check_number.Statement.{statement}
 use Rattle.anova.proofs.rounds.check_number.Tie as tie

@@ -1,4 +1,4 @@
-use Rattle.contrasts.specs.Laws.Rounds.{triple-fits, drop-fits, round-fits, round_is}
+use Rattle.contrasts.proofs.Laws.Rounds.{triple-fits, drop-fits, round-fits, round_is}
 use Rattle.anova.proofs.rounds.turned.Statement.{statement}
 use Rattle.anova.proofs.rounds.turned.Tie as tie
 

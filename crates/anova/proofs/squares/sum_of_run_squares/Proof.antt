@@ -2,7 +2,7 @@ use mathlib.Core.Path.{refl, ◌∙◌}
 use Prim.Native.Nat.{◌-◌}
 use native.Mathlib.Omega.{arith}
 use lib.ListN.{length}
-use Rattle.algebra.specs.Laws.Machine.{kept}
+use Rattle.algebra.proofs.Laws.Machine.{kept}
 use Rattle.anova.proofs.Squared.{Summing, summing-none, summing-more, summing-all, squarable, summing-fits}
 use Rattle.anova.proofs.squares.sum_of_run_squares.Statement.{statement}
 use Rattle.anova.proofs.squares.sum_of_run_squares.Tie as tie

@@ -3,7 +3,7 @@ use Rattle.contrasts.specs.Columns.{read}
 use Prim.Native.Nat.{◌-◌}
 use native.Mathlib.Omega.{arith}
 use lib.ListN.{length}
-use Rattle.algebra.specs.Laws.Machine.{widened, widened-fits}
+use Rattle.algebra.proofs.Laws.Machine.{widened, widened-fits}
 use Rattle.anova.proofs.Squared.{Summing, summing-none, summing-more, summing-all, squarable, summing-fits}
 use Rattle.anova.proofs.squares.sum_of_squares.Statement.{statement}
 use Rattle.anova.proofs.squares.sum_of_squares.Tie as tie

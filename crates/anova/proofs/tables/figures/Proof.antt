@@ -2,7 +2,7 @@ use mathlib.Core.Path.{refl, ◌∙◌}
 use Prim.Native.Nat.{◌*◌}
 use native.Mathlib.Omega.{arith}
 use lib.Dec.{lit<}
-use Rattle.algebra.specs.Laws.Machine.{kept}
+use Rattle.algebra.proofs.Laws.Machine.{kept}
 use Rattle.anova.specs.Inner.Figures.{figures_from}
 use Rattle.anova.proofs.tables.figures.Statement.{statement}
 use Rattle.anova.proofs.tables.figures.Tie as tie

@@ -1,6 +1,6 @@
 use mathlib.Core.Path.{sym, ◌∙◌}
 use borrow.Author.Rules.{rules}
-use Rattle.plan.specs.Laws.Answers.{stopped}
+use Rattle.plan.proofs.Laws.Answers.{stopped}
 use Rattle.blockings.specs.Blockings.{blockings_column}
 use Rattle.blockings.proofs.Judging.{admitted, answered}
 use Rattle.blockings.proofs.calls.blockings.Statement.{statement}

@@ -2,7 +2,7 @@ use mathlib.Core.Path.{◌≡◌, refl, ◌∙◌, ap}
 use Prim.Native.Nat.{◌+◌, ◌%◌}
 use native.Mathlib.Omega.{arith}
 use borrow.Author.Rules.{rules}
-use Rattle.algebra.specs.Laws.Machine.{kept}
+use Rattle.algebra.proofs.Laws.Machine.{kept}
 use Rattle.blocks.specs.Ready.{added}
 use Rattle.blocks.proofs.Added.{first-ready, second-ready, third-ready}
 use Rattle.blocks.proofs.amounts.add_set.Statement.{statement}

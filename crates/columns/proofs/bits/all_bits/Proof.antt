@@ -2,7 +2,7 @@ use Prim.Native.Nat.{◌-◌}
 use native.Mathlib.Omega.{arith}
 use lib.ListN.{length}
 use Rattle.columns.proofs.Sizes.{Gathered, gathered, gather, all-gathered}
-use Rattle.algebra.specs.Laws.Machine.{kept}
+use Rattle.algebra.proofs.Laws.Machine.{kept}
 use Rattle.columns.proofs.bits.all_bits.Statement.{statement}
 use Rattle.columns.proofs.bits.all_bits.Tie as tie
 

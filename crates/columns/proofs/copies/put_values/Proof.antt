@@ -2,7 +2,7 @@ use Prim.Native.Nat.{◌-◌}
 use native.Mathlib.Omega.{arith}
 use lib.IntN.{pos}
 use lib.ListN.{length}
-use Rattle.algebra.specs.Laws.Machine.{kept}
+use Rattle.algebra.proofs.Laws.Machine.{kept}
 use Rattle.algebra.specs.Laws.Copied.{Copying, copying-none, copying-long, copying-more, copying-all}
 use Rattle.columns.proofs.copies.put_values.Statement.{statement}
 use Rattle.columns.proofs.copies.put_values.Tie as tie

@@ -1,7 +1,7 @@
 use mathlib.Core.Path.{◌≡◌, refl, sym, ◌∙◌}
 use borrow.Author.Tests.{eq-eqb, ne_eqb}
 use Rattle.plan.specs.Check.{plan_refused}
-use Rattle.plan.specs.Laws.Answers.{plan-first, after-plan}
+use Rattle.plan.proofs.Laws.Answers.{plan-first, after-plan}
 use Rattle.columns.specs.Refusals.{lengths_refused}
 use Rattle.columns.specs.Laws.Lengths.{wrong, right}
 use Rattle.columns.proofs.refusals.lengths_refused.Statement.{statement}

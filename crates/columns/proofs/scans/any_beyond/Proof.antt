@@ -1,7 +1,7 @@
 use Prim.Native.Nat.{◌-◌}
 use native.Mathlib.Omega.{arith}
 use lib.ListN.{length}
-use Rattle.algebra.specs.Laws.Machine.{held-half}
+use Rattle.algebra.proofs.Laws.Machine.{held-half}
 use Rattle.columns.proofs.Searched.{Looked, looked, looked-on, looked-all}
 use Rattle.columns.proofs.scans.any_beyond.Statement.{statement}
 use Rattle.columns.proofs.scans.any_beyond.Tie as tie

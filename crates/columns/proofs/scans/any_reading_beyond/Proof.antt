@@ -1,4 +1,4 @@
-use Rattle.plan.specs.Laws.Limits.{reading-fits}
+use Rattle.plan.proofs.Laws.Limits.{reading-fits}
 use Rattle.columns.proofs.scans.any_reading_beyond.Statement.{statement}
 use Rattle.columns.proofs.scans.any_reading_beyond.Tie as tie
 

@@ -1,7 +1,7 @@
 use Prim.Native.Nat.{◌-◌}
 use native.Mathlib.Omega.{arith}
 use lib.ListN.{length}
-use Rattle.algebra.specs.Laws.Machine.{kept}
+use Rattle.algebra.proofs.Laws.Machine.{kept}
 use Rattle.contrasts.specs.Limits.{value_limit}
 use Rattle.columns.proofs.Searched.{Sought, sought, onward, found, nowhere}
 use Rattle.columns.proofs.scans.search_values.Statement.{statement}

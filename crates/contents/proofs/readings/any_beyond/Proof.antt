@@ -4,7 +4,7 @@ use Prim.Native.Nat.{ℕ, ◌-◌, ◌/◌}
 use native.Mathlib.Omega.{arith}
 use lib.ListN.{length}
 use Rattle.algebra.specs.Search.{some}
-use Rattle.algebra.specs.Laws.Machine.{widened, widened-fits}
+use Rattle.algebra.proofs.Laws.Machine.{widened, widened-fits}
 use Rattle.algebra.specs.Laws.Searching.{Seen, seen_none, seen_more, seen_all}
 use Rattle.contrasts.specs.Columns.{read}
 use Rattle.plan.specs.Limits.{is_beyond}

@@ -1,6 +1,6 @@
 use mathlib.Core.Path.{refl}
 use Rattle.algebra.specs.Tab.{tab_from}
-use Rattle.contrasts.specs.Factors.{three}
+use Rattle.contrasts.proofs.Factors.{three}
 use Rattle.contrasts.specs.Totals.{divisor*}
 use Rattle.effects.specs.Inner.Divisors.{six_factors}
 use Rattle.effects.proofs.constants.six_factors.Statement.{statement}

@@ -2,7 +2,7 @@ use mathlib.Core.Path.{ap}
 use Prim.Native.Nat.{◌*◌, ◌-◌, ◌≤◌}
 use native.Mathlib.Omega.{arith}
 use lib.ListN.{replicate}
-use Rattle.contrasts.specs.Factors.{three}
+use Rattle.contrasts.proofs.Factors.{three}
 use Rattle.contrasts.specs.Totals.{divisor*}
 use Rattle.effects.proofs.Counted.{few-three}
 use Rattle.effects.proofs.Filling.{Singly, singly-none, singly-more, singly-all}

@@ -2,7 +2,7 @@ use mathlib.Core.Path.{ap}
 use Prim.Native.Nat.{◌+◌}
 use native.Mathlib.Omega.{arith}
 use borrow.Author.Rules.{rules}
-use Rattle.estimates.specs.Laws.Given.{exactly-given}
+use Rattle.estimates.proofs.Laws.Given.{exactly-given}
 use Rattle.estimates.proofs.Answers.{stopped, ready, answered}
 use Rattle.estimates.proofs.effects.estimate.Statement.{statement}
 use Rattle.estimates.proofs.effects.estimate.Tie as tie

@@ -3,10 +3,10 @@ use borrow.Author.Rules.{rules}
 use mir.Facts.{to_z-of_z}
 use Rattle.algebra.specs.Laws.Tests.{is}
 use Rattle.plan.specs.Check.{plan_refused}
-use Rattle.plan.specs.Laws.Answers.{plan-first, after-plan}
-use Rattle.plan.specs.Laws.Sizes.{two-levels}
+use Rattle.plan.proofs.Laws.Answers.{plan-first, after-plan}
+use Rattle.plan.proofs.Laws.Sizes.{two-levels}
 use Rattle.estimates.specs.Estimate.{estimate_refused}
-use Rattle.estimates.specs.Laws.Given.{estimate-two}
+use Rattle.estimates.proofs.Laws.Given.{estimate-two}
 use Rattle.estimates.proofs.effects.estimate_refused.Statement.{statement}
 use Rattle.estimates.proofs.effects.estimate_refused.Tie as tie
 

@@ -1,7 +1,7 @@
 use native.Mathlib.Omega.{arith}
 use borrow.Author.Rules.{rules}
-use Rattle.plan.specs.Laws.Accepted.{sizes}
-use Rattle.plan.specs.Laws.Sizes.{some-repeat}
+use Rattle.plan.proofs.Laws.Accepted.{sizes}
+use Rattle.plan.proofs.Laws.Sizes.{some-repeat}
 use Rattle.estimates.proofs.Limit.{run_fits, shifted}
 use Rattle.estimates.proofs.effects.total_limit.Statement.{statement}
 use Rattle.estimates.proofs.effects.total_limit.Tie as tie

@@ -1,6 +1,6 @@
 use mathlib.Core.Path.{◌∙◌}
 use borrow.Author.Rules.{rules}
-use Rattle.algebra.specs.Laws.Machine.{kept}
+use Rattle.algebra.proofs.Laws.Machine.{kept}
 use Rattle.columns.specs.Laws.Copies.{copied-over}
 use Rattle.figures.proofs.tabulated.put_checks.Statement.{statement}
 use Rattle.figures.proofs.tabulated.put_checks.Tie as tie

@@ -2,7 +2,7 @@ use mathlib.Core.Path.{refl}
 use Prim.Native.Nat.{◌+◌, ◌*◌, ◌^◌, ◌<◌}
 use native.Mathlib.Omega.{arith}
 use lib.ListN.{length, length-set}
-use Rattle.contrasts.specs.Laws.Small.{mild-held}
+use Rattle.contrasts.proofs.Laws.Small.{mild-held}
 use Rattle.fours.proofs.Rowed.{put-made}
 use Rattle.fours.proofs.rows.put_rows.Statement.{statement}
 use Rattle.fours.proofs.rows.put_rows.Tie as tie

@@ -1,4 +1,4 @@
-use Rattle.contrasts.specs.Laws.Sets.{sum_fits, less-fits, sum_is, less-is}
+use Rattle.contrasts.proofs.Laws.Sets.{sum_fits, less-fits, sum_is, less-is}
 use Rattle.fours.proofs.Rowed.{same_rows}
 use Rattle.fours.proofs.rows.rows_of.Statement.{statement}
 use Rattle.fours.proofs.rows.rows_of.Tie as tie

@@ -5,11 +5,11 @@ use lib.Dec.{lit<}
 use lib.IntN.{pos}
 use lib.ListN.{length}
 use Rattle.algebra.specs.Laws.Machine.{wrap}
-use Rattle.algebra.specs.Laws.Spread.{as_long}
+use Rattle.algebra.proofs.Laws.Spread.{as_long}
 use Rattle.contrasts.specs.Columns.{read}
-use Rattle.contrasts.specs.Factors.{two}
-use Rattle.contrasts.specs.Laws.Both.{both-begun, both-ended}
-use Rattle.contrasts.specs.Laws.Small.{Mild, mild-small, mild-held}
+use Rattle.contrasts.proofs.Factors.{two}
+use Rattle.contrasts.proofs.Laws.Both.{both-begun, both-ended}
+use Rattle.contrasts.proofs.Laws.Small.{Mild, mild-small, mild-held}
 use Rattle.fours.proofs.Worked.{Worked, value-small, four-ready, fours-more}
 use Rattle.fours.proofs.stretches.work_fours.Statement.{statement}
 use Rattle.fours.proofs.stretches.work_fours.Tie as tie

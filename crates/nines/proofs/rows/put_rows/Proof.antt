@@ -2,7 +2,7 @@ use mathlib.Core.Path.{refl}
 use Prim.Native.Nat.{◌+◌, ◌*◌, ◌^◌, ◌<◌}
 use native.Mathlib.Omega.{arith}
 use lib.ListN.{length, length-set}
-use Rattle.contrasts.specs.Laws.Small.{mild-held}
+use Rattle.contrasts.proofs.Laws.Small.{mild-held}
 use Rattle.nines.proofs.Rowed.{put-made}
 use Rattle.nines.proofs.rows.put_rows.Statement.{statement}
 use Rattle.nines.proofs.rows.put_rows.Tie as tie

@@ -1,9 +1,9 @@
 use mathlib.Core.Path.{refl, ◌∙◌}
 use Prim.Native.Nat.{◌+◌}
 use borrow.Author.Rules.{rules}
-use Rattle.algebra.specs.Laws.Machine.{widened, widened-fits}
+use Rattle.algebra.proofs.Laws.Machine.{widened, widened-fits}
 use Rattle.contrasts.specs.Columns.{read}
-use Rattle.contrasts.specs.Laws.Small.{reading-mild}
+use Rattle.contrasts.proofs.Laws.Small.{reading-mild}
 use Rattle.nines.proofs.rows.rows_from.Statement.{statement}
 use Rattle.nines.proofs.rows.rows_from.Tie as tie
 

@@ -1,5 +1,5 @@
 use lib.Dec.{lit≤}
-use Rattle.contrasts.specs.Laws.Sets.{sum_fits, less-fits, all-fits, scaled_fits, without-fits, third-fits, less-is, all-is, third-is}
+use Rattle.contrasts.proofs.Laws.Sets.{sum_fits, less-fits, all-fits, scaled_fits, without-fits, third-fits, less-is, all-is, third-is}
 use Rattle.nines.proofs.Rowed.{same_rows}
 use Rattle.nines.proofs.rows.rows_of.Statement.{statement}
 use Rattle.nines.proofs.rows.rows_of.Tie as tie

@@ -1,9 +1,10 @@
 use Prim.Native.Nat.{◌-◌}
 use native.Mathlib.Omega.{arith}
 use lib.ListN.{length}
-use Rattle.algebra.specs.Laws.Parts.{Making, making-all, as_long, room, room-now, shorter}
-use Rattle.contrasts.specs.Factors.{three}
-use Rattle.contrasts.specs.Laws.Both.{both_over, both-none, next-stretch, one-stretch}
+use Rattle.algebra.specs.Laws.Parts.{Making}
+use Rattle.algebra.proofs.Laws.Parts.{making-all, as_long, room, room-now, shorter}
+use Rattle.contrasts.proofs.Factors.{three}
+use Rattle.contrasts.proofs.Laws.Both.{both_over, both-none, next-stretch, one-stretch}
 use Rattle.nines.proofs.Worked.{nine-places}
 use Rattle.nines.proofs.stretches.shortest_over.Statement.{statement}
 use Rattle.nines.proofs.stretches.shortest_over.Tie as tie

@@ -5,11 +5,11 @@ use lib.Dec.{lit<}
 use lib.IntN.{pos}
 use lib.ListN.{length}
 use Rattle.algebra.specs.Laws.Machine.{wrap}
-use Rattle.algebra.specs.Laws.Spread.{as_long}
+use Rattle.algebra.proofs.Laws.Spread.{as_long}
 use Rattle.contrasts.specs.Columns.{read}
-use Rattle.contrasts.specs.Factors.{three}
-use Rattle.contrasts.specs.Laws.Both.{both-begun, both-ended}
-use Rattle.contrasts.specs.Laws.Small.{Mild, mild-small, mild-held}
+use Rattle.contrasts.proofs.Factors.{three}
+use Rattle.contrasts.proofs.Laws.Both.{both-begun, both-ended}
+use Rattle.contrasts.proofs.Laws.Small.{Mild, mild-small, mild-held}
 use Rattle.nines.proofs.Worked.{Worked, value-small, nine-ready, nines-more}
 use Rattle.nines.proofs.stretches.work_nines.Statement.{statement}
 use Rattle.nines.proofs.stretches.work_nines.Tie as tie

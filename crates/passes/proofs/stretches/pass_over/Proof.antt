@@ -1,7 +1,7 @@
 use Prim.Native.Nat.{◌-◌}
 use native.Mathlib.Omega.{arith}
 use lib.ListN.{length}
-use Rattle.algebra.specs.Laws.Parts.{making-all, as_long, room, room-now, shorter}
+use Rattle.algebra.proofs.Laws.Parts.{making-all, as_long, room, room-now, shorter}
 use Rattle.passes.proofs.Passed.{Passing, passing-none, width_fits, some-width, next-stretch, passing-more}
 use Rattle.passes.proofs.stretches.pass_over.Statement.{statement}
 use Rattle.passes.proofs.stretches.pass_over.Tie as tie

@@ -1,5 +1,5 @@
 use mathlib.Core.Path.{refl, ◌∙◌}
-use Rattle.contrasts.specs.Laws.Levels.{the-three, as-two, as-three}
+use Rattle.contrasts.proofs.Laws.Levels.{the-three, as-two, as-three}
 use borrow.Author.Rules.{rules}
 use Rattle.passes.proofs.stretches.stretch.Statement.{statement}
 use Rattle.passes.proofs.stretches.stretch.Tie as tie

@@ -2,11 +2,11 @@ use mathlib.Core.Path.{sym, ◌∙◌}
 use Prim.Native.Nat.{◌+◌, ◌-◌}
 use native.Mathlib.Omega.{arith}
 use lib.ListN.{length-set}
-use Rattle.algebra.specs.Laws.Spread.{as_long}
+use Rattle.algebra.proofs.Laws.Spread.{as_long}
 use lib.IntN.{pos}
 use Rattle.contrasts.specs.Columns.{read}
-use Rattle.contrasts.specs.Laws.Small.{Mild}
-use Rattle.contrasts.specs.Laws.Sets.{sum_fits, less-fits}
+use Rattle.contrasts.proofs.Laws.Small.{Mild}
+use Rattle.contrasts.proofs.Laws.Sets.{sum_fits, less-fits}
 use Rattle.passes.proofs.Worked.{Stretched, stretch-begun, stretch-ended, pair, stretch-two}
 use Rattle.passes.proofs.stretches.work_pairs.Statement.{statement}
 use Rattle.passes.proofs.stretches.work_pairs.Tie as tie

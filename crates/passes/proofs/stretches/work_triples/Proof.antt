@@ -3,11 +3,11 @@ use mathlib.Core.Path.{sym, ◌∙◌}
 use Prim.Native.Nat.{◌+◌, ◌-◌, ◌*◌}
 use native.Mathlib.Omega.{arith}
 use lib.ListN.{length-set}
-use Rattle.algebra.specs.Laws.Spread.{as_long}
+use Rattle.algebra.proofs.Laws.Spread.{as_long}
 use lib.IntN.{pos}
 use Rattle.contrasts.specs.Columns.{read}
-use Rattle.contrasts.specs.Laws.Small.{Mild}
-use Rattle.contrasts.specs.Laws.Sets.{sum_fits, less-fits, all-fits, scaled_fits, without-fits, third-fits}
+use Rattle.contrasts.proofs.Laws.Small.{Mild}
+use Rattle.contrasts.proofs.Laws.Sets.{sum_fits, less-fits, all-fits, scaled_fits, without-fits, third-fits}
 use Rattle.passes.proofs.Worked.{Stretched, stretch-begun, stretch-ended, triple, stretch-three}
 use Rattle.passes.proofs.stretches.work_triples.Statement.{statement}
 use Rattle.passes.proofs.stretches.work_triples.Tie as tie

@@ -1,7 +1,7 @@
 use mathlib.Core.Path.{refl, ◌∙◌}
 use borrow.Author.Rules.{rules}
 use Rattle.columns.specs.Laws.Copies.{copied-over}
-use Rattle.contrasts.specs.Laws.Levels.{the-three, as-two, as-three}
+use Rattle.contrasts.proofs.Laws.Levels.{the-three, as-two, as-three}
 use Rattle.passes.proofs.totals.once.Statement.{statement}
 use Rattle.passes.proofs.totals.once.Tie as tie
 

@@ -1,6 +1,6 @@
 use mathlib.Core.Path.{refl}
 use borrow.Author.Rules.{rules}
-use Rattle.plan.specs.Laws.Words.{the-first}
+use Rattle.plan.proofs.Laws.Words.{the-first}
 use Rattle.plan.proofs.blocks.first_word.Statement.{statement}
 use Rattle.plan.proofs.blocks.first_word.Tie as tie
 

@@ -2,11 +2,11 @@ use mathlib.Core.Path.{refl, ◌∙◌, ap}
 use lib.ListN.{replicate}
 use borrow.Author.Rules.{rules}
 use borrow.Author.Tests.{lt-ltb, le-ltb}
-use Rattle.contrasts.specs.Factors.{three}
+use Rattle.contrasts.proofs.Factors.{three}
 use Rattle.contrasts.specs.Limits.{most_three}
 use Rattle.contrasts.specs.Rows.{row_of}
 use Rattle.plan.specs.Check.{used_row}
-use Rattle.plan.specs.Laws.Words.{row-of-digits}
+use Rattle.plan.proofs.Laws.Words.{row-of-digits}
 use Rattle.plan.proofs.blocks.word_row.Statement.{statement}
 use Rattle.plan.proofs.blocks.word_row.Tie as tie
 

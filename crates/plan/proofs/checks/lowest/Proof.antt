@@ -3,8 +3,8 @@ use borrow.Author.Rules.{rules}
 use Rattle.algebra.specs.Laws.Tests.{is}
 use Rattle.plan.specs.Plan.{runs_of}
 use Rattle.plan.specs.Check.{bad_repeats}
-use Rattle.plan.specs.Laws.Accepted.{before-repeats, AfterWords, after-words}
-use Rattle.plan.specs.Laws.Sizes.{runs-within, count-is}
+use Rattle.plan.proofs.Laws.Accepted.{before-repeats, AfterWords, after-words}
+use Rattle.plan.proofs.Laws.Sizes.{runs-within, count-is}
 use Rattle.plan.proofs.checks.lowest.Statement.{statement}
 use Rattle.plan.proofs.checks.lowest.Tie as tie
 

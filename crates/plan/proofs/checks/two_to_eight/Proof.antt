@@ -2,8 +2,8 @@ use mathlib.Core.Path.{◌≡◌, refl}
 use mathlib.Core.Bool.{false}
 use borrow.Author.Rules.{rules}
 use Rattle.plan.specs.Check.{bad_levels, bad_factors, bad_counts}
-use Rattle.plan.specs.Laws.Accepted.{factors-known, counts-known, at-most-ten}
-use Rattle.plan.specs.Laws.Words.{counts-few}
+use Rattle.plan.proofs.Laws.Accepted.{factors-known, counts-known, at-most-ten}
+use Rattle.plan.proofs.Laws.Words.{counts-few}
 use Rattle.algebra.specs.Laws.Tests.{is}
 use Rattle.plan.proofs.checks.two_to_eight.Statement.{statement}
 use Rattle.plan.proofs.checks.two_to_eight.Tie as tie

@@ -4,7 +4,7 @@ use native.Mathlib.Omega.{arith}
 use lib.Dec.{eqb}
 use borrow.Author.Tests.{eq-eqb, ne_eqb}
 use Rattle.plan.specs.Plan.{combines_to}
-use Rattle.plan.specs.Laws.Combinations.{Trying, trying, try-more, tried, tried-all}
+use Rattle.plan.proofs.Laws.Combinations.{Trying, trying, try-more, tried, tried-all}
 use Rattle.plan.proofs.conditions.combines_to.Statement.{statement}
 use Rattle.plan.proofs.conditions.combines_to.Tie as tie
 

@@ -2,7 +2,7 @@ use Prim.Native.Nat.{◌-◌}
 use native.Mathlib.Omega.{arith}
 use Rattle.algebra.specs.Laws.Tests.{is}
 use Rattle.plan.specs.Check.{factor_word, loses_factor}
-use Rattle.plan.specs.Laws.Combinations.{Trying, trying, try-more, tried, tried-all}
+use Rattle.plan.proofs.Laws.Combinations.{Trying, trying, try-more, tried, tried-all}
 use Rattle.plan.proofs.conditions.loses_factor.Statement.{statement}
 use Rattle.plan.proofs.conditions.loses_factor.Tie as tie
 

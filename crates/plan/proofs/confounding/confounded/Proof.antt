@@ -2,8 +2,8 @@ use mathlib.Core.Path.{refl, sym, ◌∙◌}
 use borrow.Author.Tests.{ne_eqb}
 use borrow.Author.Rules.{rules}
 use Rattle.plan.specs.Check.{confounded_accepted}
-use Rattle.plan.specs.Laws.Accepted.{sizes}
-use Rattle.plan.specs.Laws.Words.{counts-few}
+use Rattle.plan.proofs.Laws.Accepted.{sizes}
+use Rattle.plan.proofs.Laws.Words.{counts-few}
 use Rattle.plan.proofs.confounding.confounded.Statement.{statement}
 use Rattle.plan.proofs.confounding.confounded.Tie as tie
 

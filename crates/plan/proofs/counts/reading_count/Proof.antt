@@ -1,7 +1,7 @@
 use mathlib.Core.Path.{refl, ◌∙◌}
 use borrow.Author.Rules.{rules}
 use Rattle.plan.specs.Check.{reading_count}
-use Rattle.plan.specs.Laws.Sizes.{runs-within}
+use Rattle.plan.proofs.Laws.Sizes.{runs-within}
 use Rattle.plan.proofs.counts.reading_count.Statement.{statement}
 use Rattle.plan.proofs.counts.reading_count.Tie as tie
 

@@ -2,8 +2,8 @@ use mathlib.Core.Path.{◌≡◌, refl, sym, ◌∙◌}
 use mathlib.Core.Bool.{false}
 use borrow.Author.Rules.{rules}
 use Rattle.plan.specs.Check.{bad_levels, bad_factors, run_count}
-use Rattle.plan.specs.Laws.Accepted.{levels-known, levels-small, factors-known, at-most-ten}
-use Rattle.plan.specs.Laws.Sizes.{runs-power}
+use Rattle.plan.proofs.Laws.Accepted.{levels-known, levels-small, factors-known, at-most-ten}
+use Rattle.plan.proofs.Laws.Sizes.{runs-power}
 use Rattle.algebra.specs.Laws.Tests.{is}
 use Rattle.plan.proofs.counts.runs.Statement.{statement}
 use Rattle.plan.proofs.counts.runs.Tie as tie

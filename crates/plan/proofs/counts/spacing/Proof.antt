@@ -4,8 +4,8 @@ use native.Mathlib.Omega.{arith}
 use borrow.Author.Rules.{rules}
 use borrow.Author.Tests.{le-leb, lt-leb}
 use Rattle.plan.specs.Check.{bad_levels, bad_factors, spacing_at}
-use Rattle.plan.specs.Laws.Accepted.{levels-known, levels-small, factors-known, at-most-ten}
-use Rattle.plan.specs.Laws.Sizes.{spacing-power}
+use Rattle.plan.proofs.Laws.Accepted.{levels-known, levels-small, factors-known, at-most-ten}
+use Rattle.plan.proofs.Laws.Sizes.{spacing-power}
 use Rattle.algebra.specs.Laws.Tests.{is}
 use Rattle.plan.proofs.counts.spacing.Statement.{statement}
 use Rattle.plan.proofs.counts.spacing.Tie as tie

@@ -2,7 +2,7 @@ use mathlib.Core.Path.{◌≡◌, sym, ap, ◌∙◌}
 use Prim.Native.Nat.{◌-◌, ◌^◌, ◌≤◌}
 use native.Mathlib.Nat.{pow-zero}
 use native.Mathlib.Omega.{arith}
-use Rattle.plan.specs.Laws.Sizes.{power-room, power-more}
+use Rattle.plan.proofs.Laws.Sizes.{power-room, power-more}
 use Rattle.plan.proofs.counts.to_the_power.Statement.{statement}
 use Rattle.plan.proofs.counts.to_the_power.Tie as tie
 

@@ -1,6 +1,6 @@
 use native.Mathlib.Omega.{arith}
 use borrow.Author.Rules.{rules}
-use Rattle.plan.specs.Laws.Digits.{too_large, too_few, by-lowest}
+use Rattle.plan.proofs.Laws.Digits.{too_large, too_few, by-lowest}
 use Rattle.plan.proofs.digits.bad_digits.Statement.{statement}
 use Rattle.plan.proofs.digits.bad_digits.Tie as tie
 

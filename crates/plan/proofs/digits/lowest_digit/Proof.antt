@@ -1,6 +1,6 @@
 use Prim.Native.Nat.{◌-◌}
 use native.Mathlib.Omega.{arith}
-use Rattle.plan.specs.Laws.Digits.{Unused, unused, zero-digit, lowest-found, none-used}
+use Rattle.plan.proofs.Laws.Digits.{Unused, unused, zero-digit, lowest-found, none-used}
 use Rattle.plan.proofs.digits.lowest_digit.Statement.{statement}
 use Rattle.plan.proofs.digits.lowest_digit.Tie as tie
 

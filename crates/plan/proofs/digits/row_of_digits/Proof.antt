@@ -1,6 +1,6 @@
 use Prim.Native.Nat.{◌*◌, ◌-◌, ◌≤◌}
 use native.Mathlib.Omega.{arith}
-use Rattle.plan.specs.Laws.Digits.{Collecting, collecting, letter-few, letter-put, one-collected, collected}
+use Rattle.plan.proofs.Laws.Digits.{Collecting, collecting, letter-few, letter-put, one-collected, collected}
 use Rattle.plan.proofs.digits.row_of_digits.Statement.{statement}
 use Rattle.plan.proofs.digits.row_of_digits.Tie as tie
 

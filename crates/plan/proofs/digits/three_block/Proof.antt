@@ -1,6 +1,6 @@
 use Prim.Native.Nat.{◌-◌}
 use native.Mathlib.Omega.{arith}
-use Rattle.plan.specs.Laws.Digits.{Adding, adding, product-few, one-added, added-up}
+use Rattle.plan.proofs.Laws.Digits.{Adding, adding, product-few, one-added, added-up}
 use Rattle.plan.proofs.digits.three_block.Statement.{statement}
 use Rattle.plan.proofs.digits.three_block.Tie as tie
 

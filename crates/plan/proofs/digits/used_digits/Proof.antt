@@ -1,6 +1,6 @@
 use Prim.Native.Nat.{◌-◌}
 use native.Mathlib.Omega.{arith}
-use Rattle.plan.specs.Laws.Digits.{Counting, counting, one-counted, counted}
+use Rattle.plan.proofs.Laws.Digits.{Counting, counting, one-counted, counted}
 use Rattle.plan.proofs.digits.used_digits.Statement.{statement}
 use Rattle.plan.proofs.digits.used_digits.Tie as tie
 

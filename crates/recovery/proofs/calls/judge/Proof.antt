@@ -1,6 +1,6 @@
 use mathlib.Core.Path.{◌∙◌, ap, sym}
 use borrow.Author.Rules.{rules}
-use Rattle.contrasts.specs.Laws.Undo.{sums_from}
+use Rattle.contrasts.proofs.Laws.Undo.{sums_from}
 use Rattle.columns.specs.Laws.Copies.{copied-over}
 use Rattle.plan.specs.Plan.{factors_of}
 use Rattle.recovery.proofs.Found.{summable, divisible, missing, found}

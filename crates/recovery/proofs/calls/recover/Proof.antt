@@ -3,12 +3,12 @@ use mathlib.Core.Bool.{◌||◌}
 use lib.ListN.{length}
 use borrow.Author.Rules.{rules}
 use Rattle.algebra.specs.Laws.Tests.{is}
-use Rattle.plan.specs.Laws.Answers.{stopped}
+use Rattle.plan.proofs.Laws.Answers.{stopped}
 use Rattle.columns.specs.Refusals.{wrong_length, lengths_refused}
 use Rattle.columns.specs.Laws.Admitted.{all-within}
 use Rattle.columns.specs.Laws.Lengths.{by_runs, by_lengths}
 use Rattle.recovery.specs.Calls.{recover_refused, recover_column}
-use Rattle.recovery.specs.Laws.Judged.{Lengths, judged-lengths, beyond}
+use Rattle.recovery.proofs.Laws.Judged.{Lengths, judged-lengths, beyond}
 use Rattle.recovery.proofs.Found.{refused-14}
 use Rattle.recovery.proofs.calls.recover.Statement.{statement}
 use Rattle.recovery.proofs.calls.recover.Tie as tie

@@ -1,6 +1,6 @@
 use mathlib.Core.Path.{refl}
-use Rattle.contrasts.specs.Factors.{two, three}
-use Rattle.contrasts.specs.Laws.Levels.{as-two, as-three}
+use Rattle.contrasts.proofs.Factors.{two, three}
+use Rattle.contrasts.proofs.Laws.Levels.{as-two, as-three}
 use Rattle.recovery.proofs.sums.common.Statement.{statement}
 use Rattle.recovery.proofs.sums.common.Tie as tie
 

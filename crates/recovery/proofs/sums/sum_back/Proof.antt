@@ -1,5 +1,5 @@
 use native.Mathlib.Omega.{arith}
-use Rattle.contrasts.specs.Laws.Levels.{some-levels}
+use Rattle.contrasts.proofs.Laws.Levels.{some-levels}
 use Rattle.recovery.proofs.Summed.{AllSummed, all_none, all-ready, all_more, all-long, all_done, next_fits}
 use Rattle.recovery.proofs.sums.sum_back.Statement.{statement}
 use Rattle.recovery.proofs.sums.sum_back.Tie as tie

@@ -4,7 +4,7 @@ use native.Mathlib.Omega.{arith}
 use lib.Dec.{lit≤}
 use lib.IntN.{pos}
 use lib.ListN.{length-set}
-use Rattle.algebra.specs.Laws.Spread.{as_long}
+use Rattle.algebra.proofs.Laws.Spread.{as_long}
 use Rattle.contrasts.specs.Columns.{read}
 use Rattle.recovery.proofs.Held.{plus-fits, minus-fits, times-fits}
 use Rattle.recovery.proofs.Worked.{Stretched, stretch-begun, stretch-ended, Triple, triple, twice-first, thrice-middle, twice-third, with-middle, less-middle, stretch-three}

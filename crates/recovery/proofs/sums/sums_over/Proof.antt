@@ -1,7 +1,7 @@
 use mathlib.Core.Path.{refl, sym, ◌∙◌}
 use borrow.Author.Rules.{rules}
-use Rattle.contrasts.specs.Laws.Levels.{the-three, as-two, as-three}
-use Rattle.contrasts.specs.Laws.Undo.{sums-two}
+use Rattle.contrasts.proofs.Laws.Levels.{the-three, as-two, as-three}
+use Rattle.contrasts.proofs.Laws.Undo.{sums-two}
 use Rattle.recovery.proofs.sums.sums_over.Statement.{statement}
 use Rattle.recovery.proofs.sums.sums_over.Tie as tie
 

@@ -1,7 +1,7 @@
 use Prim.Native.Nat.{◌-◌}
 use native.Mathlib.Omega.{arith}
 use lib.ListN.{length}
-use Rattle.algebra.specs.Laws.Parts.{making-all, as_long, room, room-now, shorter}
+use Rattle.algebra.proofs.Laws.Parts.{making-all, as_long, room, room-now, shorter}
 use Rattle.recovery.proofs.Summed.{Summing, summing-none, width_fits, some-width, next-stretch, summing-more}
 use Rattle.recovery.proofs.sums.sums_three.Statement.{statement}
 use Rattle.recovery.proofs.sums.sums_three.Tie as tie

@@ -8,7 +8,7 @@ use lib.ListN.{length}
 use Rattle.columns.specs.Copies.{copied}
 use Rattle.columns.specs.Laws.Copies.{copied-over}
 use Rattle.contrasts.specs.Columns.{run_sums_in}
-use Rattle.contrasts.specs.Laws.Repeats.{sums-once}
+use Rattle.contrasts.proofs.Laws.Repeats.{sums-once}
 use Rattle.repeats.specs.Ready.{AllRuns}
 use Rattle.repeats.proofs.sums.sum_runs.Statement.{statement}
 use Rattle.repeats.proofs.sums.sum_runs.Tie as tie

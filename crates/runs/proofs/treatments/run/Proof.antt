@@ -2,10 +2,10 @@ use mathlib.Core.Path.{◌≡◌, sym, ◌∙◌}
 use borrow.Author.Rules.{rules}
 use Rattle.runs.specs.Run.{run_refused}
 use Rattle.plan.specs.Check.{plan_refused}
-use Rattle.plan.specs.Laws.Accepted.{sizes}
-use Rattle.plan.specs.Laws.Answers.{refused-by-plan}
-use Rattle.plan.specs.Laws.Sizes.{run-count}
-use Rattle.plan.specs.Laws.Words.{counts-few}
+use Rattle.plan.proofs.Laws.Accepted.{sizes}
+use Rattle.plan.proofs.Laws.Answers.{refused-by-plan}
+use Rattle.plan.proofs.Laws.Sizes.{run-count}
+use Rattle.plan.proofs.Laws.Words.{counts-few}
 use Rattle.runs.specs.Laws.High.{run-two, values-two}
 use Rattle.runs.specs.Laws.ThreeBlocks.{run-three, values-three}
 use Rattle.runs.proofs.treatments.run.Statement.{statement}

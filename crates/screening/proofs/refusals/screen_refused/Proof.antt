@@ -1,8 +1,8 @@
 use mathlib.Core.Path.{◌≡◌, sym, ◌∙◌}
 use borrow.Author.Rules.{rules}
 use Rattle.plan.specs.Check.{plan_refused}
-use Rattle.plan.specs.Laws.Accepted.{sizes}
-use Rattle.plan.specs.Laws.Answers.{plan-first}
+use Rattle.plan.proofs.Laws.Accepted.{sizes}
+use Rattle.plan.proofs.Laws.Answers.{plan-first}
 use Rattle.screening.specs.Screening.{screen_refused}
 use Rattle.screening.proofs.Judging.{judged}
 use Rattle.screening.proofs.refusals.screen_refused.Statement.{statement}

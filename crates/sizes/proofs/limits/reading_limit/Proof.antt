@@ -1,6 +1,6 @@
 use mathlib.Core.Path.{sym}
 use Rattle.contrasts.specs.Limits.{two_reading_limit, three_reading_limit}
-use Rattle.plan.specs.Laws.Limits.{limit-two, limit-three}
+use Rattle.plan.proofs.Laws.Limits.{limit-two, limit-three}
 use Rattle.sizes.proofs.limits.reading_limit.Statement.{statement}
 use Rattle.sizes.proofs.limits.reading_limit.Tie as tie
 

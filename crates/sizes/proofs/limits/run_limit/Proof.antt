@@ -3,7 +3,7 @@ use Prim.Native.Nat.{◌≤◌}
 use native.Mathlib.Nat.{mul-le-mul}
 use native.Mathlib.Omega.{arith}
 use borrow.Author.Rules.{rules}
-use Rattle.plan.specs.Laws.Limits.{reading-most}
+use Rattle.plan.proofs.Laws.Limits.{reading-most}
 use Rattle.sizes.proofs.limits.run_limit.Statement.{statement}
 use Rattle.sizes.proofs.limits.run_limit.Tie as tie
 

@@ -1,8 +1,8 @@
 use mathlib.Core.Path.{◌≡◌, sym, ◌∙◌}
 use Rattle.contrasts.specs.Limits.{value_limit}
-use Rattle.contrasts.specs.Laws.Levels.{the-three, as-two, as-three}
-use Rattle.plan.specs.Laws.Answers.{stopped, completed}
-use Rattle.plan.specs.Laws.Sizes.{plan-kind}
+use Rattle.contrasts.proofs.Laws.Levels.{the-three, as-two, as-three}
+use Rattle.plan.proofs.Laws.Answers.{stopped, completed}
+use Rattle.plan.proofs.Laws.Sizes.{plan-kind}
 use Rattle.columns.specs.Laws.Admitted.{Columns, admitted}
 use Rattle.steps.specs.Step.{step_refused, step_column}
 use Rattle.steps.proofs.Called.{step-ready, step-made}

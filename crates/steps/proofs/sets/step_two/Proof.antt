@@ -2,9 +2,9 @@ use mathlib.Core.Path.{refl, sym, ◌∙◌}
 use Prim.Native.Nat.{◌-◌}
 use native.Mathlib.Omega.{arith}
 use lib.ListN.{length-set}
-use Rattle.algebra.specs.Laws.Spread.{as_long}
+use Rattle.algebra.proofs.Laws.Spread.{as_long}
 use lib.IntN.{pos}
-use Rattle.contrasts.specs.Laws.Sets.{sum_fits, less-fits}
+use Rattle.contrasts.proofs.Laws.Sets.{sum_fits, less-fits}
 use Rattle.steps.proofs.Worked.{Stepped, step-begun, step-ended, mild-from, step-two}
 use Rattle.steps.proofs.sets.step_two.Statement.{statement}
 use Rattle.steps.proofs.sets.step_two.Tie as tie

@@ -1,7 +1,7 @@
 use mathlib.Core.Path.{refl, ◌∙◌}
 use native.Mathlib.Omega.{arith}
 use borrow.Author.Rules.{rules}
-use Rattle.algebra.specs.Laws.Machine.{kept}
+use Rattle.algebra.proofs.Laws.Machine.{kept}
 use Rattle.walks.specs.State.{plus_at}
 use Rattle.walks.proofs.Walked.{numerator-kept}
 use Rattle.walks.proofs.bringing.bring_three.Statement.{statement}

@@ -1,6 +1,6 @@
 use mathlib.Core.Path.{refl, ◌∙◌}
 use borrow.Author.Rules.{rules}
-use Rattle.algebra.specs.Laws.Machine.{kept}
+use Rattle.algebra.proofs.Laws.Machine.{kept}
 use Rattle.walks.proofs.Walked.{square-kept}
 use Rattle.walks.proofs.bringing.bring_two.Statement.{statement}
 use Rattle.walks.proofs.bringing.bring_two.Tie as tie

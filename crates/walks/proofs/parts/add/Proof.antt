@@ -2,7 +2,7 @@ use mathlib.Core.Path.{refl}
 use native.Mathlib.Omega.{arith}
 use borrow.Author.Rules.{rules}
 use Rattle.walks.specs.State.{brought, plus_at}
-use Rattle.walks.specs.Laws.Parts.{next-still}
+use Rattle.walks.proofs.Laws.Parts.{next-still}
 use Rattle.walks.proofs.parts.add.Statement.{statement}
 use Rattle.walks.proofs.parts.add.Tie as tie
 

@@ -1,5 +1,5 @@
 use lib.Dec.{lit<}
-use Rattle.algebra.specs.Laws.Machine.{kept}
+use Rattle.algebra.proofs.Laws.Machine.{kept}
 use Rattle.walks.proofs.parts.gather.Statement.{statement}
 use Rattle.walks.proofs.parts.gather.Tie as tie
 use Rattle.walks.specs.State.{held_in}

@@ -1,6 +1,6 @@
 use mathlib.Core.Path.{refl, ◌∙◌}
 use native.Mathlib.Omega.{arith}
-use Rattle.algebra.specs.Laws.Machine.{kept}
+use Rattle.algebra.proofs.Laws.Machine.{kept}
 use Rattle.walks.proofs.Walked.{product-fits, product_is}
 use Rattle.walks.proofs.squares.numerator.Statement.{statement}
 use Rattle.walks.proofs.squares.numerator.Tie as tie

@@ -1,4 +1,4 @@
-use Rattle.algebra.specs.Laws.Machine.{square-fits, square-held, square-is}
+use Rattle.algebra.proofs.Laws.Machine.{square-fits, square-held, square-is}
 use Rattle.walks.proofs.squares.square.Statement.{statement}
 use Rattle.walks.proofs.squares.square.Tie as tie
 

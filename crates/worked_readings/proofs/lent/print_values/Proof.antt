@@ -1,7 +1,7 @@
 use native.Mathlib.Omega.{arith}
 use Prim.Native.Nat.{◌-◌, ◌≤◌}
 use lib.ListN.{length}
-use Rattle.algebra.specs.Laws.Machine.{widened-fits}
+use Rattle.algebra.proofs.Laws.Machine.{widened-fits}
 use Rattle.contrasts.specs.Columns.{read}
 use Rattle.worked_readings.proofs.lent.print_values.Statement.{statement}
 use Rattle.worked_readings.proofs.lent.print_values.Tie as tie

@@ -1,5 +1,5 @@
 use borrow.Author.Rules.{rules}
-use Rattle.algebra.specs.Laws.Machine.{widened-fits}
+use Rattle.algebra.proofs.Laws.Machine.{widened-fits}
 use Rattle.worked_totals.proofs.limits.try_readings.Statement.{statement}
 use Rattle.worked_totals.proofs.limits.try_readings.Tie as tie
 

@@ -3,7 +3,7 @@ use Prim.Native.Nat.{◌-◌}
 use lib.IntN.{pos}
 use lib.ListN.{length, get_or, length-set}
 use borrow.Author.Tests.{ltb-true}
-use Rattle.algebra.specs.Laws.Machine.{widened-fits}
+use Rattle.algebra.proofs.Laws.Machine.{widened-fits}
 use mathlib.Core.Path.{◌≡◌}
 use Rattle.worked_totals.proofs.works.fill.Statement.{statement}
 use Rattle.worked_totals.proofs.works.fill.Tie as tie

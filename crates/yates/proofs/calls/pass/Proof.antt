@@ -1,5 +1,5 @@
 use mathlib.Core.Path.{◌≡◌, sym, ◌∙◌}
-use Rattle.plan.specs.Laws.Answers.{stopped, completed}
+use Rattle.plan.proofs.Laws.Answers.{stopped, completed}
 use Rattle.yates.specs.Calls.{pass_refused, pass_column}
 use Rattle.yates.specs.Laws.Admitted.{pass-admitted}
 use Rattle.yates.proofs.Called.{pass-ready, pass-made}

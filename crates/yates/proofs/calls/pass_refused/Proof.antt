@@ -3,7 +3,7 @@ use borrow.Author.Rules.{rules}
 use borrow.Author.Tests.{le-leb, lt-leb}
 use Rattle.algebra.specs.Laws.Tests.{is}
 use Rattle.plan.specs.Check.{plan_refused}
-use Rattle.plan.specs.Laws.Answers.{plan-first, after-plan}
+use Rattle.plan.proofs.Laws.Answers.{plan-first, after-plan}
 use Rattle.yates.specs.Calls.{pass_refused}
 use Rattle.columns.specs.Laws.Lengths.{wrong, right}
 use Rattle.yates.proofs.calls.pass_refused.Statement.{statement}

@@ -1,5 +1,5 @@
 use mathlib.Core.Path.{◌≡◌, refl, sym, ◌∙◌}
-use Rattle.plan.specs.Laws.Answers.{stopped, completed}
+use Rattle.plan.proofs.Laws.Answers.{stopped, completed}
 use Rattle.plan.specs.Plan.{factors_of}
 use Rattle.yates.specs.Calls.{totals_refused, totals_column}
 use Rattle.columns.specs.Laws.Admitted.{readings-admitted}

@@ -1,0 +1,2 @@
+-- Laws that the crates above cite.
+pub mod Laws
