@@ -1,0 +1,15 @@
+use mathlib.Core.Path.{sym}
+use Prim.Native.Nat.{◌-◌}
+use native.Mathlib.Omega.{arith}
+use lib.Seq.{length-take-le}
+use lib.ListN.{length, get_or, take}
+use Rattle.algebra.specs.Laws.Searching.{Unfound, unfound, onward, found, nowhere}
+use Rattle.words.specs.Words.{among, repeated}
+use Rattle.algebra.specs.Laws.Tests.{is}
+use Rattle.words.proofs.lists.is_repeated.Given as goal
+
+abbrev pub invariant-loop-i : goal.invariant-loop-i
+invariant-loop-i l = Unfound (λ j. among (get_or l.words j 0) (take j l.words)) (length l.words) l.i
+
+abbrev pub decreases-loop-i : goal.decreases-loop-i
+decreases-loop-i l = length l.words - l.i
