@@ -1,21 +1,21 @@
 // What the table call answers.
 
 // A line of the analysis of variance: how many degrees it has, and its numerator over the table's denominator.
-#[derive(Drop)]
+#[derive(Clone, Copy)]
 pub struct Source {
     pub degrees: u64,
     pub numerator: u64,
 }
 
 // Both check numbers: the sum of the totals, and what it must be by the run sums of the readings.
-#[derive(Drop)]
+#[derive(Clone, Copy)]
 pub struct Checks {
     pub totals: i64,
     pub readings: i64,
 }
 
 // The figures of a table.
-#[derive(Drop)]
+#[derive(Clone, Copy)]
 pub struct Figures {
     pub denominator: u64,
     pub mean: Source,
@@ -26,7 +26,7 @@ pub struct Figures {
     pub checks: Checks,
 }
 
-#[derive(Drop)]
+#[derive(Clone, Copy)]
 pub enum Table {
     Made(Figures),
     Refused(u8),

@@ -3,7 +3,7 @@ ghost use Rattle.std.specs.Prelude.{◌≡◌, ◌+◌, ◌*◌, ◌-◌, min, �
 ghost use Rattle.blockwords.specs.Arguments.{is_digit, argument_of};
 
 // A number, 255 where it is above that, or no number at all.
-#[derive(Drop)]
+#[derive(Clone, Copy)]
 pub enum Argument {
     Number(u8),
     Other,

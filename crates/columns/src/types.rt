@@ -1,6 +1,6 @@
 // What a call that writes a column answers; what it makes is in the column that the caller lent.
 
-#[derive(Drop)]
+#[derive(Clone, Copy)]
 pub enum Answer {
     Done,
     Refused(u8),

@@ -1,7 +1,7 @@
 // What the estimate call answers.
 
 // The mean or a difference as a double, or lost to blocks with no number; or the number of the refusal.
-#[derive(Drop)]
+#[derive(Clone, Copy)]
 pub enum Estimate {
     Mean(f64),
     Difference(f64),

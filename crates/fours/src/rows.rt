@@ -4,7 +4,7 @@ ghost use Rattle.contrasts.proofs.Laws.Small.{Mild};
 ghost use Rattle.fours.specs.Inner.Rows.{rows_by, rows_from, put_rows, TwoReadings, FourPlaces};
 
 // The sum, and first minus second.
-#[derive(Drop)]
+#[derive(Clone, Copy)]
 pub struct Rows {
     pub sum: i64,
     pub gap: i64,

@@ -4,7 +4,7 @@ ghost use Rattle.contrasts.proofs.Laws.Small.{Mild};
 ghost use Rattle.nines.specs.Inner.Rows.{rows_by, rows_from, put_rows, ThreeReadings, NinePlaces};
 
 // The sum, first minus third, and first minus twice middle plus third.
-#[derive(Drop)]
+#[derive(Clone, Copy)]
 pub struct Rows {
     pub sum: i64,
     pub gap: i64,

@@ -3,7 +3,7 @@ use columns::Answer;
 use plan::Plan;
 
 // The plan of a sheet that is refused is all zeros.
-#[derive(Drop)]
+#[derive(Clone, Copy)]
 pub struct Sheet {
     pub answer: Answer,
     pub plan: Plan,
