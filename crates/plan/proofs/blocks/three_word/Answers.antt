@@ -1,0 +1,6 @@
+use mathlib.Core.Path.{refl, ◌∙◌}
+use borrow.Author.Rules.{rules}
+use Rattle.plan.proofs.blocks.three_word.Goals as goal
+
+pub returns : goal.returns
+returns c = c.first_word.ensures ∙ rw c.number_count.ensures refl

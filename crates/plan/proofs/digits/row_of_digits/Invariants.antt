@@ -1,0 +1,10 @@
+use Prim.Native.Nat.{◌*◌, ◌-◌, ◌≤◌}
+use native.Mathlib.Omega.{arith}
+use Rattle.plan.proofs.Laws.Digits.{Collecting, collecting, letter-few, letter-put, one-collected, collected}
+use Rattle.plan.proofs.digits.row_of_digits.Given as goal
+
+abbrev pub invariant-loop-i : goal.invariant-loop-i
+invariant-loop-i l = Collecting l.k l.word l.row l.letter l.rest l.i
+
+abbrev pub decreases-loop-i : goal.decreases-loop-i
+decreases-loop-i l = l.k - l.i
