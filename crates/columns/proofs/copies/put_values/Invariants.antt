@@ -1,0 +1,13 @@
+use Prim.Native.Nat.{◌-◌}
+use native.Mathlib.Omega.{arith}
+use lib.IntN.{pos}
+use lib.ListN.{length}
+use Rattle.algebra.proofs.Laws.Machine.{kept}
+use Rattle.algebra.specs.Laws.Copied.{Copying, copying-none, copying-long, copying-more, copying-all}
+use Rattle.columns.proofs.copies.put_values.Given as goal
+
+abbrev pub invariant-loop-i : goal.invariant-loop-i
+invariant-loop-i l = Copying (pos 0) l.from l.initial.to l.i l.to
+
+abbrev pub decreases-loop-i : goal.decreases-loop-i
+decreases-loop-i l = length l.from - l.i

@@ -1,0 +1,8 @@
+use native.Mathlib.Omega.{arith}
+use borrow.Author.Rules.{rules}
+use Rattle.numerals.specs.Numbers.{big}
+use Rattle.numerals.proofs.numbers.pair.Goals as goal
+
+pub returns : goal.returns
+unfolding big
+returns c = omega arith

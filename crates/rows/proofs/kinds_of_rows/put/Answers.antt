@@ -1,0 +1,7 @@
+use mathlib.Core.Path.{refl, sym}
+use lib.Seq.{set_out}
+use borrow.Author.Rules.{rules}
+use Rattle.rows.proofs.kinds_of_rows.put.Goals as goal
+
+pub returns-else-row-kinds : goal.returns-else-row-kinds
+returns-else-row-kinds c = sym (set_out _ _ _ c.if-row-kinds.false)

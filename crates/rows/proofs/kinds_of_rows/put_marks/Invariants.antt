@@ -1,0 +1,10 @@
+use Prim.Native.Nat.{◌-◌}
+use native.Mathlib.Omega.{arith}
+use Rattle.rows.proofs.Putting.{Marking, marking-none, marking-long, marking-more, marking-all}
+use Rattle.rows.proofs.kinds_of_rows.put_marks.Given as goal
+
+abbrev pub invariant-loop-row : goal.invariant-loop-row
+invariant-loop-row l = Marking l.marks l.initial.kinds l.row l.kinds
+
+abbrev pub decreases-loop-row : goal.decreases-loop-row
+decreases-loop-row l = l.rows - l.row

@@ -1,0 +1,7 @@
+use native.Mathlib.Omega.{arith}
+use borrow.Author.Rules.{rules}
+use Rattle.algebra.specs.Laws.Gathered.{one_shifted}
+use Rattle.runs.proofs.powers.power.Goals as goal
+
+pub returns : goal.returns
+returns c = one_shifted c.args.n 16 (omega arith)
