@@ -9,7 +9,7 @@ pub returns-then-n-lt10 : goal.returns-then-n-lt10
 returns-then-n-lt10 t c = few-digits c.if-n-lt10.true c.last_digit.ensures c.put.ensures
 
 pub number-next-requires : goal.number-next-requires
-number-next-requires t c = (tenth-less c.requires.0 c.if-n-lt10.false, tt)
+number-next-requires t c = (tenth-less c.decreases c.if-n-lt10.false, tt)
 
 pub shape_of-text : goal.shape_of-text
 shape_of-text t c = same_size (then c.number-next.ensures c.put-2.ensures)

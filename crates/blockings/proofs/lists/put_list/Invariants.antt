@@ -1,0 +1,13 @@
+use mathlib.Core.Path.{refl, ap, ◌∙◌}
+use Prim.Native.Nat.{ℕ, ◌-◌}
+use native.Mathlib.Omega.{arith}
+use lib.ListN.{length, get_or}
+use Rattle.algebra.specs.Laws.Fill.{Filled, filled_none, filled_more, filled-long, filled-all}
+use Rattle.blockings.specs.Inner.Numbered.{word_at}
+use Rattle.blockings.proofs.lists.put_list.Given as goal
+
+abbrev pub invariant-loop-place : goal.invariant-loop-place
+invariant-loop-place l = Filled (length l.initial.places) (word_at l.k (length l.initial.places) l.i) (λ j. get_or l.initial.places j 0) l.place l.places
+
+abbrev pub decreases-loop-place : goal.decreases-loop-place
+decreases-loop-place l = length l.initial.places - l.place

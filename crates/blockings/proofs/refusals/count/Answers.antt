@@ -1,0 +1,27 @@
+use mathlib.Core.Logic.{⊎_elim}
+use Prim.Native.Nat.{◌-◌}
+use native.Mathlib.Omega.{arith}
+use Rattle.algebra.specs.Laws.Tests.{is}
+use Rattle.algebra.specs.Laws.Collected.{Counted, counted_none, counted-pass, counted_skip, counted-all}
+use Rattle.blockings.specs.Blockings.{is_blocking}
+use Rattle.blockings.specs.Inner.Numbered.{words_at}
+use Rattle.blockings.proofs.Listing.{counted-lists}
+use Rattle.blockings.proofs.refusals.count.Goals as goal
+
+pub loop-i-init : goal.loop-i-init
+loop-i-init c = counted_none _ _ _
+
+pub loop-i-preserved : goal.loop-i-preserved
+loop-i-preserved c =
+    let tested = c.is_listed.ensures in
+    let counted = c.loop-i.invariant in
+    let more = c.loop-i-test.true in
+    ⊎_elim
+    (λ w. rw w.1 (counted-pass counted more (is tested w.0.taken)))
+    (λ w. rw w.1 (counted_skip counted more (is tested w.0.left)))
+    c.if-is_listed.branch
+
+pub returns : goal.returns
+returns c =
+    let lists = c.all_lists-all.ensures in
+    (counted-lists _ _ lists.0 (counted-all c.loop-i.invariant c.loop-i-test.false), omega (arith, lists.1))

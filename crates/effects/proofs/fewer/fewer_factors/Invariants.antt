@@ -1,0 +1,10 @@
+use mathlib.Core.Path.{sym}
+use native.Mathlib.Omega.{arith}
+use Rattle.effects.proofs.Divided.{Missing, missing-none, missing-long, missing-more, missing-all}
+use Rattle.effects.proofs.fewer.fewer_factors.Given as goal
+
+abbrev pub invariant-loop-factors : goal.invariant-loop-factors
+invariant-loop-factors l = Missing l.k l.factors l.divisors
+
+abbrev pub decreases-loop-factors : goal.decreases-loop-factors
+decreases-loop-factors l = l.factors

@@ -1,0 +1,14 @@
+use mathlib.Core.Path.{refl}
+use Prim.Native.Nat.{◌-◌}
+use native.Mathlib.Omega.{arith}
+use Rattle.effects.proofs.Filling.{Singly, singly-none, singly-more, singly-all}
+use Rattle.effects.proofs.letters.rows_of_two.Goals as goal
+
+pub loop-e-init : goal.loop-e-init
+loop-e-init c = singly-none (λ j. j) 0 _
+
+pub loop-e-preserved : goal.loop-e-preserved
+loop-e-preserved c = singly-more c.loop-e.invariant c.loop-e-test.true (omega arith) refl
+
+pub returns : goal.returns
+returns c = singly-all c.loop-e.invariant c.loop-e-test.false

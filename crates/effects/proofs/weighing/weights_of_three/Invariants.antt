@@ -1,0 +1,11 @@
+use Prim.Native.Nat.{◌-◌}
+use native.Mathlib.Omega.{arith}
+use Rattle.algebra.specs.Laws.Gathered.{one_shifted}
+use Rattle.effects.proofs.Weighed.{WeightsThree, three-none, three-few, three-fits, three-more, three-all}
+use Rattle.effects.proofs.weighing.weights_of_three.Given as goal
+
+abbrev pub invariant-loop-q : goal.invariant-loop-q
+invariant-loop-q l = WeightsThree l.k l.n l.q l.weights
+
+abbrev pub decreases-loop-q : goal.decreases-loop-q
+decreases-loop-q l = l.third - l.q

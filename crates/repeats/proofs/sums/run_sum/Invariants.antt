@@ -1,0 +1,13 @@
+use Prim.Native.Nat.{◌+◌, ◌-◌, ◌*◌}
+use native.Mathlib.Omega.{arith}
+use lib.IntN.{ℤ}
+use Rattle.algebra.proofs.Laws.Machine.{widened-fits}
+use Rattle.contrasts.specs.Columns.{read}
+use Rattle.repeats.proofs.Added.{Adding, adding-none, adding-more, adding-all, adding-fits}
+use Rattle.repeats.proofs.sums.run_sum.Given as goal
+
+abbrev pub invariant-loop-j : goal.invariant-loop-j
+invariant-loop-j l = Adding l.repeats l.run l.readings l.j l.sum
+
+abbrev pub decreases-loop-j : goal.decreases-loop-j
+decreases-loop-j l = l.repeats - l.j
