@@ -10,7 +10,7 @@ use native.Mathlib.Omega.{arith}
 use lib.Dec.{T, eqb-suc-zero, le→leb, lt→ltb}
 use lib.IntN.{ℤ, pos, negsuc, nat_abs}
 use lib.Pow.{pow-add, pow_pos, pow_mono, shl_lt}
-use lib.Ieee.{Float, fin, Format, binary64, up, down, unlike, round, div, of_int, in_float}
+use lib.Ieee.{inf, nan, Float, fin, Format, binary64, up, down, unlike, round, div, of_int, in_float}
 use lib.Ieee.Back.{round_whole}
 use lib.Ieee.Exact.{HasValue, round_exact}
 use lib.Ieee.Fits.{up_pos, down_pos, round-fits}
@@ -42,6 +42,10 @@ fraction x y n z a b h k =
 
 over : (f : Format) (x y : Float) (s : Bool) (a b : ℕ) → 0 < b → HasValue x s a 1 → HasValue y false b 1 → div f x y ≡ round f s a b
 unfolding div
+over f nan y s a b h v w = elim v [ ]
+over f (inf _) y s a b h v w = elim v [ ]
+over f (fin t m e) nan s a b h v w = elim w [ ]
+over f (fin t m e) (inf _) s a b h v w = elim w [ ]
 over f (fin t m e) (fin u zero d) s a b h v w = absurd (not-zero b d h w.1)
 over f (fin t m e) (fin u (suc n) d) s a b h v w =
     let num = m * up e * down d in

@@ -17,4 +17,4 @@ pub returns : goal.returns
 unfolding blockings_column
 returns c =
     let wrote = c.write-n.ensures in
-    let all = answered _ _ _ (sym c.blockings_refused-m.ensures ∙ c.if-m-ne0.false) wrote.0 wrote.1 in record { result_value = all.0; column_after = all.1 }
+    let all = answered _ _ _ (sym c.blockings_refused-m.ensures ∙ c.if-m-ne0.false) wrote.value wrote.column_after in record { result_value = all.0; column_after = all.1 }

@@ -1,5 +1,4 @@
 use mathlib.Core.Path.{◌∙◌}
-use mathlib.Core.Logic.{⊎_elim}
 use Prim.Native.Nat.{◌-◌}
 use native.Mathlib.Omega.{arith}
 use Rattle.algebra.specs.Laws.Tests.{is}
@@ -8,6 +7,7 @@ use Rattle.blockings.specs.Blockings.{is_blocking}
 use Rattle.blockings.specs.Inner.Numbered.{words_at}
 use Rattle.blockings.proofs.Listing.{fits, room_for, counted-lists, written-lists}
 use Rattle.blockings.proofs.calls.write.Goals as goal
+use Rattle.blockings.proofs.calls.write.Goals.{then-is_listed, else-is_listed}
 
 pub loop-i-init : goal.loop-i-init
 loop-i-init c = collected-none (room_for _ _ c.all_lists-all.ensures.0 _ c.requires.1)
@@ -28,10 +28,10 @@ pub loop-i-preserved : goal.loop-i-preserved
 loop-i-preserved c =
     let room = room_for _ _ c.all_lists-all.ensures.0 _ c.requires.1 in
     let more = c.loop-i-test.true in
-    ⊎_elim
-    (λ w. rw w.6 (collected-pass room c.loop-i.invariant more (is c.is_listed.ensures w.0.taken) (w.5 ∙ w.2.ensures)))
-    (λ w. rw (w.1, w.2) (collected-skip room c.loop-i.invariant more (is c.is_listed.ensures w.0.left)))
-    c.if-is_listed.branch
+    elim c.if-is_listed.branch [
+      | then-is_listed w ↦ rw w.n-is (collected-pass room c.loop-i.invariant more (is c.is_listed.ensures w.if-is_listed.true) (w.column-is ∙ w.put_at.ensures))
+      | else-is_listed w ↦ rw (w.column-is, w.n-is) (collected-skip room c.loop-i.invariant more (is c.is_listed.ensures w.if-is_listed.false))
+    ]
 
 pub shape_of-column : goal.shape_of-column
 shape_of-column c = collected-long (room_for _ _ c.all_lists-all.ensures.0 _ c.requires.1) c.loop-i.invariant

@@ -1,4 +1,3 @@
-use mathlib.Core.Logic.{⊎_elim}
 use Prim.Native.Nat.{◌-◌}
 use native.Mathlib.Omega.{arith}
 use Rattle.algebra.specs.Laws.Tests.{is}
@@ -7,6 +6,7 @@ use Rattle.blockings.specs.Blockings.{is_blocking}
 use Rattle.blockings.specs.Inner.Numbered.{words_at}
 use Rattle.blockings.proofs.Listing.{counted-lists}
 use Rattle.blockings.proofs.refusals.count.Goals as goal
+use Rattle.blockings.proofs.refusals.count.Goals.{then-is_listed, else-is_listed}
 
 pub loop-i-init : goal.loop-i-init
 loop-i-init c = counted_none _ _ _
@@ -16,10 +16,10 @@ loop-i-preserved c =
     let tested = c.is_listed.ensures in
     let counted = c.loop-i.invariant in
     let more = c.loop-i-test.true in
-    ⊎_elim
-    (λ w. rw w.1 (counted-pass counted more (is tested w.0.taken)))
-    (λ w. rw w.1 (counted_skip counted more (is tested w.0.left)))
-    c.if-is_listed.branch
+    elim c.if-is_listed.branch [
+      | then-is_listed w ↦ rw w.n-is (counted-pass counted more (is tested w.if-is_listed.true))
+      | else-is_listed w ↦ rw w.n-is (counted_skip counted more (is tested w.if-is_listed.false))
+    ]
 
 pub returns : goal.returns
 returns c =

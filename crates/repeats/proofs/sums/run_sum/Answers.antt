@@ -6,10 +6,6 @@ use Rattle.contrasts.specs.Columns.{read}
 use Rattle.repeats.proofs.Added.{Adding, adding-none, adding-more, adding-all, adding-fits}
 use Rattle.repeats.proofs.sums.run_sum.Goals as goal
 
--- the next reading
-abbrev next : tie.After-sum invariant-loop decreases-loop → ℤ
-next c = let args = c.before.before.before.args in read args.readings.now (args.run * args.repeats + c.before.before.loop.j)
-
 pub overflow_mul-start : goal.overflow_mul-start
 overflow_mul-start c = omega (arith, c.requires.there)
 
@@ -26,7 +22,7 @@ pub bounds-readings-start : goal.bounds-readings-start
 bounds-readings-start c = omega (arith, c.requires.there)
 
 pub overflow_cast-sum : goal.overflow_cast-sum
-overflow_cast-sum c = widened-fits (next c) c.sum-1.given
+overflow_cast-sum c = widened-fits (read c.args.readings.now (c.args.run * c.args.repeats + c.loop-j.j)) c.sum-1.given
 
 pub overflow_add-sum-in-loop-j : goal.overflow_add-sum-in-loop-j
 overflow_add-sum-in-loop-j c = adding-fits c.requires c.loop-j.invariant c.loop-j-test.true c.sum-1.given
