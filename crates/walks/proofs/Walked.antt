@@ -18,10 +18,11 @@ use native.Mathlib.Numerals.{add-one}
 use native.Mathlib.Omega.{arith}
 use lib.Dec.{lit<}
 use lib.Signed.{mag}
-use lib.IntN.{ℤ, nat_abs, ◌+ℤ◌}
+use lib.IntN.{ℤ, pos, nat_abs, ◌+ℤ◌}
 use lib.ListN.{length, get_or, set, replicate}
 use mir.Syntax.{w64}
 use mir.Val.{SFits, to_z, of_z}
+use mir.Facts.{to_z-of_z}
 use Rattle.algebra.specs.Laws.Fill.{Filled, filled_none, filled-long, filled_more, filled-all}
 use Rattle.algebra.specs.Laws.Machine.{fits, wrap}
 use Rattle.algebra.proofs.Laws.Machine.{back, kept}
@@ -72,20 +73,20 @@ module _ {t : ℤ} {weight : ℕ} (pre : Weighable t weight) {q : ℕ} (e : q �
 -- ---- what the variables of a loop hold
 
 module _ {row num kind : ℕ → ℕ} {t : Column} {n r : ℕ} (pre : Walkable row num kind t n r) {e : ℕ} {h : Held}
-    (w : Walking row num kind t n r e h.rows h.parts h.sum) {rows parts : List ℕ} {s : ℕ} (held : Holding h rows parts s) where
+    (w : Walking row num kind t n r e h.rows h.parts h.sum) {rows parts : List ℕ} {s : ℤ} (held : Holding h rows parts s) where
   pub as_long : length rows ≡ r
   as_long = rw held.rows_are (rows_long pre w)
 
   pub as_many : length parts ≡ 16
   as_many = rw held.parts_are w.places
 
-  sum_back : to_z w64 s ≡ h.sum
-  sum_back = rw held.sum_is (back h.sum (rw w.totals-hold (sum-small pre e w.upto)))
+  sum_back : s ≡ h.sum
+  sum_back = held.sum_is
 
   pub gatherable : Gatherable parts
   gatherable = record { places = as_many; sums-fit = rw held.parts_are (sums-within pre w) }
 
-  pub held_all : n ≤ e → Walked row num kind t n r (held_in parts (to_z w64 s)) rows
+  pub held_all : n ≤ e → Walked row num kind t n r (held_in parts s) rows
   held_all k =
       let z : e ≡ n = omega (arith, w.upto) in
       record { sums-are = rw (held.parts_are, sum_back, ← z) (sums-held w); rows_are = held.rows_are ∙ w.rows-hold ∙ rw z refl }
@@ -95,20 +96,23 @@ module _ {row num kind : ℕ → ℕ} {t : Column} {n r : ℕ} (pre : Walkable r
     pub total-is : wrap (t e) ≡ t e
     total-is = back (t e) (total-small pre e low)
 
-    pub sum-next : to_z w64 s +ℤ wrap (t e) ≡ h.sum +ℤ t e
+    pub sum-next : s +ℤ wrap (t e) ≡ h.sum +ℤ t e
     sum-next = rw (sum_back, total-is) refl
 
     next_fits : SFits w64 (Σ e t +ℤ t e)
     unfolding Σ
     next_fits = fits (Σ (suc e) t) (sum-small pre (suc e) low)
 
-    pub check-fits : SFits w64 (to_z w64 s +ℤ wrap (t e))
+    pub check-fits : SFits w64 (s +ℤ wrap (t e))
     check-fits = rw (sum-next, w.totals-hold) (next_fits)
+
+    pub sum-kept : wrap (s +ℤ wrap (t e)) ≡ h.sum +ℤ t e
+    sum-kept = to_z-of_z check-fits ∙ sum-next
 
 -- ---- two levels
 
 module _ {ts : List ℤ} {kinds rows₀ : List ℕ} (pre : WalkableTwo ts kinds rows₀) where
-  pub pairs-none : RunningTwo ts kinds (length rows₀) 0 rows₀ (replicate 16 0) 0
+  pub pairs-none : RunningTwo ts kinds (length rows₀) 0 rows₀ (replicate 16 0) (pos 0)
   unfolding course_two
   pairs-none =
       record { upto = omega arith; pairs = 0; in_pairs = refl; holding = record { rows_are = pre.cleared; parts_are = refl; sum_is = refl } }
@@ -118,7 +122,7 @@ module _ {ts : List ℤ} {kinds rows₀ : List ℕ} (pre : WalkableTwo ts kinds 
       (course_two ts kinds (length rows₀) e).sum
   course-two = two-walks ts kinds (length rows₀) pre.walkable
 
-  module _ {e : ℕ} {rows parts : List ℕ} {s : ℕ} (held : Holding (course_two ts kinds (length rows₀) e) rows parts s) (low : e < length ts) where
+  module _ {e : ℕ} {rows parts : List ℕ} {s : ℤ} (held : Holding (course_two ts kinds (length rows₀) e) rows parts s) (low : e < length ts) where
     walk : WalkingTwo ts kinds (length rows₀) e (course_two ts kinds (length rows₀) e).rows (course_two ts kinds (length rows₀) e).parts
         (course_two ts kinds (length rows₀) e).sum
     walk = course-two e (omega (arith, low))
@@ -129,7 +133,7 @@ module _ {ts : List ℤ} {kinds rows₀ : List ℕ} (pre : WalkableTwo ts kinds 
     pub held-places : length parts ≡ 16
     held-places = as_many pre.walkable walk held
 
-    pub two_fits : SFits w64 (to_z w64 s +ℤ wrap (read ts e))
+    pub two_fits : SFits w64 (s +ℤ wrap (read ts e))
     two_fits = check-fits pre.walkable walk held low
 
     pub brings-two : (half : ℕ) → half < 2 → BringsTwo e (wrap (read ts e)) (get_or kinds e 0) half rows parts
@@ -146,17 +150,17 @@ module _ {ts : List ℤ} {kinds rows₀ : List ℕ} (pre : WalkableTwo ts kinds 
     pub two-more : (half : ℕ) → half ≡ e % 2 → {rows' parts' : List ℕ}
         → (rows' ≡ set rows e (nat_abs (wrap (read ts e)) * nat_abs (wrap (read ts e))))
         × (parts' ≡ brought parts (place_of (get_or kinds e 0) half) (nat_abs (wrap (read ts e)) * nat_abs (wrap (read ts e))))
-        → Holding (course_two ts kinds (length rows₀) (e + 1)) rows' parts' (of_z w64 (to_z w64 s +ℤ wrap (read ts e)))
+        → Holding (course_two ts kinds (length rows₀) (e + 1)) rows' parts' (wrap (s +ℤ wrap (read ts e)))
     unfolding course_two
     two-more half b h =
         rw (add-one e)
         (record {
           rows_are = h.0 ∙ rw (own-total, held.rows_are) refl;
           parts_are = h.1 ∙ rw (own-total, held.parts_are, b) refl;
-          sum_is = ap (of_z w64) (sum-next pre.walkable walk held low);
+          sum_is = sum-kept pre.walkable walk held low;
         })
 
-  module _ {e : ℕ} {rows parts : List ℕ} {s : ℕ} (w : RunningTwo ts kinds (length rows₀) e rows parts s) where
+  module _ {e : ℕ} {rows parts : List ℕ} {s : ℤ} (w : RunningTwo ts kinds (length rows₀) e rows parts s) where
     pub two-places : length parts ≡ 16
     two-places = as_many pre.walkable (course-two e w.upto) w.holding
 
@@ -166,7 +170,7 @@ module _ {ts : List ℤ} {kinds rows₀ : List ℕ} (pre : WalkableTwo ts kinds 
     pub two-gatherable : Gatherable parts
     two-gatherable = gatherable pre.walkable (course-two e w.upto) w.holding
 
-    pub pairs-all : length ts ≤ e → WalkedTwo ts kinds (length rows₀) (held_in parts (to_z w64 s)) rows
+    pub pairs-all : length ts ≤ e → WalkedTwo ts kinds (length rows₀) (held_in parts s) rows
     pairs-all = held_all pre.walkable (course-two e w.upto) w.holding
 
     pub second-there : e < length ts → e + 1 < length ts
@@ -178,7 +182,7 @@ module _ {ts : List ℤ} {kinds rows₀ : List ℕ} (pre : WalkableTwo ts kinds 
     pub second-half : 1 ≡ (e + 1) % 2
     second-half = let z : e + 1 ≡ 1 + 2 * w.pairs = omega (arith, w.in_pairs) in sym (rw z (add-mul-mod_self_left 1 2 w.pairs))
 
-    pub pairs-more : e < length ts → {rows' parts' : List ℕ} {s' : ℕ} → Holding (course_two ts kinds (length rows₀) (e + 1 + 1)) rows' parts' s'
+    pub pairs-more : e < length ts → {rows' parts' : List ℕ} {s' : ℤ} → Holding (course_two ts kinds (length rows₀) (e + 1 + 1)) rows' parts' s'
         → RunningTwo ts kinds (length rows₀) (e + 1 + 1) rows' parts' s'
     pairs-more low h =
         record { upto = omega (arith, second-there low); pairs = w.pairs + 1; in_pairs = omega (arith, w.in_pairs); holding = h }
@@ -186,11 +190,11 @@ module _ {ts : List ℤ} {kinds rows₀ : List ℕ} (pre : WalkableTwo ts kinds 
 -- ---- three levels
 
 module _ {ts : List ℤ} {effects weights kinds rows₀ : List ℕ} (pre : WalkableThree ts effects weights kinds rows₀) where
-  pub threes-none : RunningThree ts effects weights kinds (length rows₀) 0 rows₀ (replicate 16 0) 0
+  pub threes-none : RunningThree ts effects weights kinds (length rows₀) 0 rows₀ (replicate 16 0) (pos 0)
   unfolding course_three
   threes-none = record { upto = omega arith; holding = record { rows_are = pre.cleared; parts_are = refl; sum_is = refl } }
 
-  module _ {e : ℕ} {rows parts : List ℕ} {s : ℕ} (w : RunningThree ts effects weights kinds (length rows₀) e rows parts s) where
+  module _ {e : ℕ} {rows parts : List ℕ} {s : ℤ} (w : RunningThree ts effects weights kinds (length rows₀) e rows parts s) where
     walk₃ : WalkingThree ts effects weights kinds (length rows₀) e (course_three ts effects weights kinds (length rows₀) e).rows
         (course_three ts effects weights kinds (length rows₀) e).parts (course_three ts effects weights kinds (length rows₀) e).sum
     walk₃ = three-walks ts effects weights kinds (length rows₀) pre.walkable e w.upto
@@ -204,14 +208,14 @@ module _ {ts : List ℤ} {effects weights kinds rows₀ : List ℕ} (pre : Walka
     pub three-gatherable : Gatherable parts
     three-gatherable = gatherable pre.walkable walk₃ w.holding
 
-    pub threes-all : length ts ≤ e → WalkedThree ts effects weights kinds (length rows₀) (held_in parts (to_z w64 s)) rows
+    pub threes-all : length ts ≤ e → WalkedThree ts effects weights kinds (length rows₀) (held_in parts s) rows
     threes-all = held_all pre.walkable walk₃ w.holding
 
     module _ (low : e < length ts) where
       own-total₃ : wrap (read ts e) ≡ read ts e
       own-total₃ = total-is pre.walkable walk₃ w.holding low
 
-      pub three-fits : SFits w64 (to_z w64 s +ℤ wrap (read ts e))
+      pub three-fits : SFits w64 (s +ℤ wrap (read ts e))
       three-fits = check-fits pre.walkable walk₃ w.holding low
 
       own-half : e % 2 < 2
@@ -234,7 +238,7 @@ module _ {ts : List ℤ} {effects weights kinds rows₀ : List ℕ} (pre : Walka
       pub threes-more : {rows' parts' : List ℕ}
           → (rows' ≡ plus_at rows (get_or effects e 0) (nat_abs (wrap (read ts e)) * nat_abs (wrap (read ts e)) * get_or weights e 0))
           × (parts' ≡ brought parts (place_of (get_or kinds (get_or effects e 0) 0) (e % 2)) (nat_abs (wrap (read ts e)) * nat_abs (wrap (read ts e)) * get_or weights e 0))
-          → RunningThree ts effects weights kinds (length rows₀) (e + 1) rows' parts' (of_z w64 (to_z w64 s +ℤ wrap (read ts e)))
+          → RunningThree ts effects weights kinds (length rows₀) (e + 1) rows' parts' (wrap (s +ℤ wrap (read ts e)))
       unfolding course_three
       threes-more h =
           rw (add-one e)
@@ -243,6 +247,6 @@ module _ {ts : List ℤ} {effects weights kinds rows₀ : List ℕ} (pre : Walka
             holding = record {
               rows_are = h.0 ∙ rw (own-total₃, w.holding.rows_are) refl;
               parts_are = h.1 ∙ rw (own-total₃, w.holding.parts_are) refl;
-              sum_is = ap (of_z w64) (sum-next pre.walkable walk₃ w.holding low);
+              sum_is = sum-kept pre.walkable walk₃ w.holding low;
             };
           })

@@ -92,19 +92,18 @@ course_three ts effects weights kinds r (suc e) = turn_three ts effects weights 
 
 -- ---- the variables of a loop
 
-pub record Holding (h : Held) (rows parts : List ℕ) (s : ℕ) : Type 0 where
+pub record Holding (h : Held) (rows parts : List ℕ) (s : ℤ) : Type 0 where
   pub rows_are : rows ≡ h.rows
   pub parts_are : parts ≡ h.parts
-  -- an i64 that code holds is its bits
-  pub sum_is : s ≡ of_z w64 h.sum
+  pub sum_is : s ≡ h.sum
 
 -- the invariants of the loops: after e totals they hold just that. At two levels a turn is two effects
-pub record RunningTwo (ts : List ℤ) (kinds : List ℕ) (r e : ℕ) (rows parts : List ℕ) (s : ℕ) : Type 0 where
+pub record RunningTwo (ts : List ℤ) (kinds : List ℕ) (r e : ℕ) (rows parts : List ℕ) (s : ℤ) : Type 0 where
   pub upto : e ≤ length ts
   pub pairs : ℕ
   pub in_pairs : e ≡ 2 * pairs
   pub holding : Holding (course_two ts kinds r e) rows parts s
 
-pub record RunningThree (ts : List ℤ) (effects weights kinds : List ℕ) (r e : ℕ) (rows parts : List ℕ) (s : ℕ) : Type 0 where
+pub record RunningThree (ts : List ℤ) (effects weights kinds : List ℕ) (r e : ℕ) (rows parts : List ℕ) (s : ℤ) : Type 0 where
   pub upto : e ≤ length ts
   pub holding : Holding (course_three ts effects weights kinds r e) rows parts s
