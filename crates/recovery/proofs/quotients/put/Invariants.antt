@@ -1,0 +1,14 @@
+use Prim.Native.Nat.{◌-◌}
+use native.Mathlib.Omega.{arith}
+use lib.IntN.{pos}
+use lib.ListN.{length}
+use Rattle.algebra.specs.Laws.Copied.{Copying, copying-none, copying-long, copying-more, copying-all}
+use Rattle.contrasts.specs.Columns.{read}
+use Rattle.recovery.proofs.Divided.{narrowed-fits, narrowed}
+use Rattle.recovery.proofs.quotients.put.Given as goal
+
+abbrev pub invariant-loop-i : goal.invariant-loop-i
+invariant-loop-i l = Copying (pos 0) l.column l.initial.readings l.i l.readings
+
+abbrev pub decreases-loop-i : goal.decreases-loop-i
+decreases-loop-i l = length l.column - l.i

@@ -1,0 +1,9 @@
+use mathlib.Core.Path.{refl, ◌∙◌}
+use borrow.Author.Rules.{rules}
+use Rattle.recovery.proofs.sums.sum_stretch.Goals as goal
+
+pub returns-then-spacing-eq1 : goal.returns-then-spacing-eq1
+returns-then-spacing-eq1 c = c.sum_triples.ensures ∙ rw c.if-spacing-eq1.true refl
+
+pub returns-then-spacing-eq3 : goal.returns-then-spacing-eq3
+returns-then-spacing-eq3 c = c.sum_triples-then-spacing-eq3.ensures ∙ rw c.if-spacing-eq3.true refl
