@@ -1,0 +1,13 @@
+use mathlib.Core.Path.{refl, ◌∙◌}
+use Prim.Native.Nat.{◌-◌}
+use native.Mathlib.Omega.{arith}
+use lib.ListN.{length}
+use Rattle.algebra.proofs.Laws.Machine.{kept}
+use Rattle.anova.proofs.Squared.{Summing, summing-none, summing-more, summing-all, squarable, summing-fits}
+use Rattle.anova.proofs.squares.sum_of_run_squares.Given as goal
+
+abbrev pub invariant-loop-i : goal.invariant-loop-i
+invariant-loop-i l = Summing l.column l.i l.sum
+
+abbrev pub decreases-loop-i : goal.decreases-loop-i
+decreases-loop-i l = length l.column - l.i
