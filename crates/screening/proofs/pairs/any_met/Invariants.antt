@@ -1,0 +1,13 @@
+use Prim.Native.Nat.{◌-◌}
+use native.Mathlib.Omega.{arith}
+use lib.ListN.{length}
+use Rattle.algebra.specs.Laws.Searching.{Unfound, unfound, onward, found, nowhere}
+use Rattle.algebra.specs.Laws.Tests.{is}
+use Rattle.screening.specs.Inner.Formed.{pairs_with, some_pair}
+use Rattle.screening.proofs.pairs.any_met.Given as goal
+
+abbrev pub invariant-loop-j : goal.invariant-loop-j
+invariant-loop-j l = Unfound (λ j. pairs_with j l.words l.mains) (length l.words) l.j
+
+abbrev pub decreases-loop-j : goal.decreases-loop-j
+decreases-loop-j l = length l.words - l.j
