@@ -1,5 +1,5 @@
-// The library for programs in other languages: every call, as include/lithgorn.h declares it to C. Each gives 0 where it is done, or the number of the
-// refusal; but the marks and the text, which give a length.
+// The library for programs in other languages: every call, under the name that include/lithgorn.h declares to C, for other crates and for `lithgorn_c`,
+// which hands each on to C. Each gives 0 where it is done, or the number of the refusal; but the marks and the text, which give a length.
 //
 //   lithgorn_check, lithgorn_run, lithgorn_alias, lithgorn_estimate                 of a plan in bytes (crate `heads`): single answers
 //   lithgorn_pass, lithgorn_step, lithgorn_totals, lithgorn_recover                 columns
@@ -8,8 +8,7 @@
 //   lithgorn_read, lithgorn_marks, lithgorn_text, lithgorn_sheet_table              of a sheet
 //   yates_pass, yates_totals, yates_recover, anova_table                            of a whole plan, without added factors and block words (crate `wholes`)
 //
-// In C a slice is a pointer and a length, and a place or an array a pointer alone. What is lent to one call must not overlap: the contracts below
-// take places that lie apart, as Rattle lends them; that a program in C lends such is assumed (docs/TRUST.md).
+// What is lent to one call must not overlap: the contracts below take places that lie apart, as Rattle lends them.
 #![tactic(auto)]
 
 ghost use Rattle.std.specs.Prelude.{◌≡◌, ◌++◌, ◌-◌, length, drop};
@@ -33,16 +32,14 @@ ghost use Rattle.wholes.specs.Whole.{whole_plan};
 use printing::TEXT;
 
 // The plan check.
-#[unsafe(no_mangle)]
-pub extern "C" fn lithgorn_check(head: &[u8]) -> u8
+pub fn lithgorn_check(head: &[u8]) -> u8
     ensures { result ≡ head_refused head.now }
 {
     facts::check(head)
 }
 
 // The letters that are high in a run, and its block.
-#[unsafe(no_mangle)]
-pub extern "C" fn lithgorn_run(head: &[u8], number: usize, high: &mut u16, block: &mut u8) -> u8
+pub fn lithgorn_run(head: &[u8], number: usize, high: &mut u16, block: &mut u8) -> u8
     ensures value { result ≡ run_on_head head.now number }
     ensures high_after { high.new ≡ run_high head.now number high.old }
     ensures block_after { block.new ≡ run_block head.now number block.old }
@@ -51,8 +48,7 @@ pub extern "C" fn lithgorn_run(head: &[u8], number: usize, high: &mut u16, block
 }
 
 // The base word that an effect reduces to, and 1 where its sign turns, else 0.
-#[unsafe(no_mangle)]
-pub extern "C" fn lithgorn_alias(head: &[u8], effect: u16, word: &mut u16, turned: &mut u8) -> u8
+pub fn lithgorn_alias(head: &[u8], effect: u16, word: &mut u16, turned: &mut u8) -> u8
     ensures value { result ≡ alias_on_head head.now effect }
     ensures word_after { word.new ≡ alias_word head.now effect word.old }
     ensures turned_after { turned.new ≡ alias_turned head.now effect turned.old }
@@ -61,14 +57,7 @@ pub extern "C" fn lithgorn_alias(head: &[u8], effect: u16, word: &mut u16, turne
 }
 
 // The mean or a difference by the total of an effect, or that the effect is lost; the double keeps its value then.
-#[unsafe(no_mangle)]
-pub extern "C" fn lithgorn_estimate(
-    head: &[u8],
-    effect: u16,
-    total: i64,
-    kind: &mut u8,
-    value: &mut f64,
-) -> u8
+pub fn lithgorn_estimate(head: &[u8], effect: u16, total: i64, kind: &mut u8, value: &mut f64) -> u8
     ensures value { result ≡ estimate_on_head head.now effect total }
     ensures kind_after { kind.new ≡ estimate_kind head.now effect total kind.old }
     ensures value_after { value.new ≡ estimate_double head.now effect total value.old }
@@ -77,8 +66,7 @@ pub extern "C" fn lithgorn_estimate(
 }
 
 // The lists of block words in the column, and how many there are.
-#[unsafe(no_mangle)]
-pub extern "C" fn lithgorn_blockings(k: u8, words: u8, column: &mut [u16], lists: &mut usize) -> u8
+pub fn lithgorn_blockings(k: u8, words: u8, column: &mut [u16], lists: &mut usize) -> u8
     ensures value { result ≡ blockings_refused k words (length column.old) }
     ensures column_after { column.new ≡ blockings_column k words column.old }
     ensures lists_after { lists.new ≡ blockings_count k words (length column.old) lists.old }
@@ -87,8 +75,7 @@ pub extern "C" fn lithgorn_blockings(k: u8, words: u8, column: &mut [u16], lists
 }
 
 // The pass of one factor over a column, in place.
-#[unsafe(no_mangle)]
-pub extern "C" fn lithgorn_pass(head: &[u8], factor: usize, column: &mut [i64]) -> u8
+pub fn lithgorn_pass(head: &[u8], factor: usize, column: &mut [i64]) -> u8
     ensures value { result ≡ called head.now (λ p. pass_refused p factor column.old) }
     ensures column_after { column.new ≡ leaves head.now (λ p. pass_column p factor column.old) column.old }
 {
@@ -96,8 +83,7 @@ pub extern "C" fn lithgorn_pass(head: &[u8], factor: usize, column: &mut [i64]) 
 }
 
 // The report's step, from one column to another.
-#[unsafe(no_mangle)]
-pub extern "C" fn lithgorn_step(head: &[u8], from: &[i64], to: &mut [i64]) -> u8
+pub fn lithgorn_step(head: &[u8], from: &[i64], to: &mut [i64]) -> u8
     ensures value { result ≡ called head.now (λ p. step_refused p from.now to.old) }
     ensures to_after { to.new ≡ leaves head.now (λ p. step_column p from.now to.old) to.old }
 {
@@ -105,8 +91,7 @@ pub extern "C" fn lithgorn_step(head: &[u8], from: &[i64], to: &mut [i64]) -> u8
 }
 
 // The totals of all effects.
-#[unsafe(no_mangle)]
-pub extern "C" fn lithgorn_totals(head: &[u8], readings: &[i32], totals: &mut [i64]) -> u8
+pub fn lithgorn_totals(head: &[u8], readings: &[i32], totals: &mut [i64]) -> u8
     ensures value { result ≡ called head.now (λ p. totals_refused p readings.now totals.old) }
     ensures totals_after { totals.new ≡ leaves head.now (λ p. totals_column p readings.now totals.old) totals.old }
 {
@@ -114,8 +99,7 @@ pub extern "C" fn lithgorn_totals(head: &[u8], readings: &[i32], totals: &mut [i
 }
 
 // The readings that have these totals; of runs that are made more than once, the run sums.
-#[unsafe(no_mangle)]
-pub extern "C" fn lithgorn_recover(head: &[u8], totals: &[i64], readings: &mut [i32]) -> u8
+pub fn lithgorn_recover(head: &[u8], totals: &[i64], readings: &mut [i32]) -> u8
     ensures value { result ≡ called head.now (λ p. recover_refused p totals.now readings.old) }
     ensures readings_after { readings.new ≡ leaves head.now (λ p. recover_column p totals.now readings.old) readings.old }
 {
@@ -123,8 +107,7 @@ pub extern "C" fn lithgorn_recover(head: &[u8], totals: &[i64], readings: &mut [
 }
 
 // The table of a plan in bytes.
-#[unsafe(no_mangle)]
-pub extern "C" fn lithgorn_table(
+pub fn lithgorn_table(
     head: &[u8],
     readings: &[i32],
     marks: &[u8],
@@ -143,8 +126,7 @@ pub extern "C" fn lithgorn_table(
 }
 
 // The same by the screening profile.
-#[unsafe(no_mangle)]
-pub extern "C" fn lithgorn_screen(
+pub fn lithgorn_screen(
     head: &[u8],
     readings: &[i32],
     marks: &[u8],
@@ -163,8 +145,7 @@ pub extern "C" fn lithgorn_screen(
 }
 
 // The readings of a sheet in the first places of the column, and how many of its first bytes are its plan.
-#[unsafe(no_mangle)]
-pub extern "C" fn lithgorn_read(sheet: &[u8], readings: &mut [i32], span: &mut usize) -> u8
+pub fn lithgorn_read(sheet: &[u8], readings: &mut [i32], span: &mut usize) -> u8
     ensures value { result ≡ read_refused sheet.now (length readings.old) }
     ensures readings_after { readings.new ≡ read_column sheet.now readings.old }
     ensures span_after { span.new ≡ read_span sheet.now (length readings.old) span.old }
@@ -173,8 +154,7 @@ pub extern "C" fn lithgorn_read(sheet: &[u8], readings: &mut [i32], span: &mut u
 }
 
 // How many of the last bytes of a sheet are its marks; none where the sheet is refused.
-#[unsafe(no_mangle)]
-pub extern "C" fn lithgorn_marks(sheet: &[u8]) -> usize
+pub fn lithgorn_marks(sheet: &[u8]) -> usize
     ensures value { result ≡ length (marks_of sheet.now) }
     ensures sheet_value { drop (length sheet.now - result) sheet.now ≡ marks_of sheet.now }
 {
@@ -182,8 +162,7 @@ pub extern "C" fn lithgorn_marks(sheet: &[u8]) -> usize
 }
 
 // The table of a sheet.
-#[unsafe(no_mangle)]
-pub extern "C" fn lithgorn_sheet_table(
+pub fn lithgorn_sheet_table(
     sheet: &[u8],
     totals: &mut [i64],
     rows: &mut [u64],
@@ -200,8 +179,7 @@ pub extern "C" fn lithgorn_sheet_table(
 }
 
 // The text of a sheet, and how many bytes it has. The buffer's bytes after it are as they were.
-#[unsafe(no_mangle)]
-pub extern "C" fn lithgorn_text(sheet: &[u8], text: &mut [u8; TEXT]) -> usize
+pub fn lithgorn_text(sheet: &[u8], text: &mut [u8; TEXT]) -> usize
     ensures value { result ≡ length (text_of sheet.now) }
     ensures text_after { text.new ≡ text_of sheet.now ++ drop result text.old }
 {
@@ -209,8 +187,7 @@ pub extern "C" fn lithgorn_text(sheet: &[u8], text: &mut [u8; TEXT]) -> usize
 }
 
 // The pass of one factor over a column, in place.
-#[unsafe(no_mangle)]
-pub extern "C" fn yates_pass(levels: u8, k: u8, factor: usize, column: &mut [i64]) -> u8
+pub fn yates_pass(levels: u8, k: u8, factor: usize, column: &mut [i64]) -> u8
     ensures value { result ≡ pass_refused (whole_plan levels k 1) factor column.old }
     ensures column_after { column.new ≡ pass_column (whole_plan levels k 1) factor column.old }
 {
@@ -218,14 +195,7 @@ pub extern "C" fn yates_pass(levels: u8, k: u8, factor: usize, column: &mut [i64
 }
 
 // The totals of all effects.
-#[unsafe(no_mangle)]
-pub extern "C" fn yates_totals(
-    levels: u8,
-    k: u8,
-    repeats: u8,
-    readings: &[i32],
-    totals: &mut [i64],
-) -> u8
+pub fn yates_totals(levels: u8, k: u8, repeats: u8, readings: &[i32], totals: &mut [i64]) -> u8
     ensures value { result ≡ totals_refused (whole_plan levels k repeats) readings.now totals.old }
     ensures totals_after { totals.new ≡ totals_column (whole_plan levels k repeats) readings.now totals.old }
 {
@@ -233,14 +203,7 @@ pub extern "C" fn yates_totals(
 }
 
 // The readings that have these totals; of runs that are made more than once, the run sums.
-#[unsafe(no_mangle)]
-pub extern "C" fn yates_recover(
-    levels: u8,
-    k: u8,
-    repeats: u8,
-    totals: &[i64],
-    readings: &mut [i32],
-) -> u8
+pub fn yates_recover(levels: u8, k: u8, repeats: u8, totals: &[i64], readings: &mut [i32]) -> u8
     ensures value { result ≡ recover_refused (whole_plan levels k repeats) totals.now readings.old }
     ensures readings_after { readings.new ≡ recover_column (whole_plan levels k repeats) totals.now readings.old }
 {
@@ -249,8 +212,7 @@ pub extern "C" fn yates_recover(
 
 // The analysis of variance: totals, row numerators, and the figures as 11 numbers and the checks as 2, in the order that `figure_numbers` and
 // `check_numbers` give.
-#[unsafe(no_mangle)]
-pub extern "C" fn anova_table(
+pub fn anova_table(
     levels: u8,
     k: u8,
     repeats: u8,
