@@ -223,7 +223,7 @@ def by_program(name, path, *words):
 FOUR_TABLE = text_of(FOUR).decode()
 
 NOT_SHOWN = [
-    by_program("no program", "/nowhere/factab", "/nowhere/factab cannot be started", "'rt check factab' builds it"),
+    by_program("no program", "/nowhere/factab", "/nowhere/factab cannot be started", "'rt run' in crates/factab builds it"),
     by_program("a program that fails", program("fails", "cat > /dev/null", "exit 3"), "fails: exit status 3"),
     by_program("a program that complains", program("complains", "cat > /dev/null", "echo no paper >&2"), "fails: no paper"),
     by_program("a program that prints nothing", program("silent", "cat > /dev/null"), "prints no table"),

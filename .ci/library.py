@@ -242,7 +242,7 @@ def check_missing(folder):
     script.parent.mkdir(parents=True)
     script.write_bytes((ROOT / "tools" / "install").read_bytes())
     found = ran("bash", script, prefix)
-    names = "target/bin/factab", "rt check factab", "liblithgorn.so", "tools/library", "tools/ftab", "man/ftab.1"
+    names = "crates/factab/out/factab", "rt run", "liblithgorn.so", "tools/library", "tools/ftab", "man/ftab.1"
     unnamed = [name for name in names if name not in found.stderr.decode()]
     if found.returncode != 1 or prefix.exists() or unnamed:
         return ["tools/install with nothing built: exit status %d, not named %s" % (found.returncode, unnamed)]

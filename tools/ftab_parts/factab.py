@@ -1,8 +1,8 @@
 # The program factab as the parts of the command use it: it is run on the bytes of a sheet, and the text that it prints is
 # read as a table. That text is proved; what the command makes of it is not.
 #
-# The program is that of the repository, target/bin/factab, or beside an installed command that of its folder bin; FACTAB in
-# the environment names another. It is started once for a sheet and ends by itself.
+# The program is that of the repository, crates/factab/out/factab, or beside an installed command that of its folder bin;
+# FACTAB in the environment names another. It is started once for a sheet and ends by itself.
 #
 # Defined here:
 #   TITLE            how a table of `ftab show` begins
@@ -58,7 +58,7 @@ def plain(text):
 def program():
     """The path of the program."""
     above = dirname(HOME)
-    built = join(above, "target", "bin") if basename(HOME) == "tools" else join(dirname(above), "bin")
+    built = join(above, "crates", "factab", "out") if basename(HOME) == "tools" else join(dirname(above), "bin")
     return os.environ.get("FACTAB") or join(built, "factab")
 
 
@@ -68,7 +68,7 @@ def text_of(sheet):
     try:
         found = subprocess.run([path], input=sheet, stdout=subprocess.PIPE, stderr=subprocess.PIPE)
     except OSError as why:
-        raise Problem("the program %s cannot be started (%s); 'rt check factab' builds it, FACTAB names another" % (
+        raise Problem("the program %s cannot be started (%s); 'rt run' in crates/factab builds it, FACTAB names another" % (
             path, why.strerror))
     if found.returncode or found.stderr:
         said = plain(found.stderr.decode(errors="replace").strip().split("\n")[-1])
