@@ -1,5 +1,5 @@
-# A stage of the gate: reads README.md, CHANGELOG.md, docs/*.md, crates.txt and the comments in specs, and compares what they
-# say with the repository. Prints FILE:LINE: and what is wrong; exits with 1 if anything is.
+# A stage of the gate: reads README.md, CHANGELOG.md, docs/*.md, crates.txt and the comments in specs and proofs, and compares
+# what they say with the repository. Prints FILE:LINE: and what is wrong; exits with 1 if anything is.
 #
 #   links       a relative link leads to a file, and after # to a heading of it
 #   paths       a file or folder cited in backticks exists: one with a / in it, or with one of ENDINGS; in blocks of code,
@@ -14,12 +14,12 @@
 #   inner       no crate names the folder Inner of another
 #   sizes       README.md, CHANGELOG.md and the cells of docs/CLAIMS.md are short
 #   versions    files that name the version name one: 1, a point and the number of the last landing in docs/CHANGES.md
-#   rules       numbers of rules are of docs/RULES.md where a comment in specs, or a cell or an item of a document, begins
-#               with them, as T9: or P8, P9: or V6 to V9 alone; and each rule has a row in docs/CLAIMS.md
+#   rules       numbers of rules are of docs/RULES.md where a comment in specs or proofs, or a cell or an item of a document,
+#               begins with them, as T9: or P8, P9: or V6 to V9 alone; and each rule has a row in docs/CLAIMS.md
 #
 # Paths are from the root, below crates/ or below docs/; one that begins with neither a crate nor a folder of the root,
 # such as Laws/Order.antt, is any path with that end. A star stands for any name, and so does a capital letter between
-# slashes. What is built, below target/, and paths outside the repository are passed over.
+# slashes. What is built, below target/ and crates/NAME/out/, and paths outside the repository are passed over.
 #
 # Documents speak of today: a name of the past stands without backticks.
 #
@@ -47,7 +47,8 @@ MOST_LINES, MOST_WORDS = {README: 120, CHANGELOG: 60}, 60
 ENDINGS = (".antt", ".rt", ".py", ".c", ".h", ".rs", ".md", ".cff", ".sheet", ".csv", ".svg", ".txt", ".edit")
 CODE_FOLDERS = ("crates", "include", "bindings", "reference", "tools", "bench", ".ci")
 EXAMPLES, EXAMPLE_ENDINGS = "examples", (".c", ".rs", ".py")
-PASSED_OVER = (".git", "target", "__pycache__")
+PASSED_OVER = (".git", "target", "out", "__pycache__")
+BUILT = r"target/|crates/\w+/out/"
 KIT = ("io", "libc", "std", "check", "bytes", "os")
 
 # Words of the kit's messages and of C that documents cite and no code here has.
@@ -171,11 +172,12 @@ def listed_crates():
             comment = None
         else:
             name, _, below_it = text.partition(":")
+            name = name.split()[0]
             if comment or not groups:
                 groups.append(comment or Group("", line, []))
                 comment = None
-            groups[-1].crates.append((line, name.strip()))
-            depends[name.strip()] = below_it.split()
+            groups[-1].crates.append((line, name))
+            depends[name] = below_it.split()
     return groups, depends
 
 
@@ -224,7 +226,7 @@ def is_path(text):
 
 def is_outside(text):
     """Whether a citation is of a path that is built, or outside the repository."""
-    return text.startswith(("/", "target/"))
+    return text.startswith("/") or bool(re.match(BUILT, text))
 
 
 def module_and_name(text):
@@ -278,7 +280,8 @@ def check_code(repository, document):
     tops = "|".join(re.escape(top) for top in sorted(repository.tops))
     return [(document, line, "there is no file or folder %s" % path)
             for line, code, passage in passages(read(document)) if code
-            for path in re.findall(r"(?<![\w./-])(?:%s)/[\w./-]*\w" % tops, passage) if path not in repository.paths]
+            for path in re.findall(r"(?<![\w./-])(?:%s)/[\w./-]*\w" % tops, passage)
+            if path not in repository.paths and not is_outside(path)]
 
 
 def check_name(repository, own):
@@ -396,7 +399,7 @@ def named_crates(repository, crate):
     for path in files:
         text = repository.own_text[path]
         names = {name for name in re.findall(r"(?<![\w:.])(\w+)::", text) if name not in modules}
-        for name in names | set(re.findall(r"Rattle·(\w+)", text)):
+        for name in names | set(re.findall(r"Rattle\.(\w+)", text)):
             if name in repository.depends and name != crate:
                 found.setdefault(name, path)
     return found
@@ -422,7 +425,7 @@ def check_inner(repository):
     """Files that name what only the functions of another crate ask or leave."""
     return [(path, 1, "it names the folder Inner of the crate %s" % name)
             for path, text in repository.own_text.items() if path.startswith("crates/")
-            for name in sorted(set(re.findall(r"Rattle·(\w+)(?:·specs)?(?:\.\w+)*\.Inner\b", text)))
+            for name in sorted(set(re.findall(r"Rattle\.(\w+)(?:\.\w+)*\.Inner\b", text)))
             if name != path.split("/")[1]]
 
 
@@ -486,7 +489,7 @@ def check_rules(repository):
     lines = rule_lines()
     order, found = list(lines), []
     for path in repository.files:
-        if not (fnmatchcase(path, "docs/*.md") or fnmatchcase(path, "crates/*/specs/*.antt")):
+        if not any(fnmatchcase(path, own) for own in ("docs/*.md", "crates/*/specs/*.antt", "crates/*/proofs/*.antt")):
             continue
         found += [(path, line, "there is no rule %s" % rule) for line, text in enumerate(read(path).splitlines(), 1)
                   for cited in rule_lists(path, text) for rule in rules_in(cited, order) if rule not in lines]
