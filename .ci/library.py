@@ -5,8 +5,10 @@
 #
 #   build       tools/library
 #   header      include/lithgorn.h by itself, as C of three standards and as C++, without a warning
-#   agreement   the calls of the header, their arguments and answers are those of the crate lithgorn, of the binding, and of
-#               the symbols of both libraries; its numbers and version are those of the binding; a document names each call
+#   agreement   the calls of the header, their arguments and answers are those of the crate lithgorn_c, of the binding, and
+#               of the symbols of both libraries; its numbers and version are those of the binding; a document names each
+#               call; the functions of lithgorn_c are those of lithgorn, with the same arguments and word for word the same
+#               clauses
 #   examples    examples/use.c, use.rs and use.py, built as docs/CALLS.md says, print examples/use.txt
 #   binding     the examples in bindings/python/lithgorn.py
 #   calls       those of reference/cases/library_cases.py, through the shared library, from a seed that is always the same
@@ -18,6 +20,7 @@
 # Defined here:
 #   ran, failed                           runs a command; the complaint that it failed
 #   header_calls, crate_calls             the calls of the header and of the crate: answer, and types of the arguments
+#   stated                                what the functions of a crate state
 #   header_numbers                        the numbers of the header, by name
 #   check_header .. check_install         complaints, by the list above
 #   complaints                            all of them
@@ -108,13 +111,32 @@ def rattle_types(kind):
     return [pointer, "size_t"] if kind.endswith("]") and not length else [pointer]
 
 
+def sources(crate):
+    """The sources of a crate."""
+    return "".join(path.read_text() for path in sorted((ROOT / "crates" / crate / "src").glob("*.rt")))
+
+
 def crate_calls():
     """The same of the crate's sources, as C sees them."""
-    text = "".join(path.read_text() for path in sorted((ROOT / "crates" / "lithgorn" / "src").glob("*.rt")))
+    text = sources("lithgorn_c")
     found = re.findall(r'pub extern "C" fn (\w+)\(([^)]*)\) -> (\w+)', text)
     return {name: (SCALARS[answer], [own for argument in arguments.split(",") if argument.strip()
                                      for own in rattle_types(argument.split(":")[1].strip())])
             for name, arguments, answer in found}
+
+
+def stated(crate):
+    """What the functions of a crate state, by their names: arguments, answer and clauses, white space aside."""
+    found = re.findall(r'(?ms)^pub (?:extern "C" )?fn (\w+)(\(.*?)^\{', sources(crate))
+    return {name: re.sub(r",(?=\))", "", "".join(text.split())) for name, text in found}
+
+
+def check_stated():
+    """Functions that lithgorn and lithgorn_c do not both have, or with other clauses."""
+    own, handed_on = stated("lithgorn"), stated("lithgorn_c")
+    complaints = [] if own else ["lithgorn has no functions"]
+    return complaints + ["%s: lithgorn and lithgorn_c do not state the same of it" % name
+                         for name in sorted(own.keys() | handed_on.keys()) if own.get(name) != handed_on.get(name)]
 
 
 def python_type(kind):
@@ -261,7 +283,7 @@ def complaints():
     """All that is wrong. What needs no library is done while that is built; without one nothing else is tried."""
     with ThreadPoolExecutor() as pool:
         building = pool.submit(ran, "tools/library")
-        found = check_header() + check_calls() + check_numbers() + check_documents()
+        found = check_header() + check_calls() + check_stated() + check_numbers() + check_documents()
         calls, built = library_cases.prepared(), failed("tools/library", building.result())
     if built:
         return found + built
