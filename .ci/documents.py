@@ -52,7 +52,7 @@ BUILT = r"target/|crates/\w+/out/"
 KIT = ("io", "libc", "std", "check", "bytes", "os")
 
 # Words of the kit's messages and of C that documents cite and no code here has.
-OUTSIDE = {"axioms", "logic-built", "libraries-built", "trusted", "restrict"}
+OUTSIDE = {"axioms", "logic-built", "libraries-built", "statements", "trusted", "restrict"}
 
 # What names the version, and where in it; in the document of changes the number of the last landing does.
 VERSIONS = {

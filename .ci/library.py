@@ -282,7 +282,7 @@ def check_install(folder):
 def complaints():
     """All that is wrong. What needs no library is done while that is built; without one nothing else is tried."""
     with ThreadPoolExecutor() as pool:
-        building = pool.submit(ran, "tools/library")
+        building = pool.submit(ran, "tools/library", timeout=None)
         found = check_header() + check_calls() + check_stated() + check_numbers() + check_documents()
         calls, built = library_cases.prepared(), failed("tools/library", building.result())
     if built:
