@@ -1,4 +1,4 @@
-/* Times the calls of crates/lithgorn beside plain C (plain.c), compiled with -O3 and with -O3 -march=native, in one run.
+/* Times the calls of crates/lithgorn_c beside plain C (plain.c), compiled with -O3 and with -O3 -march=native, in one run.
 
    Passes: a column is set from the readings, and the pass of each factor is called on it; the setting is counted, on every side alike.
    Totals: one call, from the readings to the totals of all effects.

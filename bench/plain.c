@@ -1,5 +1,5 @@
 /* The pass, the totals call, the recovery call and the table call in plain C: the same signatures, refusals in the same order, and numbers as
-   those of crates/lithgorn.
+   those of crates/lithgorn_c.
    SIDE is put before the names, so that one program can hold several compilations of this file. */
 #include <stddef.h>
 #include <stdint.h>

@@ -1,4 +1,4 @@
-/* Times whole runs of factab, each as a process, beside the table call of crates/lithgorn on the same readings and marks.
+/* Times whole runs of factab, each as a process, beside the table call of crates/lithgorn_c on the same readings and marks.
 
      whole PROGRAM EMPTY SHEET..
 
