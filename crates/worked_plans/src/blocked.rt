@@ -1,7 +1,9 @@
 // Plans of Table 12-3: the confounded effects, and the runs of each block, the blocks in the order of their first runs.
-use super::text::{print, print_effect, print_treatment};
+use super::text::{print, print_decimal, print_effect, print_treatment};
 use plan::{Plan, confounded};
 use runs::{Run, run};
+use std::io;
+use std::io::Stdout;
 
 fn block_of(p: Plan, number: usize) -> u8 {
     match run(p, number) {
@@ -13,75 +15,74 @@ fn block_of(p: Plan, number: usize) -> u8 {
 // Whether no run before has the block of this one.
 fn is_first(p: Plan, number: usize) -> bool {
     let block = block_of(p, number);
-    let mut i = 0;
-    while i < number {
+    for i in 0..number {
         if block_of(p, i) == block {
             return false;
         }
-        i += 1;
     }
     true
 }
 
 // The runs of a block, of which the first is given.
-fn print_block(p: Plan, first: usize) {
+fn print_block(out: Stdout, p: Plan, first: usize) -> io::Result<()> {
     let block = block_of(p, first);
-    print_treatment(p, first);
+    print_treatment(out, p, first)?;
     let n = sizes::runs(p);
-    let mut i = first;
-    while i < n {
+    for i in first..n {
         if i != first && block_of(p, i) == block {
-            print(b" ");
-            print_treatment(p, i);
+            print(out, b" ")?;
+            print_treatment(out, p, i)?;
         }
-        i += 1;
     }
-    print(b"\n");
+    print(out, b"\n")
 }
 
-fn print_blocks(p: Plan) {
+fn print_blocks(out: Stdout, p: Plan) -> io::Result<()> {
     let n = sizes::runs(p);
-    let mut i = 0;
-    while i < n {
+    for i in 0..n {
         if is_first(p, i) {
-            print_block(p, i);
+            print_block(out, p, i)?;
         }
-        i += 1;
     }
+    Ok(())
 }
 
 // All confounded effects: none has more letters than the ten that a plan may have.
-fn print_confounded(p: Plan) {
-    print(b"confounded");
-    let mut word = 0;
-    while word < 1024 {
+fn print_confounded(out: Stdout, p: Plan) -> io::Result<()> {
+    print(out, b"confounded")?;
+    for word in 0..1024 {
         if confounded(p, word) {
-            print(b" ");
-            print_effect(word);
+            print(out, b" ")?;
+            print_effect(out, word)?;
         }
-        word += 1;
     }
-    print(b"\n");
+    print(out, b"\n")
 }
 
 // The number of a plan, 1 to 4, as the table has it.
-fn print_roman(number: u8) {
+fn print_roman(out: Stdout, number: u8) -> io::Result<()> {
     if number == 1 {
-        print(b"(i)\n");
+        print(out, b"(i)\n")
     } else if number == 2 {
-        print(b"(ii)\n");
+        print(out, b"(ii)\n")
     } else if number == 3 {
-        print(b"(iii)\n");
+        print(out, b"(iii)\n")
     } else {
-        print(b"(iv)\n");
+        print(out, b"(iv)\n")
     }
 }
 
-pub fn print_blocked(k: u8, number: u8, blocks: u8, blockwords: [u16; 4]) {
-    print(b"table 12-3, ");
-    io::print_decimal(1, k as u64);
-    print(b" factors ");
-    print_roman(number);
+pub fn print_blocked(
+    out: Stdout,
+    k: u8,
+    number: u8,
+    blocks: u8,
+    blockwords: [u16; 4],
+) -> io::Result<()> {
+    print(out, b"table 12-3, ")?;
+    print_decimal(out, k as u64)?;
+    print(out, b" factors ")?;
+    print_roman(out, number)?;
     let p = Plan {
         levels: 2,
         k,
@@ -92,6 +93,6 @@ pub fn print_blocked(k: u8, number: u8, blocks: u8, blockwords: [u16; 4]) {
         blockwords,
         repeats: 1,
     };
-    print_confounded(p);
-    print_blocks(p);
+    print_confounded(out, p)?;
+    print_blocks(out, p)
 }

@@ -11,77 +11,80 @@ mod text;
 use blocked::print_blocked;
 use fractional::print_fractional;
 use grouped::print_group;
+use std::io;
+use std::io::Stdout;
 
 // The plans of Table 12-3: factors, the plan's number among those of as many factors, and its block words, the lowest bit for A.
-fn blocked_to_five() {
+fn blocked_to_five(out: Stdout) -> io::Result<()> {
     // ABC
-    print_blocked(3, 1, 1, [0b111, 0, 0, 0]);
+    print_blocked(out, 3, 1, 1, [0b111, 0, 0, 0])?;
     // ABCD
-    print_blocked(4, 1, 1, [0b1111, 0, 0, 0]);
+    print_blocked(out, 4, 1, 1, [0b1111, 0, 0, 0])?;
     // AD, ABC
-    print_blocked(4, 2, 2, [0b1001, 0b111, 0, 0]);
+    print_blocked(out, 4, 2, 2, [0b1001, 0b111, 0, 0])?;
     // ABCDE
-    print_blocked(5, 1, 1, [0b11111, 0, 0, 0]);
+    print_blocked(out, 5, 1, 1, [0b11111, 0, 0, 0])?;
     // BCE, ADE
-    print_blocked(5, 2, 2, [0b10110, 0b11001, 0, 0]);
+    print_blocked(out, 5, 2, 2, [0b10110, 0b11001, 0, 0])?;
     // AD, BE, ABC
-    print_blocked(5, 3, 3, [0b1001, 0b10010, 0b111, 0]);
+    print_blocked(out, 5, 3, 3, [0b1001, 0b10010, 0b111, 0])
 }
 
-fn blocked_to_seven() {
+fn blocked_to_seven(out: Stdout) -> io::Result<()> {
     // ABCDEF
-    print_blocked(6, 1, 1, [0b111111, 0, 0, 0]);
+    print_blocked(out, 6, 1, 1, [0b111111, 0, 0, 0])?;
     // ABCD, BCEF
-    print_blocked(6, 2, 2, [0b1111, 0b110110, 0, 0]);
+    print_blocked(out, 6, 2, 2, [0b1111, 0b110110, 0, 0])?;
     // ADE, BCE, ACF
-    print_blocked(6, 3, 3, [0b11001, 0b10110, 0b100101, 0]);
+    print_blocked(out, 6, 3, 3, [0b11001, 0b10110, 0b100101, 0])?;
     // AD, BE, CF, ABC
-    print_blocked(6, 4, 4, [0b1001, 0b10010, 0b100100, 0b111]);
+    print_blocked(out, 6, 4, 4, [0b1001, 0b10010, 0b100100, 0b111])?;
     // ABCDEFG
-    print_blocked(7, 1, 1, [0b1111111, 0, 0, 0]);
+    print_blocked(out, 7, 1, 1, [0b1111111, 0, 0, 0])?;
     // ABCD, ABEFG
-    print_blocked(7, 2, 2, [0b1111, 0b1110011, 0, 0]);
+    print_blocked(out, 7, 2, 2, [0b1111, 0b1110011, 0, 0])?;
     // ABCD, BCEF, ACFG
-    print_blocked(7, 3, 3, [0b1111, 0b110110, 0b1100101, 0]);
+    print_blocked(out, 7, 3, 3, [0b1111, 0b110110, 0b1100101, 0])?;
     // ACF, ADE, BCE, CDG
-    print_blocked(7, 4, 4, [0b100101, 0b11001, 0b10110, 0b1001100]);
+    print_blocked(out, 7, 4, 4, [0b100101, 0b11001, 0b10110, 0b1001100])
 }
 
 // The plans of Table 12-4: the plan's number, base factors, runs, and the words of the added factors.
-fn fractional_to_eight() {
+fn fractional_to_eight(out: Stdout) -> io::Result<()> {
     // C = AB
-    print_fractional(1, 2, 4, 1, [0b11, 0, 0, 0, 0, 0]);
+    print_fractional(out, 1, 2, 4, 1, [0b11, 0, 0, 0, 0, 0])?;
     // D = ABC
-    print_fractional(2, 3, 8, 1, [0b111, 0, 0, 0, 0, 0]);
+    print_fractional(out, 2, 3, 8, 1, [0b111, 0, 0, 0, 0, 0])?;
     // E = ABCD
-    print_fractional(3, 4, 16, 1, [0b1111, 0, 0, 0, 0, 0]);
+    print_fractional(out, 3, 4, 16, 1, [0b1111, 0, 0, 0, 0, 0])?;
     // D = ABC, E = BC
-    print_fractional(4, 3, 8, 2, [0b111, 0b110, 0, 0, 0, 0]);
+    print_fractional(out, 4, 3, 8, 2, [0b111, 0b110, 0, 0, 0, 0])?;
     // E = ABC, F = BCD
-    print_fractional(5, 4, 16, 2, [0b111, 0b1110, 0, 0, 0, 0]);
+    print_fractional(out, 5, 4, 16, 2, [0b111, 0b1110, 0, 0, 0, 0])?;
     // D = ABC, E = BC, F = AC
-    print_fractional(6, 3, 8, 3, [0b111, 0b110, 0b101, 0, 0, 0]);
+    print_fractional(out, 6, 3, 8, 3, [0b111, 0b110, 0b101, 0, 0, 0])?;
     // E = ABC, F = BCD, G = ABD
-    print_fractional(7, 4, 16, 3, [0b111, 0b1110, 0b1011, 0, 0, 0]);
+    print_fractional(out, 7, 4, 16, 3, [0b111, 0b1110, 0b1011, 0, 0, 0])?;
     // E = ABC, F = BCD, G = ABD, H = ACD
-    print_fractional(8, 4, 16, 4, [0b111, 0b1110, 0b1011, 0b1101, 0, 0]);
+    print_fractional(out, 8, 4, 16, 4, [0b111, 0b1110, 0b1011, 0b1101, 0, 0])
 }
 
 // The groups of Table 43: the name, and the word.
-fn groups_of_three_levels() {
+fn groups_of_three_levels(out: Stdout) -> io::Result<()> {
     // A, B squared, C squared
-    print_group(b"W:", 25);
+    print_group(out, b"W:", 25)?;
     // A, B squared, C
-    print_group(b"X:", 16);
+    print_group(out, b"X:", 16)?;
     // A, B, C squared
-    print_group(b"Y:", 22);
+    print_group(out, b"Y:", 22)?;
     // A, B, C
-    print_group(b"Z:", 13);
+    print_group(out, b"Z:", 13)
 }
 
-fn main() {
-    blocked_to_five();
-    blocked_to_seven();
-    fractional_to_eight();
-    groups_of_three_levels();
+fn main(rt: HostRuntime) -> io::Result<()> {
+    let out = rt.stdout();
+    blocked_to_five(out)?;
+    blocked_to_seven(out)?;
+    fractional_to_eight(out)?;
+    groups_of_three_levels(out)
 }
