@@ -4,6 +4,8 @@ ghost use Rattle.std.specs.Prelude.{◌≤◌};
 use super::text::{print, print_number, print_refusal};
 use blockings::{Blockings, blockings};
 use numerals::{byte, pair};
+use std::io;
+use std::io::Stdout;
 
 // As many places as the most words take, and three more.
 const MOST: usize = 3363;
@@ -19,10 +21,8 @@ fn before(place: usize) -> u16 {
 // A column before the call.
 fn fresh_column() -> [u16; MOST] {
     let mut column = [0; MOST];
-    let mut place = 0;
-    while place < MOST {
+    for place in 0..MOST {
         column[place] = before(place);
-        place += 1;
     }
     column
 }
@@ -37,10 +37,8 @@ fn one_if_kept(number: u16, place: usize) -> usize
 // How many places do.
 fn kept(column: &[u16]) -> usize {
     let mut n = 0;
-    let mut place = 0;
-    while place < column.len() {
+    for place in 0..column.len() {
         n += one_if_kept(column[place], place);
-        place += 1;
     }
     n
 }
@@ -53,60 +51,58 @@ fn summed(sum: u64, number: u16) -> u64 {
 // The checksum of all places, which tells their order.
 fn checksum(column: &[u16]) -> u64 {
     let mut sum = 0;
-    let mut place = 0;
-    while place < column.len() {
+    for place in 0..column.len() {
         sum = summed(sum, column[place]);
-        place += 1;
     }
     sum
 }
 
-fn print_place(number: u16) {
-    print_number(number as u64);
+fn print_place(out: Stdout, number: u16) -> io::Result<()> {
+    print_number(out, number as u64)
 }
 
-fn print_column(column: &[u16]) {
-    print(b", column");
-    let mut place = 0;
-    while place < column.len() {
-        print_place(column[place]);
-        place += 1;
+fn print_column(out: Stdout, column: &[u16]) -> io::Result<()> {
+    print(out, b", column")?;
+    for place in 0..column.len() {
+        print_place(out, column[place])?;
     }
+    Ok(())
 }
 
-fn print_answer(answer: Blockings) {
+fn print_answer(out: Stdout, answer: Blockings) -> io::Result<()> {
     match answer {
         Blockings::Written(lists) => {
-            print(b" written");
-            print_number(lists as u64);
+            print(out, b" written")?;
+            print_number(out, lists as u64)?;
         }
-        Blockings::Refused(refused) => print_refusal(refused),
+        Blockings::Refused(refused) => print_refusal(out, refused)?,
     }
+    Ok(())
 }
 
-fn print_places(column: &[u16]) {
-    print(b", kept");
-    print_number(kept(column) as u64);
-    print(b", checksum");
-    print_number(checksum(column));
+fn print_places(out: Stdout, column: &[u16]) -> io::Result<()> {
+    print(out, b", kept")?;
+    print_number(out, kept(column) as u64)?;
+    print(out, b", checksum")?;
+    print_number(out, checksum(column))?;
     if column.len() <= FEW {
-        print_column(column);
+        print_column(out, column)?;
     }
-    print(b"\n");
+    print(out, b"\n")
 }
 
 // The call and the column after it.
-fn lend(k: u8, words: u8, column: &mut [u16]) {
-    print_answer(blockings(k, words, column));
-    print_places(column);
+fn lend(out: Stdout, k: u8, words: u8, column: &mut [u16]) -> io::Result<()> {
+    print_answer(out, blockings(k, words, column))?;
+    print_places(out, column)
 }
 
 // After the call the rest is k and the number of words, a byte each, and how many places are lent, two bytes.
-pub fn try_blocking(rest: &[u8]) {
+pub fn try_blocking(out: Stdout, rest: &[u8]) -> io::Result<()> {
     let places = pair(byte(rest, 3), byte(rest, 4)) as usize;
     if places > MOST {
-        return;
+        return Ok(());
     }
     let mut column = fresh_column();
-    lend(byte(rest, 1), byte(rest, 2), &mut column[..places]);
+    lend(out, byte(rest, 1), byte(rest, 2), &mut column[..places])
 }

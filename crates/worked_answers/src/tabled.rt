@@ -8,6 +8,8 @@ use fields::body;
 use numerals::byte;
 use plan::Plan;
 use screening::screen;
+use std::io;
+use std::io::Stdout;
 
 // The screening call among the calls of field 9.
 const SCREENING: u8 = 7;
@@ -21,37 +23,35 @@ const TOTAL_BEFORE: i64 = -123456789;
 const ROW_BEFORE: u64 = 987654321;
 
 fn is_kept(totals: &[i64; MOST], rows: &[u64; MOST]) -> bool {
-    let mut i = 0;
-    while i < MOST {
+    for i in 0..MOST {
         if totals[i] != TOTAL_BEFORE || rows[i] != ROW_BEFORE {
             return false;
         }
-        i += 1;
     }
     true
 }
 
 // The first r rows.
-fn print_rows(rows: &[u64; MOST], r: usize) {
-    print(b" made, rows");
-    let mut row = 0;
-    while row < MOST && row < r {
-        print_number(rows[row]);
-        row += 1;
+fn print_rows(out: Stdout, rows: &[u64; MOST], r: usize) -> io::Result<()> {
+    print(out, b" made, rows")?;
+    for row in rows.iter().take(r) {
+        print_number(out, *row)?;
     }
+    Ok(())
 }
 
 // The rows and the error of a table, or the number of its refusal.
-fn print_answer(answer: Table, rows: &[u64; MOST], r: usize) {
+fn print_answer(out: Stdout, answer: Table, rows: &[u64; MOST], r: usize) -> io::Result<()> {
     match answer {
         Table::Made(figures) => {
-            print_rows(rows, r);
-            print(b", error");
-            print_number(figures.error.degrees);
-            print_number(figures.error.numerator);
+            print_rows(out, rows, r)?;
+            print(out, b", error")?;
+            print_number(out, figures.error.degrees)?;
+            print_number(out, figures.error.numerator)?;
         }
-        Table::Refused(refused) => print_refusal(refused),
+        Table::Refused(refused) => print_refusal(out, refused)?,
     }
+    Ok(())
 }
 
 fn answer_of(
@@ -69,31 +69,41 @@ fn answer_of(
 }
 
 // Lends the readings, and so many totals and rows.
-fn try_lent(call: u8, p: Plan, body: &[u8], readings: &mut [i32], marks: &[u8], n: usize, r: usize)
+fn try_lent(
+    out: Stdout,
+    call: u8,
+    p: Plan,
+    body: &[u8],
+    readings: &mut [i32],
+    marks: &[u8],
+    n: usize,
+    r: usize,
+) -> io::Result<()>
     requires { (n ≤ 32) × (r ≤ 32) }
 {
     put_readings(body, readings);
     let mut totals = [TOTAL_BEFORE; MOST];
     let mut rows = [ROW_BEFORE; MOST];
     let answer = answer_of(call, p, readings, marks, &mut totals[..n], &mut rows[..r]);
-    print_answer(answer, &rows, r);
+    print_answer(out, answer, &rows, r)?;
     if is_kept(&totals, &rows) {
-        print(b", unchanged\n");
+        print(out, b", unchanged\n")
     } else {
-        print(b", changed\n");
+        print(out, b", changed\n")
     }
 }
 
 // The rest is the call, and how many totals and rows are lent, a byte each; readings and marks are those of the record.
-pub fn try_table(p: Plan, record: &[u8], rest: &[u8]) {
+pub fn try_table(out: Stdout, p: Plan, record: &[u8], rest: &[u8]) -> io::Result<()> {
     let readings = body(record, 4, 0);
     let count = readings.len() / 4;
     if count > MOST {
-        return;
+        return Ok(());
     }
     let mut column = [0i32; MOST];
     let marks = body(record, 5, 0);
     try_lent(
+        out,
         byte(rest, 0),
         p,
         readings,
@@ -101,5 +111,5 @@ pub fn try_table(p: Plan, record: &[u8], rest: &[u8]) {
         marks,
         (byte(rest, 1) % 33) as usize,
         (byte(rest, 2) % 33) as usize,
-    );
+    )
 }

@@ -1,16 +1,23 @@
 // Printing of names and numbers.
+use std::io;
+use std::io::{Stdout, Write};
 
-pub fn print(text: &[u8]) {
-    io::write_all(1, text);
+pub fn print(mut out: Stdout, text: &[u8]) -> io::Result<()> {
+    out.write_all(text)
+}
+
+// A number in decimal digits.
+pub fn print_decimal(out: Stdout, n: u64) -> io::Result<()> {
+    print!(out; "{n}")
 }
 
 // A number after a space.
-pub fn print_number(n: u64) {
-    print(b" ");
-    io::print_decimal(1, n);
+pub fn print_number(out: Stdout, n: u64) -> io::Result<()> {
+    print(out, b" ")?;
+    print_decimal(out, n)
 }
 
-pub fn print_refusal(number: u8) {
-    print(b" refused");
-    print_number(number as u64);
+pub fn print_refusal(out: Stdout, number: u8) -> io::Result<()> {
+    print(out, b" refused")?;
+    print_number(out, number as u64)
 }

@@ -3,34 +3,43 @@ use super::text::{print, print_number};
 use effects::{divisors, rows, weights};
 use plan::Plan;
 use sizes::runs;
+use std::io;
+use std::io::Stdout;
 
 // As many effects as the largest plan has.
 const MOST: usize = 1024;
 
-fn print_effect(row: u16, divisor: u32, weight: u32) {
-    print_number(row as u64);
-    print_number(divisor as u64);
-    print_number(weight as u64);
-    print(b"\n");
+fn print_effect(out: Stdout, row: u16, divisor: u32, weight: u32) -> io::Result<()> {
+    print_number(out, row as u64)?;
+    print_number(out, divisor as u64)?;
+    print_number(out, weight as u64)?;
+    print(out, b"\n")
 }
 
 // The n effects, and the first place beyond them where there is one.
-fn print_effects(n: usize, rows: &[u16; MOST], divisors: &[u32; MOST], weights: &[u32; MOST]) {
-    let mut e = 0;
-    while e < MOST && e <= n {
-        print_effect(rows[e], divisors[e], weights[e]);
-        e += 1;
+fn print_effects(
+    out: Stdout,
+    n: usize,
+    rows: &[u16; MOST],
+    divisors: &[u32; MOST],
+    weights: &[u32; MOST],
+) -> io::Result<()> {
+    for e in 0..MOST {
+        if e <= n {
+            print_effect(out, rows[e], divisors[e], weights[e])?;
+        }
     }
+    Ok(())
 }
 
 // The call takes the plan alone.
-pub fn try_effects(p: Plan) {
+pub fn try_effects(out: Stdout, p: Plan) -> io::Result<()> {
     let n = runs(p);
     let rows = rows(p);
     let divisors = divisors(p);
     let weights = weights(p);
-    print(b" effects");
-    print_number(n as u64);
-    print(b"\n");
-    print_effects(n, &rows, &divisors, &weights);
+    print(out, b" effects")?;
+    print_number(out, n as u64)?;
+    print(out, b"\n")?;
+    print_effects(out, n, &rows, &divisors, &weights)
 }

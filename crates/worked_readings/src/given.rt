@@ -6,10 +6,8 @@ pub const MOST: usize = 1100;
 // The number of some bytes, the highest first, in two's complement.
 fn total_of(bytes: &[u8]) -> i64 {
     let mut bits: u64 = 0;
-    let mut i = 0;
-    while i < bytes.len() {
+    for i in 0..bytes.len() {
         bits = bits % 72_057_594_037_927_936 * 256 + bytes[i] as u64;
-        i += 1;
     }
     if bits < 9_223_372_036_854_775_808 {
         return bits as i64;
@@ -21,15 +19,13 @@ fn total_of(bytes: &[u8]) -> i64 {
 pub fn totals_in(body: &[u8]) -> [i64; MOST] {
     let mut totals = [0; MOST];
     let mut at = 4;
-    let mut i = 0;
-    while i < MOST {
+    for i in 0..MOST {
         let end = at + 8;
         if body.len() < end {
             return totals;
         }
         totals[i] = total_of(&body[at..end]);
         at = end;
-        i += 1;
     }
     totals
 }

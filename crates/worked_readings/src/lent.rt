@@ -1,5 +1,7 @@
 // The column of readings that is lent: what it holds before the call, and what it holds after it.
 use super::text::{print, print_number, print_value, size};
+use std::io;
+use std::io::Stdout;
 
 // Of a column of more places than this the ends are printed, and one number.
 const FEW: usize = 100;
@@ -14,21 +16,17 @@ fn before(place: usize) -> i32 {
 }
 
 pub fn fill(column: &mut [i32]) {
-    let mut i = 0;
-    while i < column.len() {
+    for i in 0..column.len() {
         column[i] = before(i);
-        i += 1;
     }
 }
 
 // Whether all places hold what they held before the call.
 pub fn is_kept(column: &[i32]) -> bool {
-    let mut i = 0;
-    while i < column.len() {
+    for i in 0..column.len() {
         if column[i] != before(i) {
             return false;
         }
-        i += 1;
     }
     true
 }
@@ -45,42 +43,39 @@ fn counted(number: u64, value: i64) -> u64 {
 // The checksum of all values, which tells their order.
 fn checksum(values: &[i32]) -> u64 {
     let mut number = 0;
-    let mut i = 0;
-    while i < values.len() {
+    for i in 0..values.len() {
         number = counted(number, values[i] as i64);
-        i += 1;
     }
     number
 }
 
-fn print_values(values: &[i32]) {
-    let mut i = 0;
-    while i < values.len() {
-        print_value(values[i] as i64);
-        i += 1;
+fn print_values(out: Stdout, values: &[i32]) -> io::Result<()> {
+    for i in 0..values.len() {
+        print_value(out, values[i] as i64)?;
     }
+    Ok(())
 }
 
 // The ends of a column and its checksum.
-fn print_ends(column: &[i32]) {
+fn print_ends(out: Stdout, column: &[i32]) -> io::Result<()> {
     let n = column.len();
-    print_number(n as u64);
+    print_number(out, n as u64)?;
     if n < ENDS {
-        return;
+        return Ok(());
     }
-    print(b", first");
-    print_values(&column[..ENDS]);
-    print(b", last");
-    print_values(&column[n - ENDS..]);
-    print(b", checksum");
-    print_number(checksum(column));
+    print(out, b", first")?;
+    print_values(out, &column[..ENDS])?;
+    print(out, b", last")?;
+    print_values(out, &column[n - ENDS..])?;
+    print(out, b", checksum")?;
+    print_number(out, checksum(column))
 }
 
-pub fn print_readings(column: &[i32]) {
-    print(b" readings");
+pub fn print_readings(out: Stdout, column: &[i32]) -> io::Result<()> {
+    print(out, b" readings")?;
     if column.len() > FEW {
-        print_ends(column);
+        print_ends(out, column)
     } else {
-        print_values(column);
+        print_values(out, column)
     }
 }

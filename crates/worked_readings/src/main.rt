@@ -4,69 +4,84 @@
 
 mod given;
 mod lent;
+mod reads;
 mod text;
 
 use contents::plan_in;
 use fields::body;
 use given::{MOST, totals_in};
 use lent::{fill, is_kept, print_readings};
-use libc::STDIN_FILENO;
 use numerals::{byte, pair};
 use plan::Plan;
+use reads::read_full;
 use recovery::{Answer, recover};
-use text::{print, print_refusal};
+use std::io;
+use std::io::{Stdin, Stdout};
+use text::{print, print_decimal, print_refusal};
+
+// The most bytes of a record: its length is two bytes.
+const MOST_RECORD: usize = 65536;
 
 // The call: the readings, or the number of its refusal, and whether a place of the column has changed.
-fn work(p: Plan, totals: &[i64], readings: &mut [i32]) {
+fn work(out: Stdout, p: Plan, totals: &[i64], readings: &mut [i32]) -> io::Result<()> {
     fill(readings);
     match recover(p, totals, readings) {
-        Answer::Done => print_readings(readings),
-        Answer::Refused(number) => print_refusal(number),
+        Answer::Done => print_readings(out, readings)?,
+        Answer::Refused(number) => print_refusal(out, number)?,
     }
     if is_kept(readings) {
-        print(b", unchanged\n");
+        print(out, b", unchanged\n")
     } else {
-        print(b", changed\n");
+        print(out, b", changed\n")
     }
 }
 
 // Field 9 is how many readings and how many totals are lent, two bytes each, and the first totals; the others are 0.
-fn lend(record: &[u8]) {
+fn lend(out: Stdout, record: &[u8]) -> io::Result<()> {
     let rest = body(record, 9, 0);
     let places = pair(byte(rest, 0), byte(rest, 1)) as usize;
     let count = pair(byte(rest, 2), byte(rest, 3)) as usize;
     if places > MOST {
-        return;
+        return Ok(());
     }
     if count > MOST {
-        return;
+        return Ok(());
     }
     let totals = totals_in(rest);
     let mut readings = [0i32; MOST];
-    work(plan_in(record), &totals[..count], &mut readings[..places]);
+    work(
+        out,
+        plan_in(record),
+        &totals[..count],
+        &mut readings[..places],
+    )
 }
 
 // Reads a record and writes its line. Answers whether there was a whole record.
-fn work_record(number: u64) -> bool {
+fn work_record(from: Stdin, out: Stdout, number: u64) -> io::Result<bool> {
     let mut head = [0u8; 2];
-    if io::read_full(STDIN_FILENO, &mut head) < 2 {
-        return false;
+    if read_full(from, &mut head)? < 2 {
+        return Ok(false);
     }
     let length = pair(head[0], head[1]) as usize;
-    let mut record = io::large_buffer();
-    if io::read_full(STDIN_FILENO, &mut record[..length]) < length {
-        return false;
+    let mut record = [0u8; MOST_RECORD];
+    if read_full(from, &mut record[..length])? < length {
+        return Ok(false);
     }
-    io::print_decimal(1, number);
-    print(b":");
-    lend(&record[..length]);
-    true
+    print_decimal(out, number)?;
+    print(out, b":")?;
+    lend(out, &record[..length])?;
+    Ok(true)
 }
 
 // The loop has to end and the input need not, so that there is a last number, which no input comes to.
-fn main() {
-    let mut number = 1;
-    while number < u64::MAX && work_record(number) {
-        number += 1;
+fn main(rt: HostRuntime) -> io::Result<()> {
+    let out = rt.stdout();
+    let from = rt.stdin();
+    for number in 1..u64::MAX {
+        if !work_record(from, out, number)? {
+            break;
+        }
     }
+    Ok(())
 }

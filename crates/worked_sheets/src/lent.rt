@@ -2,6 +2,8 @@
 ghost use Rattle.std.specs.Prelude.{◌≤◌, length};
 
 use super::text::{print, print_number, print_value, size};
+use std::io;
+use std::io::Stdout;
 
 // Of more readings than this one number is printed.
 const MOST_SHOWN: usize = 40;
@@ -14,10 +16,8 @@ fn before(place: usize) -> i32 {
 }
 
 pub fn fill(column: &mut [i32]) {
-    let mut i = 0;
-    while i < column.len() {
+    for i in 0..column.len() {
         column[i] = before(i);
-        i += 1;
     }
 }
 
@@ -25,25 +25,21 @@ pub fn fill(column: &mut [i32]) {
 fn count_written(column: &[i32]) -> usize
     ensures { result ≤ length column.now }
 {
-    let mut i = 0;
-    while i < column.len() {
+    for i in 0..column.len() {
         if column[i] == before(i) {
             return i;
         }
-        i += 1;
     }
-    i
+    column.len()
 }
 
 // How many places kept their numbers.
 fn count_kept(column: &[i32]) -> usize {
     let mut kept = 0;
-    let mut i = 0;
-    while i < column.len() {
+    for i in 0..column.len() {
         if column[i] == before(i) {
             kept += 1;
         }
-        i += 1;
     }
     kept
 }
@@ -60,32 +56,29 @@ fn counted(number: u64, value: i64) -> u64 {
 // A number by which every value counts.
 fn count_values(values: &[i32]) -> u64 {
     let mut number = 0;
-    let mut i = 0;
-    while i < values.len() {
+    for i in 0..values.len() {
         number = counted(number, values[i] as i64);
-        i += 1;
     }
     number
 }
 
-fn print_values(values: &[i32]) {
-    let mut i = 0;
-    while i < values.len() {
-        print_value(values[i] as i64);
-        i += 1;
+fn print_values(out: Stdout, values: &[i32]) -> io::Result<()> {
+    for i in 0..values.len() {
+        print_value(out, values[i] as i64)?;
     }
+    Ok(())
 }
 
 // The readings that are written, and how many places kept their numbers.
-pub fn print_column(column: &[i32]) {
+pub fn print_column(out: Stdout, column: &[i32]) -> io::Result<()> {
     let n = count_written(column);
-    print(b", readings");
-    print_number(n as u64);
+    print(out, b", readings")?;
+    print_number(out, n as u64)?;
     if n > MOST_SHOWN {
-        print_number(count_values(&column[..n]));
+        print_number(out, count_values(&column[..n]))?;
     } else {
-        print_values(&column[..n]);
+        print_values(out, &column[..n])?;
     }
-    print(b", kept");
-    print_number(count_kept(column) as u64);
+    print(out, b", kept")?;
+    print_number(out, count_kept(column) as u64)
 }

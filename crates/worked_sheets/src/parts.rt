@@ -1,78 +1,80 @@
 // Printing of the answer, the plan and the marks.
-use super::text::{print, print_number};
+use super::text::{print, print_decimal, print_number};
 use columns::Answer;
 use plan::Plan;
+use std::io;
+use std::io::Stdout;
 
-pub fn print_answer(answer: Answer) {
+pub fn print_answer(out: Stdout, answer: Answer) -> io::Result<()> {
     match answer {
-        Answer::Done => print(b" done"),
+        Answer::Done => print(out, b" done")?,
         Answer::Refused(number) => {
-            print(b" refused");
-            print_number(number as u64);
+            print(out, b" refused")?;
+            print_number(out, number as u64)?;
         }
     }
+    Ok(())
 }
 
 // A place of the added factors. One that does not count is printed only if it is not 0.
-fn print_factor(word: u16, sign: u8, counts: bool) {
+fn print_factor(out: Stdout, word: u16, sign: u8, counts: bool) -> io::Result<()> {
     if counts || word != 0 || sign != 0 {
-        print_number(word as u64);
-        print(b"/");
-        io::print_decimal(1, sign as u64);
+        print_number(out, word as u64)?;
+        print(out, b"/")?;
+        print_decimal(out, sign as u64)?;
     }
+    Ok(())
 }
 
-fn print_added(p: Plan) {
+fn print_added(out: Stdout, p: Plan) -> io::Result<()> {
     let words = p.words;
     let signs = p.signs;
     let count = p.added as usize;
-    let mut i = 0;
-    while i < 6 {
-        print_factor(words[i], signs[i], i < count);
-        i += 1;
+    for i in 0..6 {
+        print_factor(out, words[i], signs[i], i < count)?;
     }
+    Ok(())
 }
 
 // A place of the block words, likewise.
-fn print_block(word: u16, counts: bool) {
+fn print_block(out: Stdout, word: u16, counts: bool) -> io::Result<()> {
     if counts || word != 0 {
-        print_number(word as u64);
+        print_number(out, word as u64)?;
     }
+    Ok(())
 }
 
-fn print_blocks(p: Plan) {
+fn print_blocks(out: Stdout, p: Plan) -> io::Result<()> {
     let words = p.blockwords;
     let count = p.blocks as usize;
-    let mut i = 0;
-    while i < 4 {
-        print_block(words[i], i < count);
-        i += 1;
+    for i in 0..4 {
+        print_block(out, words[i], i < count)?;
     }
+    Ok(())
 }
 
-pub fn print_plan(p: Plan) {
-    print(b", plan");
-    print_number(p.levels as u64);
-    print_number(p.k as u64);
-    print_number(p.repeats as u64);
-    print(b", added");
-    print_number(p.added as u64);
-    print_added(p);
-    print(b", blocks");
-    print_number(p.blocks as u64);
-    print_blocks(p);
+pub fn print_plan(out: Stdout, p: Plan) -> io::Result<()> {
+    print(out, b", plan")?;
+    print_number(out, p.levels as u64)?;
+    print_number(out, p.k as u64)?;
+    print_number(out, p.repeats as u64)?;
+    print(out, b", added")?;
+    print_number(out, p.added as u64)?;
+    print_added(out, p)?;
+    print(out, b", blocks")?;
+    print_number(out, p.blocks as u64)?;
+    print_blocks(out, p)
 }
 
 // The marks with no space between them.
-pub fn print_marks(marks: &[u8]) {
-    print(b", marks");
-    print_number(marks.len() as u64);
+pub fn print_marks(out: Stdout, marks: &[u8]) -> io::Result<()> {
+    print(out, b", marks")?;
+    print_number(out, marks.len() as u64)?;
     if marks.len() > 0 {
-        print(b" ");
+        print(out, b" ")?;
     }
-    let mut i = 0;
-    while i < marks.len() {
-        io::print_decimal(1, marks[i] as u64);
-        i += 1;
+    for i in 0..marks.len() {
+        print_decimal(out, marks[i] as u64)?;
     }
+    Ok(())
 }

@@ -2,30 +2,42 @@
 // program must write, and says how both are laid out.
 #![tactic(auto)]
 
-use libc::{STDIN_FILENO, STDOUT_FILENO};
+mod reads;
+
 use numerals::pair;
 use printing::{TEXT, print_sheet};
+use reads::read_full;
+use std::io;
+use std::io::{Stdin, Stdout, Write};
 
-// Reads a record and writes the text of its sheet. Answers whether there was a whole record and all was written.
-fn work_record() -> bool {
+// The most bytes of a sheet: its length is two bytes.
+const MOST_SHEET: usize = 65536;
+
+// Reads a record and writes the text of its sheet. Answers whether there was a whole record.
+fn work_record(from: Stdin, mut out: Stdout) -> io::Result<bool> {
     let mut head = [0u8; 2];
-    if io::read_full(STDIN_FILENO, &mut head) < 2 {
-        return false;
+    if read_full(from, &mut head)? < 2 {
+        return Ok(false);
     }
     let length = pair(head[0], head[1]) as usize;
-    let mut sheet = io::large_buffer();
-    if io::read_full(STDIN_FILENO, &mut sheet[..length]) < length {
-        return false;
+    let mut sheet = [0u8; MOST_SHEET];
+    if read_full(from, &mut sheet[..length])? < length {
+        return Ok(false);
     }
     let mut text = [0u8; TEXT];
     let n = print_sheet(&sheet[..length], &mut text);
-    io::write_all(STDOUT_FILENO, &text[..n])
+    out.write_all(&text[..n])?;
+    Ok(true)
 }
 
-// The loop has to end and the input need not, so the turns are counted down from a number that no input uses up.
-fn main() {
-    let mut turns = u64::MAX;
-    while turns > 0 && work_record() {
-        turns -= 1;
+// The loop has to end and the input need not, so the turns are counted up to a number that no input comes to.
+fn main(rt: HostRuntime) -> io::Result<()> {
+    let out = rt.stdout();
+    let from = rt.stdin();
+    for _ in 0..u64::MAX {
+        if !work_record(from, out)? {
+            break;
+        }
     }
+    Ok(())
 }

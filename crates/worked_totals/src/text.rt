@@ -1,13 +1,20 @@
 // Printing of numbers and columns.
+use std::io;
+use std::io::{Stdout, Write};
 
-pub fn print(text: &[u8]) {
-    io::write_all(1, text);
+pub fn print(mut out: Stdout, text: &[u8]) -> io::Result<()> {
+    out.write_all(text)
+}
+
+// A number in decimal digits.
+pub fn print_decimal(out: Stdout, n: u64) -> io::Result<()> {
+    print!(out; "{n}")
 }
 
 // A number after a space.
-pub fn print_number(n: u64) {
-    print(b" ");
-    io::print_decimal(1, n);
+pub fn print_number(out: Stdout, n: u64) -> io::Result<()> {
+    print(out, b" ")?;
+    print_decimal(out, n)
 }
 
 // The value without its sign. Below 0 the rest is one less than the size, so that it fits an i64 where the size does not.
@@ -20,22 +27,20 @@ fn size(value: i64) -> u64 {
 }
 
 // A value after a space, with a minus sign where it is below 0.
-pub fn print_value(value: i64) {
+pub fn print_value(out: Stdout, value: i64) -> io::Result<()> {
     if value < 0 {
-        print(b" -");
+        print(out, b" -")?;
     } else {
-        print(b" ");
+        print(out, b" ")?;
     }
-    io::print_decimal(1, size(value));
+    print_decimal(out, size(value))
 }
 
 // The rest of a line: a colon and the values of a column.
-pub fn print_column(column: &[i64]) {
-    print(b":");
-    let mut i = 0;
-    while i < column.len() {
-        print_value(column[i]);
-        i += 1;
+pub fn print_column(out: Stdout, column: &[i64]) -> io::Result<()> {
+    print(out, b":")?;
+    for value in column {
+        print_value(out, *value)?;
     }
-    print(b"\n");
+    print(out, b"\n")
 }
