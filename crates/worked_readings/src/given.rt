@@ -18,14 +18,12 @@ fn total_of(bytes: &[u8]) -> i64 {
 // The totals of a body, eight bytes each, after its first four bytes. Those that do not stand there are 0.
 pub fn totals_in(body: &[u8]) -> [i64; MOST] {
     let mut totals = [0; MOST];
-    let mut at = 4;
     for i in 0..MOST {
-        let end = at + 8;
-        if body.len() < end {
+        let at = 4 + i * 8;
+        if body.len() < at + 8 {
             return totals;
         }
-        totals[i] = total_of(&body[at..end]);
-        at = end;
+        totals[i] = total_of(&body[at..at + 8]);
     }
     totals
 }
