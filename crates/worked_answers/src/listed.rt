@@ -37,8 +37,8 @@ fn one_if_kept(number: u16, place: usize) -> usize
 // How many places do.
 fn kept(column: &[u16]) -> usize {
     let mut n = 0;
-    for place in 0..column.len() {
-        n += one_if_kept(column[place], place);
+    for (place, number) in column.iter().enumerate() {
+        n += one_if_kept(*number, place);
     }
     n
 }
@@ -51,8 +51,8 @@ fn summed(sum: u64, number: u16) -> u64 {
 // The checksum of all places, which tells their order.
 fn checksum(column: &[u16]) -> u64 {
     let mut sum = 0;
-    for place in 0..column.len() {
-        sum = summed(sum, column[place]);
+    for number in column {
+        sum = summed(sum, *number);
     }
     sum
 }
@@ -63,8 +63,8 @@ fn print_place(out: Stdout, number: u16) -> io::Result<()> {
 
 fn print_column(out: Stdout, column: &[u16]) -> io::Result<()> {
     print(out, b", column")?;
-    for place in 0..column.len() {
-        print_place(out, column[place])?;
+    for number in column {
+        print_place(out, *number)?;
     }
     Ok(())
 }

@@ -6,8 +6,8 @@ pub const MOST: usize = 1100;
 // The number of some bytes, the highest first, in two's complement.
 fn total_of(bytes: &[u8]) -> i64 {
     let mut bits: u64 = 0;
-    for i in 0..bytes.len() {
-        bits = bits % 72_057_594_037_927_936 * 256 + bytes[i] as u64;
+    for byte in bytes {
+        bits = bits % 72_057_594_037_927_936 * 256 + *byte as u64;
     }
     if bits < 9_223_372_036_854_775_808 {
         return bits as i64;

@@ -16,15 +16,15 @@ fn before(place: usize) -> i32 {
 }
 
 pub fn fill(column: &mut [i32]) {
-    for i in 0..column.len() {
-        column[i] = before(i);
+    for (i, place) in column.iter_mut().enumerate() {
+        *place = before(i);
     }
 }
 
 // Whether all places hold what they held before the call.
 pub fn is_kept(column: &[i32]) -> bool {
-    for i in 0..column.len() {
-        if column[i] != before(i) {
+    for (i, place) in column.iter().enumerate() {
+        if *place != before(i) {
             return false;
         }
     }
@@ -43,15 +43,15 @@ fn counted(number: u64, value: i64) -> u64 {
 // The checksum of all values, which tells their order.
 fn checksum(values: &[i32]) -> u64 {
     let mut number = 0;
-    for i in 0..values.len() {
-        number = counted(number, values[i] as i64);
+    for value in values {
+        number = counted(number, *value as i64);
     }
     number
 }
 
 fn print_values(out: Stdout, values: &[i32]) -> io::Result<()> {
-    for i in 0..values.len() {
-        print_value(out, values[i] as i64)?;
+    for value in values {
+        print_value(out, *value as i64)?;
     }
     Ok(())
 }

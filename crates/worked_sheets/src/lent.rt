@@ -16,8 +16,8 @@ fn before(place: usize) -> i32 {
 }
 
 pub fn fill(column: &mut [i32]) {
-    for i in 0..column.len() {
-        column[i] = before(i);
+    for (i, place) in column.iter_mut().enumerate() {
+        *place = before(i);
     }
 }
 
@@ -25,8 +25,8 @@ pub fn fill(column: &mut [i32]) {
 fn count_written(column: &[i32]) -> usize
     ensures { result ≤ length column.now }
 {
-    for i in 0..column.len() {
-        if column[i] == before(i) {
+    for (i, place) in column.iter().enumerate() {
+        if *place == before(i) {
             return i;
         }
     }
@@ -36,8 +36,8 @@ fn count_written(column: &[i32]) -> usize
 // How many places kept their numbers.
 fn count_kept(column: &[i32]) -> usize {
     let mut kept = 0;
-    for i in 0..column.len() {
-        if column[i] == before(i) {
+    for (i, place) in column.iter().enumerate() {
+        if *place == before(i) {
             kept += 1;
         }
     }
@@ -56,15 +56,15 @@ fn counted(number: u64, value: i64) -> u64 {
 // A number by which every value counts.
 fn count_values(values: &[i32]) -> u64 {
     let mut number = 0;
-    for i in 0..values.len() {
-        number = counted(number, values[i] as i64);
+    for value in values {
+        number = counted(number, *value as i64);
     }
     number
 }
 
 fn print_values(out: Stdout, values: &[i32]) -> io::Result<()> {
-    for i in 0..values.len() {
-        print_value(out, values[i] as i64)?;
+    for value in values {
+        print_value(out, *value as i64)?;
     }
     Ok(())
 }

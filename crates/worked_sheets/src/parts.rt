@@ -73,8 +73,8 @@ pub fn print_marks(out: Stdout, marks: &[u8]) -> io::Result<()> {
     if marks.len() > 0 {
         print(out, b" ")?;
     }
-    for i in 0..marks.len() {
-        print_decimal(out, marks[i] as u64)?;
+    for mark in marks {
+        print_decimal(out, *mark as u64)?;
     }
     Ok(())
 }
