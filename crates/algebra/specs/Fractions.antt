@@ -1,6 +1,6 @@
 -- Fractions of natural numbers, divided and added without rounding.
 --
---   Fraction, _over_       a number over another
+--   Fraction, ◌over◌       a number over another
 --   plus q r, sum_of n f    two fractions, and n of them, added up
 --   Is q m                 a fraction is the whole number m
 use Rattle.std.specs.Prelude.{◌≡◌, ℕ, zero, suc, ◌+◌, ◌*◌, ◌<◌}

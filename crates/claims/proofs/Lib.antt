@@ -1,1 +1,4 @@
+-- The theorems on the definitions of specs/.
+--
+--   Laws   the theorems
 pub mod Laws

@@ -1,4 +1,4 @@
--- The demands, as theorems about the calls' own definitions: first what is claimed, then the proofs.
+-- The demands, as theorems about the calls' own definitions: what is claimed. The proofs are in proofs/, a file for each claim.
 --
 --   LowestNumber   demand 1: the number of every call is the first that applies, in one order of checks
 --   Refusals       demand 1: which numbers there are, and that nothing is written

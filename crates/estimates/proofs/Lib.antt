@@ -4,6 +4,7 @@
 --   Negation   the total as it is printed
 --   Limit      the limit of a total
 --   Answers    the answers of the call, by the number that was found
+--   Laws       the theorems on the definitions of specs/
 pub mod Division
 pub mod Negation
 pub mod Limit

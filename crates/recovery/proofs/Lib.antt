@@ -5,6 +5,7 @@
 --   Summed    the loop over the stretches of a column, and that over all factors
 --   Divided   the loop that divides sums
 --   Found     what the parts of the call are lent, and what they find
+--   Laws      the theorems on the definitions of specs/
 pub mod Held
 pub mod Worked
 pub mod Summed

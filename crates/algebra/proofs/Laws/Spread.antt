@@ -5,7 +5,7 @@
 --   within                   the places of a turn are places of the list
 --   unread                   those of turn i still hold g
 --   opened, put, closed      a turn: it is opened, each of its places is written, it is closed
-use Rattle.std.specs.Prelude.{◌≡◌, List, ℕ, ◌+◌, ◌*◌, ◌/◌, ◌%◌, ◌<◌, ◌≤◌, length, get_or, set}
+use Rattle.std.specs.Prelude.{◌≡◌, List, ℕ, ◌+◌, ◌*◌, ◌/◌, ◌%◌, ◌<◌, length, get_or, set}
 use Rattle.std.proofs.Common.{sym, ap, ◌∙◌, mod-lt, div-lt_iff_lt-mul, div-add-mod', add_comm, add_assoc, add-zero, zero-mul, suc-mul, add-one, arith}
 use Rattle.std.proofs.Math.Arith.{digits_lt, digits_div, digits_mod}
 use Rattle.algebra.specs.Tab.{tab}

@@ -13,7 +13,7 @@
 --   cond-*, cond-*ℤ-cond   a product of two numbers, each under a test, is under both tests
 --   eqZ→eq, eq_z-true      integers that the test `eq_z` finds equal are equal
 --   eq-eq_z, ne-eq_z       and it finds so exactly of equal ones
---   both-ways              two tests fail alike where each fails if the other does
+--   both_ways              two tests fail alike where each fails if the other does
 use Rattle.std.specs.Prelude.{◌≡◌, refl, Bool, true, false, not, cond, ◌&&◌, ◌||◌, ℕ, zero, suc, ◌+◌, ◌*◌, ◌/◌, ◌%◌, ◌<◌, T, eqb, ltb, ℤ, pos, negsuc, ◌*ℤ◌}
 use Rattle.std.proofs.Common.{sym, ◌∙◌, ap, true≢false, div-add-mod', mul-zero, zero-mul, arith, lt-ltb, le-ltb, le-leb, eq-eqb, ne_eqb, eqb-true, eqb→eq}
 use Rattle.std.proofs.Math.Decide.{ℕ_discrete, dec_lt}

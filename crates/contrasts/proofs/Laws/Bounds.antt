@@ -14,7 +14,7 @@ use Rattle.std.proofs.Common.{sym, subst, mod-lt, mul_assoc, mul-le-mul_left, mu
 use Rattle.std.proofs.Math.Nat.{pow-zero}
 use Rattle.algebra.specs.Laws.Size.{nat_abs-*ℤ, nat_abs-Σ}
 use Rattle.algebra.specs.Sum.{Σ}
-use Rattle.algebra.specs.Naturals.{Σℕ, most}
+use Rattle.algebra.specs.Naturals.{Σℕ}
 use Rattle.algebra.specs.Laws.Naturals.{most-ge}
 use Rattle.contrasts.specs.Factor.{Factor}
 use Rattle.contrasts.specs.Laws.Bounds.{reach}

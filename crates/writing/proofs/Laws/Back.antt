@@ -1,7 +1,7 @@
 -- The bytes of fields give the fields.
 --
 --   Whole fs     no field is cut short, and each body's length has two bytes
---   read-back    fields that are written are read
+--   read_back    fields that are written are read
 use Rattle.std.specs.Prelude.{◌≡◌, refl, cond, ◌++◌, ℕ, zero, suc, ◌≤◌, ◌<◌, leb, length, take, drop}
 use Rattle.std.proofs.Common.{ap, ◌∙◌, le_refl, arith, le-leb, length-append, take_at, drop_at}
 use Rattle.fields.specs.Fields.{Fields, end, cut, field, parse, fields_of}

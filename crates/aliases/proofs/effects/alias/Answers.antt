@@ -1,5 +1,4 @@
 use mathlib.Core.Path.{◌≡◌, refl, sym, ◌∙◌}
-use borrow.Author.Rules.{rules}
 use Rattle.aliases.specs.Alias.{alias_refused}
 use Rattle.plan.specs.Check.{plan_refused}
 use Rattle.plan.proofs.Laws.Accepted.{sizes}

@@ -1,7 +1,5 @@
-use Prim.Native.Nat.{◌-◌}
 use native.Mathlib.Omega.{arith}
-use lib.ListN.{length}
-use Rattle.aliases.specs.Laws.Counted.{Counted, counted_none, counted-more, counted-all}
+use Rattle.aliases.specs.Laws.Counted.{counted_none, counted-more, counted-all}
 use Rattle.aliases.proofs.effects.count_signs.Goals as goal
 
 pub loop-j-init : goal.loop-j-init

@@ -1,7 +1,6 @@
 use Prim.Native.Nat.{◌-◌}
-use native.Mathlib.Omega.{arith}
 use lib.ListN.{length}
-use Rattle.aliases.specs.Laws.Counted.{Counted, counted_none, counted-more, counted-all}
+use Rattle.aliases.specs.Laws.Counted.{Counted}
 use Rattle.aliases.proofs.effects.count_signs.Given as goal
 
 abbrev pub invariant-loop-j : goal.invariant-loop-j

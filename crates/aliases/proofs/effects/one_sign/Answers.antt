@@ -1,7 +1,6 @@
 use mathlib.Core.Path.{refl}
 use native.Mathlib.Omega.{arith}
 use borrow.Author.Tests.{ne_eqb}
-use borrow.Author.Rules.{rules}
 use Rattle.aliases.proofs.effects.one_sign.Goals as goal
 
 pub returns-then-sign-eq1 : goal.returns-then-sign-eq1

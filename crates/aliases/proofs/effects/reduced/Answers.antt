@@ -1,7 +1,6 @@
 use mathlib.Core.Path.{refl, sym}
 use native.Mathlib.Omega.{arith}
 use lib.Seq.{length-take-le}
-use borrow.Author.Rules.{rules}
 use Rattle.aliases.specs.Alias.{base_word, odd_signs, turned}
 use Rattle.algebra.specs.Laws.Tests.{is}
 use Rattle.aliases.proofs.effects.reduced.Goals as goal

@@ -1,6 +1,4 @@
-use mathlib.Core.Path.{refl}
 use native.Mathlib.Omega.{arith}
-use borrow.Author.Rules.{rules}
 use Rattle.anova.proofs.amounts.leave_row.Goals as goal
 
 pub bounds-rows-row : goal.bounds-rows-row

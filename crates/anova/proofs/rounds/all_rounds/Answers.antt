@@ -1,8 +1,7 @@
 use mathlib.Core.Path.{◌∙◌}
-use Prim.Native.Nat.{◌-◌}
 use native.Mathlib.Omega.{arith}
 use Rattle.algebra.proofs.Laws.Machine.{kept}
-use Rattle.anova.proofs.Rounded.{Left, left-none, left-sets, left-some, left-more, left-all}
+use Rattle.anova.proofs.Rounded.{left-none, left-sets, left-some, left-more, left-all}
 use Rattle.anova.proofs.rounds.all_rounds.Goals as goal
 
 pub loop-i-init : goal.loop-i-init

@@ -1,8 +1,7 @@
 use mathlib.Core.Path.{refl, ◌∙◌}
-use Prim.Native.Nat.{◌-◌}
 use native.Mathlib.Omega.{arith}
 use Rattle.algebra.proofs.Laws.Machine.{kept}
-use Rattle.anova.proofs.Rounded.{Rounding, rounding-none, rounding-long, rounding-more, rounding-all, small-set}
+use Rattle.anova.proofs.Rounded.{rounding-none, rounding-long, rounding-more, rounding-all, small-set}
 use Rattle.anova.proofs.rounds.round.Goals as goal
 
 pub loop-i-init : goal.loop-i-init

@@ -1,8 +1,5 @@
-use mathlib.Core.Path.{refl, ◌∙◌}
 use Prim.Native.Nat.{◌-◌}
-use native.Mathlib.Omega.{arith}
-use Rattle.algebra.proofs.Laws.Machine.{kept}
-use Rattle.anova.proofs.Rounded.{Rounding, rounding-none, rounding-long, rounding-more, rounding-all, small-set}
+use Rattle.anova.proofs.Rounded.{Rounding}
 use Rattle.anova.proofs.rounds.round.Given as goal
 
 abbrev pub invariant-loop-i : goal.invariant-loop-i

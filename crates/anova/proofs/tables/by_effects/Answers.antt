@@ -1,5 +1,4 @@
 use mathlib.Core.Path.{refl, ◌∙◌}
-use borrow.Author.Rules.{rules}
 use Rattle.algebra.proofs.Laws.Machine.{kept}
 use Rattle.anova.proofs.Made.{squares-ready, spread-ready, on-used, column-long, check-ready, lengths-few, denominator-is, figures-ready, figures-made}
 use Rattle.anova.proofs.tables.by_effects.Goals as goal

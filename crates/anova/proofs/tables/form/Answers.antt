@@ -1,4 +1,3 @@
-use borrow.Author.Rules.{rules}
 use Rattle.anova.proofs.Formed.{readings-ready, totals-made, walk-ready, sums-made, rows_made}
 use Rattle.anova.proofs.tables.form.Goals as goal
 

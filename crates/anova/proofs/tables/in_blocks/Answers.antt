@@ -1,5 +1,4 @@
 use mathlib.Core.Path.{refl}
-use borrow.Author.Rules.{rules}
 use Rattle.anova.proofs.Made.{on-used, column-long}
 use Rattle.anova.proofs.Moved.{amount-ready, row-ready, rows_left, marks-there, moved_ready, moved-is}
 use Rattle.anova.proofs.tables.in_blocks.Goals as goal

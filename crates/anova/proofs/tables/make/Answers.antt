@@ -1,5 +1,4 @@
 use mathlib.Core.Path.{sym, ◌∙◌}
-use borrow.Author.Rules.{rules}
 use Rattle.anova.proofs.Moved.{unmoved, unmoved-rows}
 use Rattle.anova.proofs.tables.make.Goals as goal
 

@@ -1,6 +1,5 @@
 use native.Mathlib.Omega.{arith}
 use mathlib.Core.Path.{sym, ◌∙◌}
-use borrow.Author.Rules.{rules}
 use Rattle.anova.specs.Laws.Admitted.{table-admitted}
 use Rattle.anova.proofs.Judged.{table-stopped, table-completed}
 use Rattle.anova.proofs.tables.table.Goals as goal

@@ -1,5 +1,4 @@
 use mathlib.Core.Path.{sym, ◌∙◌}
-use borrow.Author.Rules.{rules}
 use Rattle.plan.proofs.Laws.Answers.{stopped}
 use Rattle.blockings.specs.Blockings.{blockings_column}
 use Rattle.blockings.proofs.Judging.{admitted, answered}

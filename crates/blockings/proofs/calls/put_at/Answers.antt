@@ -1,4 +1,3 @@
-use borrow.Author.Rules.{rules}
 use Rattle.blockings.proofs.Listing.{placed_by}
 use Rattle.blockings.proofs.calls.put_at.Goals as goal
 

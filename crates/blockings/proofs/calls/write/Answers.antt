@@ -1,10 +1,7 @@
 use mathlib.Core.Path.{◌∙◌}
-use Prim.Native.Nat.{◌-◌}
 use native.Mathlib.Omega.{arith}
 use Rattle.algebra.specs.Laws.Tests.{is}
-use Rattle.algebra.specs.Laws.Collected.{Collected, collected-none, collected-long, collected-room, collected-pass, collected-skip, collected-all, counted-all}
-use Rattle.blockings.specs.Blockings.{is_blocking}
-use Rattle.blockings.specs.Inner.Numbered.{words_at}
+use Rattle.algebra.specs.Laws.Collected.{collected-none, collected-long, collected-room, collected-pass, collected-skip, collected-all, counted-all}
 use Rattle.blockings.proofs.Listing.{fits, room_for, counted-lists, written-lists}
 use Rattle.blockings.proofs.calls.write.Goals as goal
 use Rattle.blockings.proofs.calls.write.Goals.{then-is_listed, else-is_listed}

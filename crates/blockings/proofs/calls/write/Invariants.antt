@@ -1,12 +1,7 @@
-use mathlib.Core.Path.{◌∙◌}
-use mathlib.Core.Logic.{⊎_elim}
 use Prim.Native.Nat.{◌-◌}
-use native.Mathlib.Omega.{arith}
-use Rattle.algebra.specs.Laws.Tests.{is}
-use Rattle.algebra.specs.Laws.Collected.{Collected, collected-none, collected-long, collected-room, collected-pass, collected-skip, collected-all, counted-all}
+use Rattle.algebra.specs.Laws.Collected.{Collected}
 use Rattle.blockings.specs.Blockings.{is_blocking}
 use Rattle.blockings.specs.Inner.Numbered.{words_at}
-use Rattle.blockings.proofs.Listing.{fits, room_for, counted-lists, written-lists}
 use Rattle.blockings.proofs.calls.write.Given as goal
 
 abbrev pub invariant-loop-i : goal.invariant-loop-i

@@ -1,7 +1,6 @@
 use mathlib.Core.Path.{sym}
 use native.Mathlib.Omega.{arith}
 use lib.Seq.{length-take-le}
-use borrow.Author.Rules.{rules}
 use Rattle.algebra.specs.Laws.Tests.{is}
 use Rattle.blockings.proofs.Listing.{blocking-by, not-blocking}
 use Rattle.blockings.proofs.lists.is_blocking.Goals as goal

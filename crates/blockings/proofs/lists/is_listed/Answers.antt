@@ -3,7 +3,6 @@ use mathlib.Core.List.{[], ◌∷◌}
 use Prim.Native.Nat.{ℕ}
 use native.Mathlib.Omega.{arith}
 use lib.Seq.{length-take-le}
-use borrow.Author.Rules.{rules}
 use Rattle.blockings.specs.Blockings.{is_blocking}
 use Rattle.blockings.proofs.Listing.{the-list}
 use Rattle.blockings.proofs.lists.is_listed.Goals as goal

@@ -1,8 +1,7 @@
 use mathlib.Core.Path.{refl, ap, ◌∙◌}
-use Prim.Native.Nat.{ℕ, ◌-◌}
+use Prim.Native.Nat.{ℕ}
 use native.Mathlib.Omega.{arith}
-use lib.ListN.{length, get_or}
-use Rattle.algebra.specs.Laws.Fill.{Filled, filled_none, filled_more, filled-long, filled-all}
+use Rattle.algebra.specs.Laws.Fill.{filled_none, filled_more, filled-long, filled-all}
 use Rattle.blockings.specs.Inner.Numbered.{word_at}
 use Rattle.blockings.proofs.lists.put_list.Goals as goal
 

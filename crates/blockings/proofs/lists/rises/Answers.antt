@@ -1,9 +1,6 @@
-use Prim.Native.Nat.{◌+◌, ◌-◌}
 use native.Mathlib.Omega.{arith}
 use borrow.Author.Tests.{le-leb, lt-leb}
-use lib.Dec.{leb}
-use lib.ListN.{length, get_or}
-use Rattle.algebra.specs.Laws.Searching.{Unfound, unfound, onward}
+use Rattle.algebra.specs.Laws.Searching.{unfound, onward}
 use Rattle.blockings.proofs.Listing.{falls, rises}
 use Rattle.blockings.proofs.lists.rises.Goals as goal
 

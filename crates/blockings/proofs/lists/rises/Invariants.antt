@@ -1,10 +1,7 @@
 use Prim.Native.Nat.{◌+◌, ◌-◌}
-use native.Mathlib.Omega.{arith}
-use borrow.Author.Tests.{le-leb, lt-leb}
 use lib.Dec.{leb}
 use lib.ListN.{length, get_or}
-use Rattle.algebra.specs.Laws.Searching.{Unfound, unfound, onward}
-use Rattle.blockings.proofs.Listing.{falls, rises}
+use Rattle.algebra.specs.Laws.Searching.{Unfound}
 use Rattle.blockings.proofs.lists.rises.Given as goal
 
 abbrev pub invariant-loop-j : goal.invariant-loop-j

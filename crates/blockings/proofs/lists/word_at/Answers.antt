@@ -1,7 +1,6 @@
 use mathlib.Core.Path.{refl}
 use native.Mathlib.Nat.{one-le-pow}
 use native.Mathlib.Omega.{arith}
-use borrow.Author.Rules.{rules}
 use Rattle.algebra.specs.Laws.Gathered.{one_shifted}
 use Rattle.blockings.specs.Inner.Numbered.{word_at}
 use Rattle.blockings.proofs.Listing.{short, fits, word_small}

@@ -1,9 +1,6 @@
-use Prim.Native.Nat.{◌-◌}
 use native.Mathlib.Omega.{arith}
 use Rattle.algebra.specs.Laws.Tests.{is}
-use Rattle.algebra.specs.Laws.Collected.{Counted, counted_none, counted-pass, counted_skip, counted-all}
-use Rattle.blockings.specs.Blockings.{is_blocking}
-use Rattle.blockings.specs.Inner.Numbered.{words_at}
+use Rattle.algebra.specs.Laws.Collected.{counted_none, counted-pass, counted_skip, counted-all}
 use Rattle.blockings.proofs.Listing.{counted-lists}
 use Rattle.blockings.proofs.refusals.count.Goals as goal
 use Rattle.blockings.proofs.refusals.count.Goals.{then-is_listed, else-is_listed}

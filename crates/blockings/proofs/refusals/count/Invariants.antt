@@ -1,11 +1,7 @@
-use mathlib.Core.Logic.{⊎_elim}
 use Prim.Native.Nat.{◌-◌}
-use native.Mathlib.Omega.{arith}
-use Rattle.algebra.specs.Laws.Tests.{is}
-use Rattle.algebra.specs.Laws.Collected.{Counted, counted_none, counted-pass, counted_skip, counted-all}
+use Rattle.algebra.specs.Laws.Collected.{Counted}
 use Rattle.blockings.specs.Blockings.{is_blocking}
 use Rattle.blockings.specs.Inner.Numbered.{words_at}
-use Rattle.blockings.proofs.Listing.{counted-lists}
 use Rattle.blockings.proofs.refusals.count.Given as goal
 
 abbrev pub invariant-loop-i : goal.invariant-loop-i

@@ -1,5 +1,4 @@
 use native.Mathlib.Omega.{arith}
-use borrow.Author.Rules.{rules}
 use Rattle.blocks.proofs.Added.{sum_fits, sum-held}
 use Rattle.blocks.proofs.amounts.add.Goals as goal
 

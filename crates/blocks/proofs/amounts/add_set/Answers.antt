@@ -1,7 +1,6 @@
 use mathlib.Core.Path.{◌≡◌, refl, ◌∙◌, ap}
 use Prim.Native.Nat.{◌+◌, ◌%◌}
 use native.Mathlib.Omega.{arith}
-use borrow.Author.Rules.{rules}
 use Rattle.algebra.proofs.Laws.Machine.{kept}
 use Rattle.blocks.specs.Ready.{added}
 use Rattle.blocks.proofs.Added.{first-ready, second-ready, third-ready}

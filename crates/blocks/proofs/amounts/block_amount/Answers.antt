@@ -1,8 +1,8 @@
 use mathlib.Core.Path.{refl, sym}
-use Prim.Native.Nat.{◌+◌, ◌-◌, ◌≤◌}
+use Prim.Native.Nat.{◌+◌, ◌≤◌}
 use native.Mathlib.Omega.{arith}
 use lib.ListN.{length}
-use Rattle.blocks.proofs.Added.{Adding, three-long, adding-none, adding-more, some-factor, set_there, set-ready, value-held, sum_back, sum-sized, amount-made}
+use Rattle.blocks.proofs.Added.{three-long, adding-none, adding-more, some-factor, set_there, set-ready, value-held, sum_back, sum-sized, amount-made}
 use Rattle.blocks.proofs.amounts.block_amount.Goals as goal
 
 pub loop-run-init : goal.loop-run-init

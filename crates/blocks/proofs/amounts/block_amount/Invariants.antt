@@ -1,8 +1,6 @@
-use mathlib.Core.Path.{refl, sym}
-use Prim.Native.Nat.{◌+◌, ◌-◌, ◌≤◌}
-use native.Mathlib.Omega.{arith}
+use Prim.Native.Nat.{◌-◌}
 use lib.ListN.{length}
-use Rattle.blocks.proofs.Added.{Adding, three-long, adding-none, adding-more, some-factor, set_there, set-ready, value-held, sum_back, sum-sized, amount-made}
+use Rattle.blocks.proofs.Added.{Adding}
 use Rattle.blocks.proofs.amounts.block_amount.Given as goal
 
 abbrev pub invariant-loop-run : goal.invariant-loop-run

@@ -1,7 +1,4 @@
-use Prim.Native.Nat.{◌-◌}
-use native.Mathlib.Omega.{arith}
-use lib.ListN.{length}
-use Rattle.columns.proofs.Sizes.{Gathered, gathered, gather, all-gathered}
+use Rattle.columns.proofs.Sizes.{gathered, gather, all-gathered}
 use Rattle.algebra.proofs.Laws.Machine.{kept}
 use Rattle.columns.proofs.bits.all_bits.Goals as goal
 

@@ -1,8 +1,6 @@
 use Prim.Native.Nat.{◌-◌}
-use native.Mathlib.Omega.{arith}
 use lib.ListN.{length}
-use Rattle.columns.proofs.Sizes.{Gathered, gathered, gather, all-gathered}
-use Rattle.algebra.proofs.Laws.Machine.{kept}
+use Rattle.columns.proofs.Sizes.{Gathered}
 use Rattle.columns.proofs.bits.all_bits.Given as goal
 
 abbrev pub invariant-loop-i : goal.invariant-loop-i

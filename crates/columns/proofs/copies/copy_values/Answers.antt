@@ -1,5 +1,4 @@
 use mathlib.Core.Path.{◌∙◌, refl}
-use borrow.Author.Rules.{rules}
 use borrow.Author.Tests.{eq-eqb, ne_eqb}
 use Rattle.columns.specs.Copies.{copied}
 use Rattle.columns.proofs.copies.copy_values.Goals as goal

@@ -1,10 +1,7 @@
-use Prim.Native.Nat.{◌-◌}
 use native.Mathlib.Omega.{arith}
-use lib.IntN.{pos}
-use lib.ListN.{length}
 use Rattle.algebra.proofs.Laws.Machine.{widened, widened-fits}
 use Rattle.contrasts.specs.Columns.{read}
-use Rattle.algebra.specs.Laws.Copied.{Copying, copying-none, copying-long, copying-more, copying-all}
+use Rattle.algebra.specs.Laws.Copied.{copying-none, copying-long, copying-more, copying-all}
 use Rattle.columns.proofs.copies.put_readings.Goals as goal
 
 pub loop-i-init : goal.loop-i-init

@@ -1,9 +1,6 @@
-use Prim.Native.Nat.{◌-◌}
 use native.Mathlib.Omega.{arith}
-use lib.IntN.{pos}
-use lib.ListN.{length}
 use Rattle.algebra.proofs.Laws.Machine.{kept}
-use Rattle.algebra.specs.Laws.Copied.{Copying, copying-none, copying-long, copying-more, copying-all}
+use Rattle.algebra.specs.Laws.Copied.{copying-none, copying-long, copying-more, copying-all}
 use Rattle.columns.proofs.copies.put_values.Goals as goal
 
 pub loop-i-init : goal.loop-i-init

@@ -1,8 +1,5 @@
-use Prim.Native.Nat.{◌-◌}
-use native.Mathlib.Omega.{arith}
-use lib.ListN.{length}
 use Rattle.algebra.proofs.Laws.Machine.{held-half}
-use Rattle.columns.proofs.Searched.{Looked, looked, looked-on, looked-all}
+use Rattle.columns.proofs.Searched.{looked, looked-on, looked-all}
 use Rattle.columns.proofs.scans.any_beyond.Goals as goal
 
 pub loop-i-init : goal.loop-i-init

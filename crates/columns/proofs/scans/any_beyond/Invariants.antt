@@ -1,8 +1,6 @@
 use Prim.Native.Nat.{◌-◌}
-use native.Mathlib.Omega.{arith}
 use lib.ListN.{length}
-use Rattle.algebra.proofs.Laws.Machine.{held-half}
-use Rattle.columns.proofs.Searched.{Looked, looked, looked-on, looked-all}
+use Rattle.columns.proofs.Searched.{Looked}
 use Rattle.columns.proofs.scans.any_beyond.Given as goal
 
 abbrev pub invariant-loop-i : goal.invariant-loop-i

@@ -1,4 +1,3 @@
-use borrow.Author.Rules.{rules}
 use Rattle.columns.proofs.Sizes.{few_bits}
 use Rattle.columns.proofs.scans.any_value_beyond.Goals as goal
 

@@ -1,4 +1,3 @@
-use borrow.Author.Rules.{rules}
 use Rattle.columns.proofs.Searched.{turned-fits, either_way}
 use Rattle.columns.proofs.scans.is_reading_beyond.Goals as goal
 

@@ -1,9 +1,7 @@
 use Prim.Native.Nat.{◌-◌}
-use native.Mathlib.Omega.{arith}
 use lib.ListN.{length}
-use Rattle.algebra.proofs.Laws.Machine.{kept}
 use Rattle.contrasts.specs.Limits.{value_limit}
-use Rattle.columns.proofs.Searched.{Sought, sought, onward, found, nowhere}
+use Rattle.columns.proofs.Searched.{Sought}
 use Rattle.columns.proofs.scans.search_values.Given as goal
 
 abbrev pub invariant-loop-i : goal.invariant-loop-i

@@ -1,10 +1,6 @@
 use mathlib.Core.Path.{refl, ap, ◌∙◌}
-use Prim.Native.Nat.{ℕ, ◌-◌}
-use native.Mathlib.Omega.{arith}
-use borrow.Author.Rules.{rules}
-use lib.ListN.{get_or, replicate}
-use Rattle.algebra.specs.Laws.Fill.{Filled, filled_none, filled_more, filled-all}
-use Rattle.fields.specs.Fields.{fields_of, body_at}
+use Prim.Native.Nat.{ℕ}
+use Rattle.algebra.specs.Laws.Fill.{filled_none, filled_more, filled-all}
 use Rattle.contents.specs.Contents.{word_in}
 use Rattle.contents.proofs.plans.added_words.Goals as goal
 

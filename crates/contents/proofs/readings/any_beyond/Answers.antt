@@ -1,11 +1,10 @@
 use mathlib.Core.Path.{◌≡◌, sym, ap, ◌∙◌}
 use mathlib.Core.List.{List}
-use Prim.Native.Nat.{ℕ, ◌-◌, ◌/◌}
-use native.Mathlib.Omega.{arith}
+use Prim.Native.Nat.{ℕ, ◌/◌}
 use lib.ListN.{length}
 use Rattle.algebra.specs.Search.{some}
 use Rattle.algebra.proofs.Laws.Machine.{widened, widened-fits}
-use Rattle.algebra.specs.Laws.Searching.{Seen, seen_none, seen_more, seen_all}
+use Rattle.algebra.specs.Laws.Searching.{seen_none, seen_more, seen_all}
 use Rattle.contrasts.specs.Columns.{read}
 use Rattle.plan.specs.Limits.{is_beyond}
 use Rattle.columns.specs.Refusals.{any_beyond}

@@ -1,11 +1,9 @@
 use mathlib.Core.Path.{refl, ap, ◌∙◌}
-use Prim.Native.Nat.{◌-◌}
 use native.Mathlib.Omega.{arith}
 use mir.Syntax.{w32}
 use mir.ValLaws.{to_z-of_z}
 use lib.IntN.{pos}
-use lib.ListN.{length, get_or}
-use Rattle.algebra.specs.Laws.Fill.{Filled, filled_none, filled_more, filled-all, filled-long}
+use Rattle.algebra.specs.Laws.Fill.{filled_none, filled_more, filled-all, filled-long}
 use Rattle.algebra.specs.Tab.{tab}
 use Rattle.contents.specs.Contents.{reading_at, readings_of}
 use Rattle.contents.proofs.readings.fill.Goals as goal

@@ -1,7 +1,5 @@
-use Prim.Native.Nat.{◌-◌}
 use native.Mathlib.Omega.{arith}
-use lib.ListN.{length}
-use Rattle.effects.proofs.Divided.{Divided, divided-none, divided-long, divided-more, divided-all}
+use Rattle.effects.proofs.Divided.{divided-none, divided-long, divided-more, divided-all}
 use Rattle.effects.proofs.fewer.divide_by_three.Goals as goal
 
 pub loop-e-init : goal.loop-e-init

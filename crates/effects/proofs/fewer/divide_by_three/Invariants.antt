@@ -1,7 +1,6 @@
 use Prim.Native.Nat.{◌-◌}
-use native.Mathlib.Omega.{arith}
 use lib.ListN.{length}
-use Rattle.effects.proofs.Divided.{Divided, divided-none, divided-long, divided-more, divided-all}
+use Rattle.effects.proofs.Divided.{Divided}
 use Rattle.effects.proofs.fewer.divide_by_three.Given as goal
 
 abbrev pub invariant-loop-e : goal.invariant-loop-e

@@ -1,6 +1,5 @@
 use mathlib.Core.Path.{sym}
-use native.Mathlib.Omega.{arith}
-use Rattle.effects.proofs.Divided.{Missing, missing-none, missing-long, missing-more, missing-all}
+use Rattle.effects.proofs.Divided.{missing-none, missing-long, missing-more, missing-all}
 use Rattle.effects.proofs.fewer.fewer_factors.Goals as goal
 
 pub loop-factors-init : goal.loop-factors-init

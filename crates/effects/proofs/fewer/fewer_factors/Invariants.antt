@@ -1,6 +1,4 @@
-use mathlib.Core.Path.{sym}
-use native.Mathlib.Omega.{arith}
-use Rattle.effects.proofs.Divided.{Missing, missing-none, missing-long, missing-more, missing-all}
+use Rattle.effects.proofs.Divided.{Missing}
 use Rattle.effects.proofs.fewer.fewer_factors.Given as goal
 
 abbrev pub invariant-loop-factors : goal.invariant-loop-factors

@@ -1,6 +1,5 @@
-use Prim.Native.Nat.{◌-◌}
 use native.Mathlib.Omega.{arith}
-use Rattle.effects.proofs.Rowed.{RowsThree, three-none, three-fits, three-more}
+use Rattle.effects.proofs.Rowed.{three-none, three-fits, three-more}
 use Rattle.effects.proofs.Filling.{threes-all}
 use Rattle.effects.proofs.letters.rows_of_three.Goals as goal
 

@@ -1,7 +1,5 @@
 use Prim.Native.Nat.{◌-◌}
-use native.Mathlib.Omega.{arith}
-use Rattle.effects.proofs.Rowed.{RowsThree, three-none, three-fits, three-more}
-use Rattle.effects.proofs.Filling.{threes-all}
+use Rattle.effects.proofs.Rowed.{RowsThree}
 use Rattle.effects.proofs.letters.rows_of_three.Given as goal
 
 abbrev pub invariant-loop-q : goal.invariant-loop-q

@@ -1,7 +1,5 @@
-use mathlib.Core.Path.{refl}
 use Prim.Native.Nat.{◌-◌}
-use native.Mathlib.Omega.{arith}
-use Rattle.effects.proofs.Filling.{Singly, singly-none, singly-more, singly-all}
+use Rattle.effects.proofs.Filling.{Singly}
 use Rattle.effects.proofs.letters.rows_of_two.Given as goal
 
 abbrev pub invariant-loop-e : goal.invariant-loop-e

@@ -1,4 +1,3 @@
-use borrow.Author.Rules.{rules}
 use Rattle.effects.proofs.Counted.{few-effects, is-three}
 use Rattle.effects.proofs.Shared.{no-effects, effect-divisors-two, effect-divisors-three}
 use Rattle.effects.proofs.shares.divisors.Goals as goal

@@ -1,12 +1,8 @@
-use mathlib.Core.Path.{ap}
-use Prim.Native.Nat.{◌*◌, ◌-◌, ◌≤◌}
-use native.Mathlib.Omega.{arith}
+use Prim.Native.Nat.{◌*◌, ◌-◌}
 use lib.ListN.{replicate}
 use Rattle.contrasts.proofs.Factors.{three}
 use Rattle.contrasts.specs.Totals.{divisor*}
-use Rattle.effects.proofs.Counted.{few-three}
-use Rattle.effects.proofs.Filling.{Singly, singly-none, singly-more, singly-all}
-use Rattle.effects.proofs.Shared.{entry, entry-fits, times-fits}
+use Rattle.effects.proofs.Filling.{Singly}
 use Rattle.effects.proofs.shares.divisors_of_three.Given as goal
 
 abbrev pub invariant-loop-e : goal.invariant-loop-e

@@ -1,7 +1,7 @@
 use mathlib.Core.Path.{refl}
-use Prim.Native.Nat.{◌*◌, ◌-◌, ◌≤◌}
+use Prim.Native.Nat.{◌≤◌}
 use native.Mathlib.Omega.{arith}
-use Rattle.effects.proofs.Filling.{Singly, singly-none, singly-more, singly-all}
+use Rattle.effects.proofs.Filling.{singly-none, singly-more, singly-all}
 use Rattle.effects.proofs.Shared.{times-fits}
 use Rattle.effects.proofs.shares.divisors_of_two.Goals as goal
 

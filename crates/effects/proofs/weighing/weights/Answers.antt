@@ -1,4 +1,3 @@
-use borrow.Author.Rules.{rules}
 use Rattle.effects.proofs.Counted.{few-effects, is-three}
 use Rattle.effects.proofs.Weighed.{no-weights, effect-weights-two, effect-weights-three}
 use Rattle.effects.proofs.weighing.weights.Goals as goal

@@ -1,7 +1,6 @@
-use Prim.Native.Nat.{◌-◌}
 use native.Mathlib.Omega.{arith}
 use Rattle.algebra.specs.Laws.Gathered.{one_shifted}
-use Rattle.effects.proofs.Weighed.{WeightsThree, three-none, three-few, three-fits, three-more, three-all}
+use Rattle.effects.proofs.Weighed.{three-none, three-few, three-fits, three-more, three-all}
 use Rattle.effects.proofs.weighing.weights_of_three.Goals as goal
 
 pub loop-q-init : goal.loop-q-init

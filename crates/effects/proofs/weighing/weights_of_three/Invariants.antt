@@ -1,7 +1,5 @@
 use Prim.Native.Nat.{◌-◌}
-use native.Mathlib.Omega.{arith}
-use Rattle.algebra.specs.Laws.Gathered.{one_shifted}
-use Rattle.effects.proofs.Weighed.{WeightsThree, three-none, three-few, three-fits, three-more, three-all}
+use Rattle.effects.proofs.Weighed.{WeightsThree}
 use Rattle.effects.proofs.weighing.weights_of_three.Given as goal
 
 abbrev pub invariant-loop-q : goal.invariant-loop-q

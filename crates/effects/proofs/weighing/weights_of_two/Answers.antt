@@ -1,7 +1,6 @@
 use mathlib.Core.Path.{refl}
-use Prim.Native.Nat.{◌-◌}
 use native.Mathlib.Omega.{arith}
-use Rattle.effects.proofs.Filling.{Singly, singly-none, singly-more, singly-all}
+use Rattle.effects.proofs.Filling.{singly-none, singly-more, singly-all}
 use Rattle.effects.proofs.weighing.weights_of_two.Goals as goal
 
 pub loop-e-init : goal.loop-e-init

@@ -1,7 +1,6 @@
 use mathlib.Core.Path.{ap}
 use Prim.Native.Nat.{◌+◌}
 use native.Mathlib.Omega.{arith}
-use borrow.Author.Rules.{rules}
 use Rattle.estimates.proofs.Laws.Given.{exactly-given}
 use Rattle.estimates.proofs.Answers.{stopped, ready, answered}
 use Rattle.estimates.proofs.effects.estimate.Goals as goal

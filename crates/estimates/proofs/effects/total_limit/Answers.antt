@@ -1,5 +1,4 @@
 use native.Mathlib.Omega.{arith}
-use borrow.Author.Rules.{rules}
 use Rattle.plan.proofs.Laws.Accepted.{sizes}
 use Rattle.plan.proofs.Laws.Sizes.{some-repeat}
 use Rattle.estimates.proofs.Limit.{run_fits, shifted}

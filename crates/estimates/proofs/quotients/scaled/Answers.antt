@@ -1,4 +1,3 @@
-use borrow.Author.Rules.{rules}
 use Rattle.estimates.proofs.Division.{number-held, power-held, divided}
 use Rattle.estimates.proofs.quotients.scaled.Goals as goal
 

@@ -1,4 +1,3 @@
-use borrow.Author.Rules.{rules}
 use Rattle.facts.proofs.Answered.{lists-given, lists-refused}
 use Rattle.facts.proofs.blocks.blockings.Goals as goal
 

@@ -1,4 +1,3 @@
-use borrow.Author.Rules.{rules}
 use Rattle.facts.proofs.Answered.{alias-stopped, alias-given, alias-refused}
 use Rattle.facts.proofs.plans.alias.Goals as goal
 

@@ -1,4 +1,3 @@
-use borrow.Author.Rules.{rules}
 use mathlib.Core.Path.{refl}
 use Rattle.estimates.specs.Estimate.{mean, difference, lost}
 use Rattle.facts.proofs.Answered.{estimate-stopped, estimate-given, estimate-refused}

@@ -1,4 +1,3 @@
-use borrow.Author.Rules.{rules}
 use Rattle.facts.proofs.Answered.{run-stopped, run-given, run-refused}
 use Rattle.facts.proofs.plans.run.Goals as goal
 

@@ -1,10 +1,6 @@
-use mathlib.Core.Path.{refl}
-use Rattle.algebra.specs.Laws.Tests.{is}
 use Prim.Native.Nat.{◌-◌}
-use native.Mathlib.Omega.{arith}
 use lib.ListN.{length}
-use Rattle.fields.proofs.Walking.{Next, next}
-use Rattle.fields.proofs.Judging.{Passed, passed_none, passed-cut, passed-falling, passed-unknown, passed-one, passed-all}
+use Rattle.fields.proofs.Judging.{Passed}
 use Rattle.fields.proofs.tags.any_bad_field.Given as goal
 
 abbrev pub invariant-loop-at : goal.invariant-loop-at

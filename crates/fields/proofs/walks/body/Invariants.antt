@@ -1,9 +1,6 @@
 use Prim.Native.Nat.{◌-◌}
-use native.Mathlib.Omega.{arith}
-use borrow.Author.Rules.{rules}
 use lib.ListN.{length}
-use Rattle.fields.proofs.Walking.{Next, next}
-use Rattle.fields.proofs.Searching.{Sought, sought-none, sought-here, sought-one, sought-other, sought-cut, sought-all}
+use Rattle.fields.proofs.Searching.{Sought}
 use Rattle.fields.proofs.walks.body.Given as goal
 
 abbrev pub invariant-loop-at : goal.invariant-loop-at

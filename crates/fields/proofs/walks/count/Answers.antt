@@ -1,8 +1,6 @@
-use Prim.Native.Nat.{◌-◌}
 use native.Mathlib.Omega.{arith}
-use lib.ListN.{length}
 use Rattle.fields.proofs.Walking.{Next, next}
-use Rattle.fields.proofs.Searching.{Counted, counted_none, counted-one, counted-other, counted-cut, counted-all}
+use Rattle.fields.proofs.Searching.{counted_none, counted-one, counted-other, counted-cut, counted-all}
 use Rattle.fields.proofs.walks.count.Goals as goal
 
 pub loop-at-init : goal.loop-at-init

@@ -1,8 +1,6 @@
 use Prim.Native.Nat.{◌-◌}
-use native.Mathlib.Omega.{arith}
 use lib.ListN.{length}
-use Rattle.fields.proofs.Walking.{Next, next}
-use Rattle.fields.proofs.Searching.{Counted, counted_none, counted-one, counted-other, counted-cut, counted-all}
+use Rattle.fields.proofs.Searching.{Counted}
 use Rattle.fields.proofs.walks.count.Given as goal
 
 abbrev pub invariant-loop-at : goal.invariant-loop-at

@@ -1,5 +1,4 @@
 use mathlib.Core.Path.{◌∙◌}
-use borrow.Author.Rules.{rules}
 use Rattle.algebra.proofs.Laws.Machine.{kept}
 use Rattle.columns.specs.Laws.Copies.{copied-over}
 use Rattle.figures.proofs.tabulated.put_checks.Goals as goal

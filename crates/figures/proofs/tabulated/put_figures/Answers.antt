@@ -1,4 +1,3 @@
-use borrow.Author.Rules.{rules}
 use Rattle.figures.proofs.tabulated.put_figures.Goals as goal
 
 pub returns : goal.returns

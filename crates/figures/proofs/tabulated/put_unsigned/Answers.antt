@@ -1,8 +1,6 @@
 use mathlib.Core.Path.{refl}
-use Prim.Native.Nat.{◌-◌}
 use native.Mathlib.Omega.{arith}
-use lib.ListN.{length}
-use Rattle.algebra.specs.Laws.Copied.{Copying, copying-none, copying-long, copying-more, copying-all}
+use Rattle.algebra.specs.Laws.Copied.{copying-none, copying-long, copying-more, copying-all}
 use Rattle.figures.proofs.tabulated.put_unsigned.Goals as goal
 
 pub loop-i-init : goal.loop-i-init

@@ -1,8 +1,6 @@
-use mathlib.Core.Path.{refl}
 use Prim.Native.Nat.{◌-◌}
-use native.Mathlib.Omega.{arith}
 use lib.ListN.{length}
-use Rattle.algebra.specs.Laws.Copied.{Copying, copying-none, copying-long, copying-more, copying-all}
+use Rattle.algebra.specs.Laws.Copied.{Copying}
 use Rattle.figures.proofs.tabulated.put_unsigned.Given as goal
 
 abbrev pub invariant-loop-i : goal.invariant-loop-i

@@ -1,4 +1,3 @@
-use borrow.Author.Rules.{rules}
 use Rattle.figures.specs.Laws.Roomed.{screen-answered, table-made, table-refused}
 use Rattle.figures.proofs.tabulated.screened.Goals as goal
 

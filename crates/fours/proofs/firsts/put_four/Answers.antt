@@ -1,5 +1,4 @@
 use lib.Dec.{lit<}
-use borrow.Author.Rules.{rules}
 use Rattle.fours.proofs.Worked.{two-readings, first-ready, four-made}
 use Rattle.fours.proofs.firsts.put_four.Goals as goal
 

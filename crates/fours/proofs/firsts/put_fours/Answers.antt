@@ -1,11 +1,8 @@
-use Prim.Native.Nat.{◌-◌}
 use native.Mathlib.Omega.{arith}
 use lib.Dec.{lit<}
-use lib.ListN.{length}
-use Rattle.algebra.specs.Laws.Parts.{Making}
 use Rattle.algebra.proofs.Laws.Parts.{making-all, as_long, room, room-now, shorter}
 use Rattle.contrasts.proofs.Factors.{two}
-use Rattle.contrasts.proofs.Laws.Both.{both_over, first-none, first-room, next-first, one-first}
+use Rattle.contrasts.proofs.Laws.Both.{first-none, first-room, next-first, one-first}
 use Rattle.fours.proofs.Worked.{four-places}
 use Rattle.fours.proofs.firsts.put_fours.Goals as goal
 

@@ -1,10 +1,7 @@
-use Prim.Native.Nat.{◌-◌}
 use native.Mathlib.Omega.{arith}
-use lib.ListN.{length}
-use Rattle.algebra.specs.Laws.Parts.{Making}
 use Rattle.algebra.proofs.Laws.Parts.{making-all, as_long, room, room-now, shorter}
 use Rattle.contrasts.proofs.Factors.{two}
-use Rattle.contrasts.proofs.Laws.Both.{both_over, both-none, next-stretch, one-stretch}
+use Rattle.contrasts.proofs.Laws.Both.{both-none, next-stretch, one-stretch}
 use Rattle.fours.proofs.Worked.{four-places}
 use Rattle.fours.proofs.stretches.shortest_over.Goals as goal
 

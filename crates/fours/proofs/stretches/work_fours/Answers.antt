@@ -1,5 +1,5 @@
 use mathlib.Core.Path.{◌≡◌, refl, sym, ◌∙◌}
-use Prim.Native.Nat.{ℕ, ◌+◌, ◌-◌, ◌*◌, ◌^◌, ◌<◌}
+use Prim.Native.Nat.{ℕ, ◌+◌, ◌*◌, ◌^◌, ◌<◌}
 use native.Mathlib.Omega.{arith}
 use lib.Dec.{lit<}
 use lib.IntN.{pos}
@@ -10,7 +10,7 @@ use Rattle.contrasts.specs.Columns.{read}
 use Rattle.contrasts.proofs.Factors.{two}
 use Rattle.contrasts.proofs.Laws.Both.{both-begun, both-ended}
 use Rattle.contrasts.proofs.Laws.Small.{Mild, mild-small, mild-held}
-use Rattle.fours.proofs.Worked.{Worked, value-small, four-ready, fours-more}
+use Rattle.fours.proofs.Worked.{value-small, four-ready, fours-more}
 use Rattle.fours.proofs.stretches.work_fours.Goals as goal
 
 pub loop-i-init : goal.loop-i-init

@@ -1,5 +1,4 @@
 use native.Mathlib.Omega.{arith}
-use borrow.Author.Rules.{rules}
 use Rattle.handed.proofs.Told.{column-stopped, column-told}
 use Rattle.handed.proofs.recovering.recover.Goals as goal
 

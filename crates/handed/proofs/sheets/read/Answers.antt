@@ -1,5 +1,4 @@
 use native.Mathlib.Omega.{arith}
-use borrow.Author.Rules.{rules}
 use Rattle.handed.proofs.Spans.{own-fit, marks-fit, read_done, read-stopped}
 use Rattle.handed.proofs.sheets.read.Goals as goal
 

@@ -1,4 +1,3 @@
-use borrow.Author.Rules.{rules}
 use Rattle.lines.specs.Laws.Lines.{mean-label, letters-label}
 use Rattle.lines.proofs.fields.label.Goals as goal
 

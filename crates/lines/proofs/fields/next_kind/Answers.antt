@@ -1,4 +1,3 @@
-use borrow.Author.Rules.{rules}
 use Rattle.lines.specs.Laws.Lines.{error-text, blocks-text, no_text}
 use Rattle.lines.proofs.fields.next_kind.Goals as goal
 

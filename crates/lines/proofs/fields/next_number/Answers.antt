@@ -1,4 +1,3 @@
-use borrow.Author.Rules.{rules}
 use Rattle.text.specs.Laws.Writing.{then}
 use Rattle.lines.proofs.fields.next_number.Goals as goal
 

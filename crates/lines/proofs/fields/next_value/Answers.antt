@@ -1,4 +1,3 @@
-use borrow.Author.Rules.{rules}
 use Rattle.lines.specs.Laws.Lines.{next-value}
 use Rattle.lines.proofs.fields.next_value.Goals as goal
 

@@ -1,4 +1,3 @@
-use borrow.Author.Rules.{rules}
 use Rattle.lines.specs.Laws.Lines.{check-made}
 use Rattle.lines.proofs.printed.check_line.Goals as goal
 

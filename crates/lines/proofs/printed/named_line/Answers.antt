@@ -1,4 +1,3 @@
-use borrow.Author.Rules.{rules}
 use Rattle.lines.specs.Laws.Lines.{named-made}
 use Rattle.lines.proofs.printed.named_line.Goals as goal
 

@@ -1,4 +1,3 @@
-use borrow.Author.Rules.{rules}
 use Rattle.lines.specs.Laws.Lines.{row_made}
 use Rattle.lines.proofs.printed.row_line.Goals as goal
 

@@ -1,4 +1,3 @@
-use borrow.Author.Rules.{rules}
 use Rattle.lines.specs.Laws.Lines.{source-made}
 use Rattle.lines.proofs.printed.source_line.Goals as goal
 

@@ -1,5 +1,4 @@
 use lib.Dec.{lit<}
-use borrow.Author.Rules.{rules}
 use Rattle.nines.proofs.Worked.{three-readings, first-ready, nine-made}
 use Rattle.nines.proofs.firsts.put_nine.Goals as goal
 

@@ -1,11 +1,8 @@
-use Prim.Native.Nat.{◌-◌}
 use native.Mathlib.Omega.{arith}
 use lib.Dec.{lit<}
-use lib.ListN.{length}
-use Rattle.algebra.specs.Laws.Parts.{Making}
 use Rattle.algebra.proofs.Laws.Parts.{making-all, as_long, room, room-now, shorter}
 use Rattle.contrasts.proofs.Factors.{three}
-use Rattle.contrasts.proofs.Laws.Both.{both_over, first-none, first-room, next-first, one-first}
+use Rattle.contrasts.proofs.Laws.Both.{first-none, first-room, next-first, one-first}
 use Rattle.nines.proofs.Worked.{nine-places}
 use Rattle.nines.proofs.firsts.put_nines.Goals as goal
 

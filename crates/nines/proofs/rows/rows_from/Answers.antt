@@ -1,6 +1,5 @@
 use mathlib.Core.Path.{refl, ◌∙◌}
 use Prim.Native.Nat.{◌+◌}
-use borrow.Author.Rules.{rules}
 use Rattle.algebra.proofs.Laws.Machine.{widened, widened-fits}
 use Rattle.contrasts.specs.Columns.{read}
 use Rattle.contrasts.proofs.Laws.Small.{reading-mild}

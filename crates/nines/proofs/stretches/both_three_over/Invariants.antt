@@ -1,13 +1,8 @@
-use mathlib.Core.Path.{refl, ◌∙◌}
 use Prim.Native.Nat.{◌-◌, ◌*◌}
-use native.Mathlib.Omega.{arith}
-use borrow.Author.Rules.{rules}
 use lib.ListN.{length}
 use Rattle.algebra.specs.Laws.Parts.{Making}
-use Rattle.algebra.proofs.Laws.Parts.{making-all, as_long, room, room-now, shorter}
 use Rattle.contrasts.proofs.Factors.{three}
-use Rattle.contrasts.proofs.Laws.Both.{both_over, stretch-fits, both-none, next-stretch, one-stretch}
-use Rattle.nines.proofs.Worked.{nine-places}
+use Rattle.contrasts.proofs.Laws.Both.{both_over}
 use Rattle.nines.proofs.stretches.both_three_over.Given as goal
 
 abbrev pub invariant-loop-start : goal.invariant-loop-start

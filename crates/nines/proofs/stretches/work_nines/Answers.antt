@@ -1,5 +1,5 @@
 use mathlib.Core.Path.{◌≡◌, refl, sym, ◌∙◌}
-use Prim.Native.Nat.{ℕ, ◌+◌, ◌-◌, ◌*◌, ◌^◌, ◌<◌}
+use Prim.Native.Nat.{ℕ, ◌+◌, ◌*◌, ◌^◌, ◌<◌}
 use native.Mathlib.Omega.{arith}
 use lib.Dec.{lit<}
 use lib.IntN.{pos}
@@ -10,7 +10,7 @@ use Rattle.contrasts.specs.Columns.{read}
 use Rattle.contrasts.proofs.Factors.{three}
 use Rattle.contrasts.proofs.Laws.Both.{both-begun, both-ended}
 use Rattle.contrasts.proofs.Laws.Small.{Mild, mild-small, mild-held}
-use Rattle.nines.proofs.Worked.{Worked, value-small, nine-ready, nines-more}
+use Rattle.nines.proofs.Worked.{value-small, nine-ready, nines-more}
 use Rattle.nines.proofs.stretches.work_nines.Goals as goal
 
 pub loop-i-init : goal.loop-i-init

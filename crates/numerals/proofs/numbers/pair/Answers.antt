@@ -1,5 +1,4 @@
 use native.Mathlib.Omega.{arith}
-use borrow.Author.Rules.{rules}
 use Rattle.numerals.specs.Numbers.{big}
 use Rattle.numerals.proofs.numbers.pair.Goals as goal
 

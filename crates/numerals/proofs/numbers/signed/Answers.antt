@@ -1,4 +1,3 @@
-use borrow.Author.Rules.{rules}
 use Rattle.numerals.proofs.Signed.{below, in-range, above}
 use Rattle.numerals.proofs.numbers.signed.Goals as goal
 

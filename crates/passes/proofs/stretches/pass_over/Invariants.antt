@@ -1,8 +1,6 @@
 use Prim.Native.Nat.{◌-◌}
-use native.Mathlib.Omega.{arith}
 use lib.ListN.{length}
-use Rattle.algebra.proofs.Laws.Parts.{making-all, as_long, room, room-now, shorter}
-use Rattle.passes.proofs.Passed.{Passing, passing-none, width_fits, some-width, next-stretch, passing-more}
+use Rattle.passes.proofs.Passed.{Passing}
 use Rattle.passes.proofs.stretches.pass_over.Given as goal
 
 abbrev pub invariant-loop-start : goal.invariant-loop-start

@@ -1,6 +1,5 @@
 use mathlib.Core.Path.{refl, ◌∙◌}
 use Rattle.contrasts.proofs.Laws.Levels.{the-three, as-two, as-three}
-use borrow.Author.Rules.{rules}
 use Rattle.passes.proofs.stretches.stretch.Goals as goal
 
 pub stretch_two-requires : goal.stretch_two-requires

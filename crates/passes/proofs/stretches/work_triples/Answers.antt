@@ -1,6 +1,6 @@
 use lib.Dec.{lit≤}
 use mathlib.Core.Path.{sym, ◌∙◌}
-use Prim.Native.Nat.{◌+◌, ◌-◌, ◌*◌}
+use Prim.Native.Nat.{◌+◌, ◌*◌}
 use native.Mathlib.Omega.{arith}
 use lib.ListN.{length-set}
 use Rattle.algebra.proofs.Laws.Spread.{as_long}
@@ -8,7 +8,7 @@ use lib.IntN.{pos}
 use Rattle.contrasts.specs.Columns.{read}
 use Rattle.contrasts.proofs.Laws.Small.{Mild}
 use Rattle.contrasts.proofs.Laws.Sets.{sum_fits, less-fits, all-fits, scaled_fits, without-fits, third-fits}
-use Rattle.passes.proofs.Worked.{Stretched, stretch-begun, stretch-ended, triple, stretch-three}
+use Rattle.passes.proofs.Worked.{stretch-begun, stretch-ended, triple, stretch-three}
 use Rattle.passes.proofs.stretches.work_triples.Goals as goal
 
 pub loop-i-init : goal.loop-i-init

@@ -1,14 +1,5 @@
-use lib.Dec.{lit≤}
-use mathlib.Core.Path.{sym, ◌∙◌}
-use Prim.Native.Nat.{◌+◌, ◌-◌, ◌*◌}
-use native.Mathlib.Omega.{arith}
-use lib.ListN.{length-set}
-use Rattle.algebra.proofs.Laws.Spread.{as_long}
-use lib.IntN.{pos}
-use Rattle.contrasts.specs.Columns.{read}
-use Rattle.contrasts.proofs.Laws.Small.{Mild}
-use Rattle.contrasts.proofs.Laws.Sets.{sum_fits, less-fits, all-fits, scaled_fits, without-fits, third-fits}
-use Rattle.passes.proofs.Worked.{Stretched, stretch-begun, stretch-ended, triple, stretch-three}
+use Prim.Native.Nat.{◌-◌}
+use Rattle.passes.proofs.Worked.{Stretched}
 use Rattle.passes.proofs.stretches.work_triples.Given as goal
 
 abbrev pub invariant-loop-i : goal.invariant-loop-i

@@ -1,6 +1,5 @@
-use Prim.Native.Nat.{◌-◌}
 use native.Mathlib.Omega.{arith}
-use Rattle.passes.proofs.Formed.{AllPassed, all_none, all-ready, spacing-fits, all_more, all-long, all_done}
+use Rattle.passes.proofs.Formed.{all_none, all-ready, spacing-fits, all_more, all-long, all_done}
 use Rattle.passes.proofs.totals.all_passes.Goals as goal
 
 pub loop-f-init : goal.loop-f-init

@@ -1,6 +1,5 @@
 use Prim.Native.Nat.{◌-◌}
-use native.Mathlib.Omega.{arith}
-use Rattle.passes.proofs.Formed.{AllPassed, all_none, all-ready, spacing-fits, all_more, all-long, all_done}
+use Rattle.passes.proofs.Formed.{AllPassed}
 use Rattle.passes.proofs.totals.all_passes.Given as goal
 
 abbrev pub invariant-loop-f : goal.invariant-loop-f

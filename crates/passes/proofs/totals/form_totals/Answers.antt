@@ -1,5 +1,4 @@
 use mathlib.Core.Path.{refl, ◌∙◌}
-use borrow.Author.Rules.{rules}
 use Rattle.passes.proofs.Summed.{once-ready, once-made, runs-ready, sums-ready}
 use Rattle.passes.proofs.totals.form_totals.Goals as goal
 

@@ -1,5 +1,4 @@
 use mathlib.Core.Path.{refl, ◌∙◌}
-use borrow.Author.Rules.{rules}
 use Rattle.columns.specs.Laws.Copies.{copied-over}
 use Rattle.contrasts.proofs.Laws.Levels.{the-three, as-two, as-three}
 use Rattle.passes.proofs.totals.once.Goals as goal

@@ -1,7 +1,6 @@
 use mathlib.Core.Path.{refl, sym, ◌∙◌}
-use Prim.Native.Nat.{◌-◌}
 use native.Mathlib.Omega.{arith}
-use Rattle.passes.proofs.Formed.{AllPassed, all-ready, all_more, all-long, all_done, two_ready, two_fits, two-more, first-ready, first_more}
+use Rattle.passes.proofs.Formed.{all-ready, all_more, all-long, all_done, two_ready, two_fits, two-more, first-ready, first_more}
 use Rattle.passes.proofs.totals.three_level_passes.Goals as goal
 
 pub put_nines-requires : goal.put_nines-requires

@@ -1,7 +1,5 @@
-use mathlib.Core.Path.{refl, sym, ◌∙◌}
 use Prim.Native.Nat.{◌-◌}
-use native.Mathlib.Omega.{arith}
-use Rattle.passes.proofs.Formed.{AllPassed, all-ready, all_more, all-long, all_done, two_ready, two_fits, two-more, first-ready, first_more}
+use Rattle.passes.proofs.Formed.{AllPassed}
 use Rattle.passes.proofs.totals.three_level_passes.Given as goal
 
 abbrev pub invariant-loop-done : goal.invariant-loop-done

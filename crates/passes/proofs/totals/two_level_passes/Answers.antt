@@ -1,7 +1,6 @@
 use mathlib.Core.Path.{refl, sym, ◌∙◌}
-use Prim.Native.Nat.{◌-◌}
 use native.Mathlib.Omega.{arith}
-use Rattle.passes.proofs.Formed.{AllPassed, all-ready, all_more, all-long, all_done, two_ready, two_fits, two-more, first-ready, first_more}
+use Rattle.passes.proofs.Formed.{all-ready, all_more, all-long, all_done, two_ready, two_fits, two-more, first-ready, first_more}
 use Rattle.passes.proofs.totals.two_level_passes.Goals as goal
 
 pub put_fours-requires : goal.put_fours-requires

@@ -1,5 +1,4 @@
 use mathlib.Core.Path.{refl}
-use borrow.Author.Rules.{rules}
 use Rattle.plan.proofs.Laws.Words.{the-first}
 use Rattle.plan.proofs.blocks.first_word.Goals as goal
 

@@ -1,6 +1,5 @@
 use mathlib.Core.Path.{refl}
 use borrow.Author.Tests.{ne_eqb}
-use borrow.Author.Rules.{rules}
 use Rattle.plan.proofs.blocks.number_count.Goals as goal
 
 pub returns-then-p-eq3 : goal.returns-then-p-eq3

@@ -1,5 +1,4 @@
 use mathlib.Core.Path.{refl, ◌∙◌}
-use borrow.Author.Rules.{rules}
 use Rattle.plan.proofs.blocks.three_word.Goals as goal
 
 pub returns : goal.returns

@@ -1,6 +1,5 @@
 use mathlib.Core.Path.{refl, ◌∙◌, ap}
 use lib.ListN.{replicate}
-use borrow.Author.Rules.{rules}
 use borrow.Author.Tests.{lt-ltb, le-ltb}
 use Rattle.contrasts.proofs.Factors.{three}
 use Rattle.contrasts.specs.Limits.{most_three}

@@ -1,6 +1,5 @@
 use mathlib.Core.Path.{◌≡◌}
 use mathlib.Core.Bool.{false}
-use borrow.Author.Rules.{rules}
 use Rattle.words.specs.Words.{any}
 use Rattle.plan.specs.Check.{bad_word, bad_sign, bad_words}
 use Rattle.algebra.specs.Laws.Tests.{is}

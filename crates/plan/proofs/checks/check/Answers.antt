@@ -1,6 +1,5 @@
 use mathlib.Core.Path.{refl}
 use borrow.Author.Tests.{ne_eqb}
-use borrow.Author.Rules.{rules}
 use Rattle.plan.proofs.checks.check.Goals as goal
 
 pub returns-then-n-eq0 : goal.returns-then-n-eq0

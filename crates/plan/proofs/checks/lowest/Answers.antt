@@ -1,5 +1,4 @@
 use mathlib.Core.Path.{◌≡◌, refl, sym, ap, ◌∙◌}
-use borrow.Author.Rules.{rules}
 use Rattle.algebra.specs.Laws.Tests.{is}
 use Rattle.plan.specs.Plan.{runs_of}
 use Rattle.plan.specs.Check.{bad_repeats}

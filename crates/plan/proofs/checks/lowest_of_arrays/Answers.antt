@@ -1,7 +1,6 @@
 use mathlib.Core.Path.{sym}
 use native.Mathlib.Omega.{arith}
 use lib.Seq.{length-take-le}
-use borrow.Author.Rules.{rules}
 use Rattle.plan.proofs.checks.lowest_of_arrays.Goals as goal
 
 pub slice_bounds-lowest_of_words-end : goal.slice_bounds-lowest_of_words-end

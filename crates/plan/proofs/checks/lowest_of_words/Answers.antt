@@ -1,6 +1,5 @@
 use mathlib.Core.Path.{◌≡◌, refl}
 use mathlib.Core.Bool.{false}
-use borrow.Author.Rules.{rules}
 use Rattle.words.specs.Words.{repeated}
 use Rattle.plan.specs.Plan.{combines_to}
 use Rattle.plan.specs.Check.{bad_words, dependent}

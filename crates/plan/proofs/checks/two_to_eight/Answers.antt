@@ -1,6 +1,5 @@
 use mathlib.Core.Path.{◌≡◌, refl}
 use mathlib.Core.Bool.{false}
-use borrow.Author.Rules.{rules}
 use Rattle.plan.specs.Check.{bad_levels, bad_factors, bad_counts}
 use Rattle.plan.proofs.Laws.Accepted.{factors-known, counts-known, at-most-ten}
 use Rattle.plan.proofs.Laws.Words.{counts-few}

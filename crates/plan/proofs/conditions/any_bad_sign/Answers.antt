@@ -1,8 +1,5 @@
-use Prim.Native.Nat.{◌-◌}
-use native.Mathlib.Omega.{arith}
-use lib.ListN.{length, get_or}
 use borrow.Author.Tests.{lt-ltb, le-ltb}
-use Rattle.algebra.specs.Laws.Searching.{Unfound, unfound, onward, found, nowhere}
+use Rattle.algebra.specs.Laws.Searching.{unfound, onward, found, nowhere}
 use Rattle.words.specs.Words.{any}
 use Rattle.plan.specs.Check.{bad_sign}
 use Rattle.plan.proofs.conditions.any_bad_sign.Goals as goal

@@ -1,5 +1,4 @@
 use mathlib.Core.Path.{refl}
-use borrow.Author.Rules.{rules}
 use Rattle.contrasts.specs.Limits.{most_readings}
 use Rattle.algebra.specs.Laws.Tests.{is}
 use Rattle.plan.specs.Check.{bad_repeats}

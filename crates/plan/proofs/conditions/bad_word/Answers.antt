@@ -1,4 +1,3 @@
-use native.Mathlib.Omega.{arith}
 use Rattle.plan.specs.Check.{bad_word}
 use Rattle.algebra.specs.Laws.Tests.{is}
 use Rattle.plan.proofs.conditions.bad_word.Goals as goal

@@ -1,10 +1,8 @@
 use mathlib.Core.Path.{sym, ◌∙◌}
-use Prim.Native.Nat.{◌-◌}
 use native.Mathlib.Omega.{arith}
-use lib.Dec.{eqb}
 use borrow.Author.Tests.{eq-eqb, ne_eqb}
 use Rattle.plan.specs.Plan.{combines_to}
-use Rattle.plan.proofs.Laws.Combinations.{Trying, trying, try-more, tried, tried-all}
+use Rattle.plan.proofs.Laws.Combinations.{trying, try-more, tried, tried-all}
 use Rattle.plan.proofs.conditions.combines_to.Goals as goal
 
 pub loop-choice-init : goal.loop-choice-init

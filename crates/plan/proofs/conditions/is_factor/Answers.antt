@@ -1,6 +1,5 @@
 use mathlib.Core.Path.{refl}
 use borrow.Author.Tests.{ne_eqb}
-use borrow.Author.Rules.{rules}
 use Rattle.plan.specs.Check.{factor_word}
 use Rattle.plan.proofs.conditions.is_factor.Goals as goal
 

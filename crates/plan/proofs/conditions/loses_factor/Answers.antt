@@ -1,8 +1,7 @@
-use Prim.Native.Nat.{◌-◌}
 use native.Mathlib.Omega.{arith}
 use Rattle.algebra.specs.Laws.Tests.{is}
-use Rattle.plan.specs.Check.{factor_word, loses_factor}
-use Rattle.plan.proofs.Laws.Combinations.{Trying, trying, try-more, tried, tried-all}
+use Rattle.plan.specs.Check.{loses_factor}
+use Rattle.plan.proofs.Laws.Combinations.{trying, try-more, tried, tried-all}
 use Rattle.plan.proofs.conditions.loses_factor.Goals as goal
 
 pub loop-chosen-init : goal.loop-chosen-init

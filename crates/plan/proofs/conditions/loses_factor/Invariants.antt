@@ -1,8 +1,6 @@
 use Prim.Native.Nat.{◌-◌}
-use native.Mathlib.Omega.{arith}
-use Rattle.algebra.specs.Laws.Tests.{is}
-use Rattle.plan.specs.Check.{factor_word, loses_factor}
-use Rattle.plan.proofs.Laws.Combinations.{Trying, trying, try-more, tried, tried-all}
+use Rattle.plan.specs.Check.{factor_word}
+use Rattle.plan.proofs.Laws.Combinations.{Trying}
 use Rattle.plan.proofs.conditions.loses_factor.Given as goal
 
 abbrev pub invariant-loop-chosen : goal.invariant-loop-chosen

@@ -1,7 +1,6 @@
 use mathlib.Core.Path.{sym}
 use native.Mathlib.Omega.{arith}
 use lib.Seq.{length-take-le}
-use borrow.Author.Rules.{rules}
 use Rattle.plan.proofs.confounding.combines_in.Goals as goal
 
 pub slice_bounds-combines_to-end : goal.slice_bounds-combines_to-end

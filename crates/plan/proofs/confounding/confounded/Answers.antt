@@ -1,6 +1,5 @@
 use mathlib.Core.Path.{refl, sym, ◌∙◌}
 use borrow.Author.Tests.{ne_eqb}
-use borrow.Author.Rules.{rules}
 use Rattle.plan.specs.Check.{confounded_accepted}
 use Rattle.plan.proofs.Laws.Accepted.{sizes}
 use Rattle.plan.proofs.Laws.Words.{counts-few}

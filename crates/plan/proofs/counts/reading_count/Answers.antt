@@ -1,5 +1,4 @@
 use mathlib.Core.Path.{refl, ◌∙◌}
-use borrow.Author.Rules.{rules}
 use Rattle.plan.specs.Check.{reading_count}
 use Rattle.plan.proofs.Laws.Sizes.{runs-within}
 use Rattle.plan.proofs.counts.reading_count.Goals as goal

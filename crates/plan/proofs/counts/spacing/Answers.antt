@@ -1,7 +1,6 @@
 use mathlib.Core.Path.{◌≡◌, refl, sym, ◌∙◌}
 use mathlib.Core.Bool.{false}
 use native.Mathlib.Omega.{arith}
-use borrow.Author.Rules.{rules}
 use borrow.Author.Tests.{le-leb, lt-leb}
 use Rattle.plan.specs.Check.{bad_levels, bad_factors, spacing_at}
 use Rattle.plan.proofs.Laws.Accepted.{levels-known, levels-small, factors-known, at-most-ten}

@@ -1,8 +1,5 @@
-use mathlib.Core.Path.{◌≡◌, sym, ap, ◌∙◌}
+use mathlib.Core.Path.{◌≡◌}
 use Prim.Native.Nat.{◌-◌, ◌^◌, ◌≤◌}
-use native.Mathlib.Nat.{pow-zero}
-use native.Mathlib.Omega.{arith}
-use Rattle.plan.proofs.Laws.Sizes.{power-room, power-more}
 use Rattle.plan.proofs.counts.to_the_power.Given as goal
 
 abbrev pub invariant-loop-i : goal.invariant-loop-i

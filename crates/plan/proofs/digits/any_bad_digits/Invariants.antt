@@ -1,10 +1,7 @@
 use Prim.Native.Nat.{◌-◌}
-use native.Mathlib.Omega.{arith}
 use lib.ListN.{length, get_or}
-use Rattle.algebra.specs.Laws.Searching.{Unfound, unfound, onward, found, nowhere}
-use Rattle.words.specs.Words.{any}
+use Rattle.algebra.specs.Laws.Searching.{Unfound}
 use Rattle.plan.specs.Check.{bad_digits}
-use Rattle.algebra.specs.Laws.Tests.{is}
 use Rattle.plan.proofs.digits.any_bad_digits.Given as goal
 
 abbrev pub invariant-loop-i : goal.invariant-loop-i

@@ -1,5 +1,4 @@
 use native.Mathlib.Omega.{arith}
-use borrow.Author.Rules.{rules}
 use Rattle.plan.proofs.Laws.Digits.{too_large, too_few, by-lowest}
 use Rattle.plan.proofs.digits.bad_digits.Goals as goal
 

@@ -1,6 +1,4 @@
-use Prim.Native.Nat.{◌-◌}
-use native.Mathlib.Omega.{arith}
-use Rattle.plan.proofs.Laws.Digits.{Unused, unused, zero-digit, lowest-found, none-used}
+use Rattle.plan.proofs.Laws.Digits.{unused, zero-digit, lowest-found, none-used}
 use Rattle.plan.proofs.digits.lowest_digit.Goals as goal
 
 pub loop-i-init : goal.loop-i-init

@@ -1,6 +1,5 @@
 use Prim.Native.Nat.{◌-◌}
-use native.Mathlib.Omega.{arith}
-use Rattle.plan.proofs.Laws.Digits.{Unused, unused, zero-digit, lowest-found, none-used}
+use Rattle.plan.proofs.Laws.Digits.{Unused}
 use Rattle.plan.proofs.digits.lowest_digit.Given as goal
 
 abbrev pub invariant-loop-i : goal.invariant-loop-i

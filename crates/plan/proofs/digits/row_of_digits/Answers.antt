@@ -1,6 +1,6 @@
-use Prim.Native.Nat.{◌*◌, ◌-◌, ◌≤◌}
+use Prim.Native.Nat.{◌*◌, ◌≤◌}
 use native.Mathlib.Omega.{arith}
-use Rattle.plan.proofs.Laws.Digits.{Collecting, collecting, letter-few, letter-put, one-collected, collected}
+use Rattle.plan.proofs.Laws.Digits.{collecting, letter-few, letter-put, one-collected, collected}
 use Rattle.plan.proofs.digits.row_of_digits.Goals as goal
 
 pub loop-i-init : goal.loop-i-init

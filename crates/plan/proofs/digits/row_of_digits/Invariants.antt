@@ -1,6 +1,5 @@
-use Prim.Native.Nat.{◌*◌, ◌-◌, ◌≤◌}
-use native.Mathlib.Omega.{arith}
-use Rattle.plan.proofs.Laws.Digits.{Collecting, collecting, letter-few, letter-put, one-collected, collected}
+use Prim.Native.Nat.{◌-◌}
+use Rattle.plan.proofs.Laws.Digits.{Collecting}
 use Rattle.plan.proofs.digits.row_of_digits.Given as goal
 
 abbrev pub invariant-loop-i : goal.invariant-loop-i

@@ -1,6 +1,5 @@
-use Prim.Native.Nat.{◌-◌}
 use native.Mathlib.Omega.{arith}
-use Rattle.plan.proofs.Laws.Digits.{Adding, adding, product-few, one-added, added-up}
+use Rattle.plan.proofs.Laws.Digits.{adding, product-few, one-added, added-up}
 use Rattle.plan.proofs.digits.three_block.Goals as goal
 
 pub loop-i-init : goal.loop-i-init

@@ -1,6 +1,5 @@
-use Prim.Native.Nat.{◌-◌}
 use native.Mathlib.Omega.{arith}
-use Rattle.plan.proofs.Laws.Digits.{Counting, counting, one-counted, counted}
+use Rattle.plan.proofs.Laws.Digits.{counting, one-counted, counted}
 use Rattle.plan.proofs.digits.used_digits.Goals as goal
 
 pub loop-i-init : goal.loop-i-init

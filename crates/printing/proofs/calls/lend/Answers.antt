@@ -1,6 +1,5 @@
 use mathlib.Core.Path.{◌≡◌, sym}
 use Prim.Native.Nat.{◌≤◌}
-use borrow.Author.Rules.{rules}
 use lib.ListN.{length, take}
 use lib.Seq.{length-take-le}
 use Rattle.printing.specs.Laws.Tables.{few-runs, few-rows, readings-long, lent-text}

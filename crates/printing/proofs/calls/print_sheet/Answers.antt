@@ -1,4 +1,3 @@
-use borrow.Author.Rules.{rules}
 use Rattle.printing.specs.Laws.Lengths.{too_long, long-enough}
 use Rattle.printing.proofs.calls.print_sheet.Goals as goal
 

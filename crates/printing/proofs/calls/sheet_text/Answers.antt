@@ -1,6 +1,5 @@
 use mathlib.Core.Path.{refl}
 use native.Mathlib.Nat.{le_refl}
-use borrow.Author.Rules.{rules}
 use Rattle.printing.specs.Laws.Sheets.{sheet-ready, sheet-made, sheet-stopped}
 use Rattle.printing.proofs.calls.sheet_text.Goals as goal
 

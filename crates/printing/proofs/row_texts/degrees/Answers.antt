@@ -1,4 +1,3 @@
-use borrow.Author.Rules.{rules}
 use native.Mathlib.Omega.{arith}
 use Rattle.printing.specs.Laws.Rows.{one-degree, power-degrees, few-letters}
 use Rattle.printing.proofs.row_texts.degrees.Goals as goal

@@ -1,11 +1,7 @@
-use mathlib.Core.Path.{◌∙◌}
-use native.Mathlib.Omega.{arith}
 use Prim.Native.Nat.{◌-◌, ◌≤◌}
 use lib.ListN.{length}
 use Rattle.text.specs.Text.{Wrote}
-use Rattle.text.specs.Laws.Writing.{same_size}
 use Rattle.printing.specs.Inner.Written.{rows_by}
-use Rattle.printing.specs.Laws.Rows.{no_rows, none-used, row_more, all-rows, few-rows}
 use Rattle.printing.proofs.row_texts.row_lines.Given as goal
 
 abbrev pub invariant-loop-i : goal.invariant-loop-i

@@ -1,4 +1,3 @@
-use borrow.Author.Rules.{rules}
 use Rattle.printing.specs.Laws.Tables.{rows-ready, made-text, stopped-text}
 use Rattle.printing.proofs.tables.answer_text.Goals as goal
 

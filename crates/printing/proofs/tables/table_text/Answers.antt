@@ -1,4 +1,3 @@
-use borrow.Author.Rules.{rules}
 use Rattle.printing.specs.Laws.Tables.{table-lines}
 use Rattle.printing.proofs.tables.table_text.Goals as goal
 

@@ -1,5 +1,4 @@
 use mathlib.Core.Path.{◌∙◌, ap, sym}
-use borrow.Author.Rules.{rules}
 use Rattle.contrasts.proofs.Laws.Undo.{sums_from}
 use Rattle.columns.specs.Laws.Copies.{copied-over}
 use Rattle.plan.specs.Plan.{factors_of}

@@ -1,6 +1,5 @@
 use mathlib.Core.Path.{sym, ◌∙◌}
 use lib.Seq.{length-take-le}
-use borrow.Author.Rules.{rules}
 use Rattle.recovery.proofs.Found.{few}
 use Rattle.recovery.proofs.calls.lend.Goals as goal
 

@@ -1,7 +1,6 @@
 use mathlib.Core.Path.{◌≡◌, sym, ◌∙◌}
 use mathlib.Core.Bool.{◌||◌}
 use lib.ListN.{length}
-use borrow.Author.Rules.{rules}
 use Rattle.algebra.specs.Laws.Tests.{is}
 use Rattle.plan.proofs.Laws.Answers.{stopped}
 use Rattle.columns.specs.Refusals.{wrong_length, lengths_refused}

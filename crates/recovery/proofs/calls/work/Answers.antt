@@ -1,5 +1,4 @@
 use mathlib.Core.Path.{◌∙◌}
-use borrow.Author.Rules.{rules}
 use Rattle.algebra.specs.Laws.Tests.{is}
 use Rattle.recovery.proofs.Found.{lengths, judgeable, narrow, refused-14, done}
 use Rattle.recovery.proofs.calls.work.Goals as goal

@@ -1,7 +1,5 @@
-use Prim.Native.Nat.{◌-◌}
 use native.Mathlib.Omega.{arith}
-use lib.ListN.{length}
-use Rattle.recovery.proofs.Divided.{Dividing, dividing-none, dividing-all, dividing-long, quotient-asks, product-size, divided}
+use Rattle.recovery.proofs.Divided.{dividing-none, dividing-all, dividing-long, quotient-asks, product-size, divided}
 use Rattle.recovery.proofs.quotients.divide.Goals as goal
 
 pub loop-i-init : goal.loop-i-init

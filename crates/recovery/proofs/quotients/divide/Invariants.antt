@@ -1,7 +1,6 @@
 use Prim.Native.Nat.{◌-◌}
-use native.Mathlib.Omega.{arith}
 use lib.ListN.{length}
-use Rattle.recovery.proofs.Divided.{Dividing, dividing-none, dividing-all, dividing-long, quotient-asks, product-size, divided}
+use Rattle.recovery.proofs.Divided.{Dividing}
 use Rattle.recovery.proofs.quotients.divide.Given as goal
 
 abbrev pub invariant-loop-i : goal.invariant-loop-i

@@ -1,5 +1,4 @@
 use native.Mathlib.Omega.{arith}
-use borrow.Author.Rules.{rules}
 use Rattle.recovery.proofs.Divided.{product-fits, not-exact, exact}
 use Rattle.recovery.proofs.quotients.is_missed.Goals as goal
 

@@ -1,10 +1,7 @@
 use Prim.Native.Nat.{◌-◌}
-use native.Mathlib.Omega.{arith}
 use lib.IntN.{pos}
 use lib.ListN.{length}
-use Rattle.algebra.specs.Laws.Copied.{Copying, copying-none, copying-long, copying-more, copying-all}
-use Rattle.contrasts.specs.Columns.{read}
-use Rattle.recovery.proofs.Divided.{narrowed-fits, narrowed}
+use Rattle.algebra.specs.Laws.Copied.{Copying}
 use Rattle.recovery.proofs.quotients.put.Given as goal
 
 abbrev pub invariant-loop-i : goal.invariant-loop-i

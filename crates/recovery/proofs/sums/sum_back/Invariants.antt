@@ -1,6 +1,4 @@
-use native.Mathlib.Omega.{arith}
-use Rattle.contrasts.proofs.Laws.Levels.{some-levels}
-use Rattle.recovery.proofs.Summed.{AllSummed, all_none, all-ready, all_more, all-long, all_done, next_fits}
+use Rattle.recovery.proofs.Summed.{AllSummed}
 use Rattle.recovery.proofs.sums.sum_back.Given as goal
 
 abbrev pub invariant-loop-f : goal.invariant-loop-f

@@ -1,5 +1,4 @@
 use mathlib.Core.Path.{refl, ◌∙◌}
-use borrow.Author.Rules.{rules}
 use Rattle.recovery.proofs.sums.sum_stretch.Goals as goal
 
 pub returns-then-spacing-eq1 : goal.returns-then-spacing-eq1

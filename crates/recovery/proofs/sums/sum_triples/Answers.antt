@@ -1,5 +1,5 @@
 use mathlib.Core.Path.{sym, ◌∙◌}
-use Prim.Native.Nat.{◌+◌, ◌-◌, ◌*◌}
+use Prim.Native.Nat.{◌+◌, ◌*◌}
 use native.Mathlib.Omega.{arith}
 use lib.Dec.{lit≤}
 use lib.IntN.{pos}
@@ -7,7 +7,7 @@ use lib.ListN.{length-set}
 use Rattle.algebra.proofs.Laws.Spread.{as_long}
 use Rattle.contrasts.specs.Columns.{read}
 use Rattle.recovery.proofs.Held.{plus-fits, minus-fits, times-fits}
-use Rattle.recovery.proofs.Worked.{Stretched, stretch-begun, stretch-ended, Triple, triple, twice-first, thrice-middle, twice-third, with-middle, less-middle, stretch-three}
+use Rattle.recovery.proofs.Worked.{stretch-begun, stretch-ended, Triple, triple, twice-first, thrice-middle, twice-third, with-middle, less-middle, stretch-three}
 use Rattle.recovery.proofs.sums.sum_triples.Goals as goal
 
 pub loop-i-init : goal.loop-i-init

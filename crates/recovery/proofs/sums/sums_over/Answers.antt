@@ -1,5 +1,4 @@
 use mathlib.Core.Path.{refl, sym, ◌∙◌}
-use borrow.Author.Rules.{rules}
 use Rattle.contrasts.proofs.Laws.Levels.{the-three, as-two, as-three}
 use Rattle.contrasts.proofs.Laws.Undo.{sums-two}
 use Rattle.recovery.proofs.sums.sums_over.Goals as goal

@@ -1,8 +1,6 @@
-use Prim.Native.Nat.{◌-◌}
 use native.Mathlib.Omega.{arith}
-use lib.ListN.{length}
 use Rattle.algebra.proofs.Laws.Parts.{making-all, as_long, room, room-now, shorter}
-use Rattle.recovery.proofs.Summed.{Summing, summing-none, width_fits, some-width, next-stretch, summing-more}
+use Rattle.recovery.proofs.Summed.{summing-none, width_fits, some-width, next-stretch, summing-more}
 use Rattle.recovery.proofs.sums.sums_three.Goals as goal
 
 pub overflow_mul-width : goal.overflow_mul-width

@@ -1,8 +1,6 @@
 use Prim.Native.Nat.{◌-◌}
-use native.Mathlib.Omega.{arith}
 use lib.ListN.{length}
-use Rattle.algebra.proofs.Laws.Parts.{making-all, as_long, room, room-now, shorter}
-use Rattle.recovery.proofs.Summed.{Summing, summing-none, width_fits, some-width, next-stretch, summing-more}
+use Rattle.recovery.proofs.Summed.{Summing}
 use Rattle.recovery.proofs.sums.sums_three.Given as goal
 
 abbrev pub invariant-loop-start : goal.invariant-loop-start

@@ -1,9 +1,8 @@
-use Prim.Native.Nat.{◌+◌, ◌-◌, ◌*◌}
+use Prim.Native.Nat.{◌+◌, ◌*◌}
 use native.Mathlib.Omega.{arith}
-use lib.IntN.{ℤ}
 use Rattle.algebra.proofs.Laws.Machine.{widened-fits}
 use Rattle.contrasts.specs.Columns.{read}
-use Rattle.repeats.proofs.Added.{Adding, adding-none, adding-more, adding-all, adding-fits}
+use Rattle.repeats.proofs.Added.{adding-none, adding-more, adding-all, adding-fits}
 use Rattle.repeats.proofs.sums.run_sum.Goals as goal
 
 pub overflow_mul-start : goal.overflow_mul-start

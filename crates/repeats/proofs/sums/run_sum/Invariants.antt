@@ -1,9 +1,5 @@
-use Prim.Native.Nat.{◌+◌, ◌-◌, ◌*◌}
-use native.Mathlib.Omega.{arith}
-use lib.IntN.{ℤ}
-use Rattle.algebra.proofs.Laws.Machine.{widened-fits}
-use Rattle.contrasts.specs.Columns.{read}
-use Rattle.repeats.proofs.Added.{Adding, adding-none, adding-more, adding-all, adding-fits}
+use Prim.Native.Nat.{◌-◌}
+use Rattle.repeats.proofs.Added.{Adding}
 use Rattle.repeats.proofs.sums.run_sum.Given as goal
 
 abbrev pub invariant-loop-j : goal.invariant-loop-j

@@ -1,5 +1,4 @@
 use mathlib.Core.Path.{refl, ◌∙◌}
-use borrow.Author.Rules.{rules}
 use Rattle.rows.proofs.Putting.{all_kinds}
 use Rattle.rows.proofs.kinds_of_rows.kinds.Goals as goal
 

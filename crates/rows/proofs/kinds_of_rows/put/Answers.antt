@@ -1,6 +1,5 @@
-use mathlib.Core.Path.{refl, sym}
+use mathlib.Core.Path.{sym}
 use lib.Seq.{set_out}
-use borrow.Author.Rules.{rules}
 use Rattle.rows.proofs.kinds_of_rows.put.Goals as goal
 
 pub returns-else-row-kinds : goal.returns-else-row-kinds

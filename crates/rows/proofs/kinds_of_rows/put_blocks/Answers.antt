@@ -1,7 +1,6 @@
 use mathlib.Core.Path.{sym, ap, ◌∙◌}
 use native.Mathlib.Omega.{arith}
 use lib.Seq.{length-take-le, take_all}
-use borrow.Author.Rules.{rules}
 use Rattle.rows.specs.Inner.Written.{with_blocks}
 use Rattle.rows.proofs.kinds_of_rows.put_blocks.Goals as goal
 

@@ -1,8 +1,7 @@
-use Prim.Native.Nat.{◌-◌}
 use native.Mathlib.Nat.{one-le-pow}
 use native.Mathlib.Omega.{arith}
 use lib.Dec.{lit<}
-use Rattle.rows.proofs.Putting.{Blocking, blocking-none, blocking-long, blocking-more, blocking-all}
+use Rattle.rows.proofs.Putting.{blocking-none, blocking-long, blocking-more, blocking-all}
 use Rattle.rows.proofs.kinds_of_rows.put_combinations.Goals as goal
 
 pub loop-choice-init : goal.loop-choice-init

@@ -1,6 +1,5 @@
-use Prim.Native.Nat.{◌-◌}
 use native.Mathlib.Omega.{arith}
-use Rattle.rows.proofs.Putting.{Marking, marking-none, marking-long, marking-more, marking-all}
+use Rattle.rows.proofs.Putting.{marking-none, marking-long, marking-more, marking-all}
 use Rattle.rows.proofs.kinds_of_rows.put_marks.Goals as goal
 
 pub loop-row-init : goal.loop-row-init

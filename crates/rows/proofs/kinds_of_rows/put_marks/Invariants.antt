@@ -1,6 +1,5 @@
 use Prim.Native.Nat.{◌-◌}
-use native.Mathlib.Omega.{arith}
-use Rattle.rows.proofs.Putting.{Marking, marking-none, marking-long, marking-more, marking-all}
+use Rattle.rows.proofs.Putting.{Marking}
 use Rattle.rows.proofs.kinds_of_rows.put_marks.Given as goal
 
 abbrev pub invariant-loop-row : goal.invariant-loop-row

@@ -1,7 +1,6 @@
 use mathlib.Core.Path.{sym, ap, ◌∙◌}
 use native.Mathlib.Omega.{arith}
 use lib.Seq.{length-take-le, take_all}
-use borrow.Author.Rules.{rules}
 use Rattle.plan.specs.Plan.{some_combination}
 use Rattle.rows.specs.Kinds.{marked}
 use Rattle.rows.proofs.marks.any_block_marked.Goals as goal

@@ -1,8 +1,6 @@
-use Prim.Native.Nat.{◌-◌}
 use native.Mathlib.Omega.{arith}
 use Rattle.algebra.specs.Laws.Tests.{is}
-use Rattle.plan.proofs.Laws.Combinations.{Trying, trying, try-more, tried, tried-all}
-use Rattle.rows.specs.Kinds.{marked}
+use Rattle.plan.proofs.Laws.Combinations.{trying, try-more, tried, tried-all}
 use Rattle.rows.proofs.marks.any_combination_marked.Goals as goal
 
 pub loop-choice-init : goal.loop-choice-init

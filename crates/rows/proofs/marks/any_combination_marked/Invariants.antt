@@ -1,7 +1,5 @@
 use Prim.Native.Nat.{◌-◌}
-use native.Mathlib.Omega.{arith}
-use Rattle.algebra.specs.Laws.Tests.{is}
-use Rattle.plan.proofs.Laws.Combinations.{Trying, trying, try-more, tried, tried-all}
+use Rattle.plan.proofs.Laws.Combinations.{Trying}
 use Rattle.rows.specs.Kinds.{marked}
 use Rattle.rows.proofs.marks.any_combination_marked.Given as goal
 

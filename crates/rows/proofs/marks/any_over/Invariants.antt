@@ -1,10 +1,7 @@
-use mathlib.Core.Path.{refl}
 use Prim.Native.Nat.{◌-◌}
-use native.Mathlib.Omega.{arith}
 use lib.Dec.{ltb}
 use lib.ListN.{length, get_or}
-use Rattle.algebra.specs.Laws.Searching.{Seen, seen_none, seen_more, seen_all}
-use Rattle.rows.specs.Inner.Written.{any_over}
+use Rattle.algebra.specs.Laws.Searching.{Seen}
 use Rattle.rows.proofs.marks.any_over.Given as goal
 
 abbrev pub invariant-loop-w : goal.invariant-loop-w

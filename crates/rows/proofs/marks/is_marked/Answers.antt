@@ -1,6 +1,5 @@
 use mathlib.Core.Path.{refl}
 use Prim.Native.Nat.{ℕ}
-use borrow.Author.Rules.{rules}
 use Rattle.algebra.specs.Laws.Tab.{get_d_past}
 use Rattle.rows.proofs.marks.is_marked.Goals as goal
 

@@ -1,5 +1,4 @@
 use native.Mathlib.Omega.{arith}
-use borrow.Author.Rules.{rules}
 use Rattle.algebra.specs.Laws.Gathered.{one_shifted}
 use Rattle.runs.proofs.powers.power.Goals as goal
 

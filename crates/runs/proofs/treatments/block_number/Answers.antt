@@ -1,9 +1,6 @@
-use Prim.Native.Nat.{◌-◌}
 use native.Mathlib.Nat.{pow-le-pow_right}
 use native.Mathlib.Omega.{arith}
-use lib.ListN.{length, get_or}
-use Rattle.algebra.specs.Laws.Gathered.{Gathered, gathered_none, gathered-small, gathered-more, gathered-all}
-use Rattle.words.specs.Words.{odd_in}
+use Rattle.algebra.specs.Laws.Gathered.{gathered_none, gathered-small, gathered-more, gathered-all}
 use Rattle.runs.specs.Run.{block_number}
 use Rattle.runs.proofs.treatments.block_number.Goals as goal
 

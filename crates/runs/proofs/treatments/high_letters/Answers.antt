@@ -1,11 +1,10 @@
-use mathlib.Core.Path.{◌≡◌, sym, ◌∙◌}
-use Prim.Native.Nat.{ℕ, ◌+◌, ◌-◌}
+use mathlib.Core.Path.{sym, ◌∙◌}
+use Prim.Native.Nat.{ℕ, ◌+◌}
 use native.Mathlib.Nat.{add-zero}
 use native.Mathlib.Omega.{arith}
-use lib.ListN.{length}
-use Rattle.algebra.specs.Laws.Gathered.{Gathered, gathered-small, gathered-more, gathered-all}
+use Rattle.algebra.specs.Laws.Gathered.{gathered-small, gathered-more, gathered-all}
 use Rattle.runs.specs.Laws.High.{base-high, added-high}
-use Rattle.runs.specs.Run.{high_in, high_letters}
+use Rattle.runs.specs.Run.{high_letters}
 use Rattle.runs.proofs.treatments.high_letters.Goals as goal
 
 pub loop-j-init : goal.loop-j-init

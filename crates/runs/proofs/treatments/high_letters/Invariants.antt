@@ -1,11 +1,7 @@
-use mathlib.Core.Path.{◌≡◌, sym, ◌∙◌}
-use Prim.Native.Nat.{ℕ, ◌+◌, ◌-◌}
-use native.Mathlib.Nat.{add-zero}
-use native.Mathlib.Omega.{arith}
+use Prim.Native.Nat.{◌+◌, ◌-◌}
 use lib.ListN.{length}
-use Rattle.algebra.specs.Laws.Gathered.{Gathered, gathered-small, gathered-more, gathered-all}
-use Rattle.runs.specs.Laws.High.{base-high, added-high}
-use Rattle.runs.specs.Run.{high_in, high_letters}
+use Rattle.algebra.specs.Laws.Gathered.{Gathered}
+use Rattle.runs.specs.Run.{high_in}
 use Rattle.runs.proofs.treatments.high_letters.Given as goal
 
 abbrev pub invariant-loop-j : goal.invariant-loop-j

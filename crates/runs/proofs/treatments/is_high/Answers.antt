@@ -1,7 +1,6 @@
 use mathlib.Core.Path.{ap}
 use mathlib.Core.Bool.{not}
 use borrow.Author.Tests.{ne_eqb}
-use borrow.Author.Rules.{rules}
 use Rattle.runs.specs.Run.{high_by}
 use Rattle.runs.proofs.treatments.is_high.Goals as goal
 

@@ -1,5 +1,4 @@
 use mathlib.Core.Path.{◌≡◌, sym, ◌∙◌}
-use borrow.Author.Rules.{rules}
 use Rattle.runs.specs.Run.{run_refused}
 use Rattle.plan.specs.Check.{plan_refused}
 use Rattle.plan.proofs.Laws.Accepted.{sizes}

@@ -1,6 +1,5 @@
 use mathlib.Core.Path.{sym, ◌∙◌}
 use native.Mathlib.Omega.{arith}
-use borrow.Author.Rules.{rules}
 use Rattle.screening.proofs.Judging.{screen-stopped, screen-completed}
 use Rattle.screening.proofs.calls.screen.Goals as goal
 

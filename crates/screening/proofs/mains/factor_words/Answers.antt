@@ -3,7 +3,6 @@ use Prim.Native.Nat.{ℕ, ◌+◌}
 use native.Mathlib.Omega.{arith}
 use lib.ListN.{take}
 use lib.Seq.{length-take-le}
-use borrow.Author.Rules.{rules}
 use Rattle.screening.proofs.mains.factor_words.Goals as goal
 
 pub slice_bounds-main_words-end : goal.slice_bounds-main_words-end

@@ -1,7 +1,6 @@
 use mathlib.Core.Path.{refl}
-use Prim.Native.Nat.{◌-◌}
 use native.Mathlib.Omega.{arith}
-use Rattle.screening.proofs.Forming.{Forming, forming-none, forming-more, forming-all}
+use Rattle.screening.proofs.Forming.{forming-none, forming-more, forming-all}
 use Rattle.screening.proofs.mains.main_words.Goals as goal
 
 pub loop-i-init : goal.loop-i-init

@@ -1,7 +1,5 @@
-use mathlib.Core.Path.{refl}
 use Prim.Native.Nat.{◌-◌}
-use native.Mathlib.Omega.{arith}
-use Rattle.screening.proofs.Forming.{Forming, forming-none, forming-more, forming-all}
+use Rattle.screening.proofs.Forming.{Forming}
 use Rattle.screening.proofs.mains.main_words.Given as goal
 
 abbrev pub invariant-loop-i : goal.invariant-loop-i

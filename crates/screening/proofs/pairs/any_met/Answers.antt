@@ -1,9 +1,6 @@
-use Prim.Native.Nat.{◌-◌}
-use native.Mathlib.Omega.{arith}
-use lib.ListN.{length}
-use Rattle.algebra.specs.Laws.Searching.{Unfound, unfound, onward, found, nowhere}
+use Rattle.algebra.specs.Laws.Searching.{unfound, onward, found, nowhere}
 use Rattle.algebra.specs.Laws.Tests.{is}
-use Rattle.screening.specs.Inner.Formed.{pairs_with, some_pair}
+use Rattle.screening.specs.Inner.Formed.{some_pair}
 use Rattle.screening.proofs.pairs.any_met.Goals as goal
 
 pub loop-j-init : goal.loop-j-init

@@ -1,9 +1,7 @@
 use Prim.Native.Nat.{◌-◌}
-use native.Mathlib.Omega.{arith}
 use lib.ListN.{length}
-use Rattle.algebra.specs.Laws.Searching.{Unfound, unfound, onward, found, nowhere}
-use Rattle.algebra.specs.Laws.Tests.{is}
-use Rattle.screening.specs.Inner.Formed.{pairs_with, some_pair}
+use Rattle.algebra.specs.Laws.Searching.{Unfound}
+use Rattle.screening.specs.Inner.Formed.{pairs_with}
 use Rattle.screening.proofs.pairs.any_met.Given as goal
 
 abbrev pub invariant-loop-j : goal.invariant-loop-j

@@ -1,10 +1,5 @@
-use Prim.Native.Nat.{◌-◌}
-use native.Mathlib.Omega.{arith}
-use lib.Bits.{bit_xor}
-use lib.ListN.{get_or}
-use Rattle.algebra.specs.Laws.Searching.{Unfound, unfound, onward, found, nowhere}
+use Rattle.algebra.specs.Laws.Searching.{unfound, onward, found, nowhere}
 use Rattle.algebra.specs.Laws.Tests.{is}
-use Rattle.words.specs.Words.{among}
 use Rattle.screening.specs.Inner.Formed.{pairs_with}
 use Rattle.screening.proofs.pairs.is_met.Goals as goal
 

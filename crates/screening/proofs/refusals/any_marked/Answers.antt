@@ -1,10 +1,7 @@
-use Prim.Native.Nat.{◌-◌}
 use native.Mathlib.Omega.{arith}
-use lib.ListN.{length, get_or}
-use Rattle.algebra.specs.Laws.Searching.{Unfound, unfound, onward, found, nowhere}
+use Rattle.algebra.specs.Laws.Searching.{unfound, onward, found, nowhere}
 use Rattle.algebra.specs.Laws.Tests.{is}
 use Rattle.words.specs.Words.{any}
-use Rattle.rows.specs.Kinds.{marked}
 use Rattle.screening.proofs.refusals.any_marked.Goals as goal
 
 pub loop-i-init : goal.loop-i-init

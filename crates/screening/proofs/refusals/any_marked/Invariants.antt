@@ -1,9 +1,6 @@
 use Prim.Native.Nat.{◌-◌}
-use native.Mathlib.Omega.{arith}
 use lib.ListN.{length, get_or}
-use Rattle.algebra.specs.Laws.Searching.{Unfound, unfound, onward, found, nowhere}
-use Rattle.algebra.specs.Laws.Tests.{is}
-use Rattle.words.specs.Words.{any}
+use Rattle.algebra.specs.Laws.Searching.{Unfound}
 use Rattle.rows.specs.Kinds.{marked}
 use Rattle.screening.proofs.refusals.any_marked.Given as goal
 

@@ -1,5 +1,4 @@
 use native.Mathlib.Omega.{arith}
-use borrow.Author.Rules.{rules}
 use Rattle.sheet.proofs.Answering.{marks-refused, marks-stopped, marks-given}
 use Rattle.sheet.proofs.calls.marks.Goals as goal
 

@@ -1,11 +1,8 @@
 use mathlib.Core.Path.{◌≡◌, sym, ◌∙◌}
-use mathlib.Core.Bool.{Bool, false}
-use mathlib.Core.List.{List}
-use Prim.Native.Nat.{ℕ}
+use mathlib.Core.Bool.{false}
 use Rattle.algebra.specs.Laws.Tests.{is}
-use Rattle.plan.specs.declared.types.Plan.{Plan}
 use Rattle.plan.specs.Check.{plan_refused}
-use Rattle.fields.specs.Fields.{Fields, fields_of}
+use Rattle.fields.specs.Fields.{fields_of}
 use Rattle.fields.specs.Tags.{bad_fields}
 use Rattle.sheet.proofs.Judging.{Opened, Needed, Measured, Within, bad, by-plan, by-needless, lengths-wrong, beyond, marked, accepted}
 use Rattle.sheet.proofs.refusals.sheet_refused.Goals as goal

@@ -1,5 +1,4 @@
 use native.Mathlib.Omega.{arith}
-use borrow.Author.Rules.{rules}
 use Rattle.sizes.proofs.Compared.{above, negated, not-above}
 use Rattle.sizes.proofs.limits.is_beyond.Goals as goal
 

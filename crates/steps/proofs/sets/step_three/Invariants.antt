@@ -1,12 +1,5 @@
-use lib.Dec.{lit≤}
-use mathlib.Core.Path.{refl, sym, ◌∙◌}
 use Prim.Native.Nat.{◌-◌}
-use native.Mathlib.Omega.{arith}
-use lib.ListN.{length-set}
-use Rattle.algebra.proofs.Laws.Spread.{as_long}
-use lib.IntN.{pos}
-use Rattle.contrasts.proofs.Laws.Sets.{sum_fits, less-fits, all-fits, scaled_fits, without-fits, third-fits}
-use Rattle.steps.proofs.Worked.{Stepped, step-begun, step-ended, mild-from, step-three}
+use Rattle.steps.proofs.Worked.{Stepped}
 use Rattle.steps.proofs.sets.step_three.Given as goal
 
 abbrev pub invariant-loop-i : goal.invariant-loop-i

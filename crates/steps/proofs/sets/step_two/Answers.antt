@@ -1,11 +1,10 @@
 use mathlib.Core.Path.{refl, sym, ◌∙◌}
-use Prim.Native.Nat.{◌-◌}
 use native.Mathlib.Omega.{arith}
 use lib.ListN.{length-set}
 use Rattle.algebra.proofs.Laws.Spread.{as_long}
 use lib.IntN.{pos}
 use Rattle.contrasts.proofs.Laws.Sets.{sum_fits, less-fits}
-use Rattle.steps.proofs.Worked.{Stepped, step-begun, step-ended, mild-from, step-two}
+use Rattle.steps.proofs.Worked.{step-begun, step-ended, mild-from, step-two}
 use Rattle.steps.proofs.sets.step_two.Goals as goal
 
 pub loop-i-init : goal.loop-i-init

@@ -1,11 +1,5 @@
-use mathlib.Core.Path.{refl, sym, ◌∙◌}
 use Prim.Native.Nat.{◌-◌}
-use native.Mathlib.Omega.{arith}
-use lib.ListN.{length-set}
-use Rattle.algebra.proofs.Laws.Spread.{as_long}
-use lib.IntN.{pos}
-use Rattle.contrasts.proofs.Laws.Sets.{sum_fits, less-fits}
-use Rattle.steps.proofs.Worked.{Stepped, step-begun, step-ended, mild-from, step-two}
+use Rattle.steps.proofs.Worked.{Stepped}
 use Rattle.steps.proofs.sets.step_two.Given as goal
 
 abbrev pub invariant-loop-i : goal.invariant-loop-i

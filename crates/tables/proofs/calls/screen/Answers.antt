@@ -1,5 +1,4 @@
 use native.Mathlib.Omega.{arith}
-use borrow.Author.Rules.{rules}
 use Rattle.tables.proofs.Called.{head-stopped, head-goes}
 use Rattle.tables.proofs.calls.screen.Goals as goal
 

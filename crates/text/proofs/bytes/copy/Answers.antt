@@ -1,8 +1,5 @@
 use native.Mathlib.Omega.{arith}
-use Prim.Native.Nat.{◌-◌, ◌≤◌}
-use lib.ListN.{length, take}
 use lib.Seq.{take_all}
-use Rattle.text.specs.Text.{Wrote}
 use Rattle.text.specs.Laws.Writing.{nothing, part-more, retext, same_size}
 use Rattle.text.proofs.bytes.copy.Goals as goal
 

@@ -1,7 +1,4 @@
 use native.Mathlib.Omega.{arith}
-use Prim.Native.Nat.{◌-◌, ◌≤◌}
-use Rattle.text.specs.Text.{Wrote}
-use Rattle.text.specs.Spelled.{letters_in}
 use Rattle.text.specs.Laws.Writing.{no-letters, letter-more, all-letters, same_size}
 use Rattle.text.proofs.bytes.letters.Goals as goal
 

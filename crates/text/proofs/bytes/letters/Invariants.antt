@@ -1,8 +1,6 @@
-use native.Mathlib.Omega.{arith}
 use Prim.Native.Nat.{◌-◌, ◌≤◌}
 use Rattle.text.specs.Text.{Wrote}
 use Rattle.text.specs.Spelled.{letters_in}
-use Rattle.text.specs.Laws.Writing.{no-letters, letter-more, all-letters, same_size}
 use Rattle.text.proofs.bytes.letters.Given as goal
 
 abbrev pub invariant-loop-i : goal.invariant-loop-i

@@ -1,4 +1,3 @@
-use borrow.Author.Rules.{rules}
 use Rattle.text.specs.Laws.Writing.{one_byte, no_byte}
 use Rattle.text.proofs.bytes.put.Goals as goal
 

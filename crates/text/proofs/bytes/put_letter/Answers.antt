@@ -1,5 +1,3 @@
-use native.Mathlib.Omega.{arith}
-use borrow.Author.Rules.{rules}
 use Rattle.algebra.specs.Laws.Tests.{is}
 use Rattle.text.specs.Laws.Writing.{with-letter, without-letter}
 use Rattle.text.proofs.bytes.put_letter.Goals as goal

@@ -1,4 +1,3 @@
-use borrow.Author.Rules.{rules}
 use Rattle.text.specs.Laws.Writing.{then}
 use Rattle.text.specs.Laws.Decimal.{signed_below, signed_above}
 use Rattle.text.proofs.numbers.value.Goals as goal

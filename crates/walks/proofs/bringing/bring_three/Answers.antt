@@ -1,6 +1,5 @@
 use mathlib.Core.Path.{refl, ◌∙◌}
 use native.Mathlib.Omega.{arith}
-use borrow.Author.Rules.{rules}
 use Rattle.algebra.proofs.Laws.Machine.{kept}
 use Rattle.walks.specs.State.{plus_at}
 use Rattle.walks.proofs.Walked.{numerator-kept}

@@ -1,5 +1,4 @@
 use mathlib.Core.Path.{refl, ◌∙◌}
-use borrow.Author.Rules.{rules}
 use Rattle.algebra.proofs.Laws.Machine.{kept}
 use Rattle.walks.proofs.Walked.{square-kept}
 use Rattle.walks.proofs.bringing.bring_two.Goals as goal

@@ -1,6 +1,5 @@
 use mathlib.Core.Path.{refl}
 use native.Mathlib.Omega.{arith}
-use borrow.Author.Rules.{rules}
 use Rattle.walks.specs.State.{brought, plus_at}
 use Rattle.walks.proofs.Laws.Parts.{next-still}
 use Rattle.walks.proofs.parts.add.Goals as goal

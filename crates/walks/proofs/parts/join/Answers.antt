@@ -1,6 +1,5 @@
 use mathlib.Core.Path.{refl}
 use native.Mathlib.Omega.{arith}
-use borrow.Author.Rules.{rules}
 use lib.Dec.{lit<}
 use Rattle.walks.proofs.Parted.{joinable, joins}
 use Rattle.walks.proofs.parts.join.Goals as goal

@@ -1,9 +1,6 @@
 use mathlib.Core.Path.{sym, ◌∙◌}
-use Prim.Native.Nat.{◌-◌}
 use native.Mathlib.Omega.{arith}
-use lib.ListN.{length}
 use Rattle.walks.proofs.Walked.{threes-none, threes-more, threes-all, three-places, three-long, three-gatherable, three-fits, brings-three}
-use Rattle.walks.specs.State.{RunningThree}
 use Rattle.walks.proofs.three_levels.walk_three.Goals as goal
 
 pub loop-e-init : goal.loop-e-init

@@ -1,10 +1,6 @@
-use mathlib.Core.Path.{sym, ◌∙◌}
 use Prim.Native.Nat.{◌-◌}
-use native.Mathlib.Omega.{arith}
-use lib.Dec.{lit<}
 use lib.ListN.{length}
 use Rattle.walks.specs.State.{RunningTwo}
-use Rattle.walks.proofs.Walked.{pairs-none, pairs-more, pairs-all, two-places, held-places, two-long, two-gatherable, two_fits, brings-two, two-more, second-there, first-half, second-half}
 use Rattle.walks.proofs.two_levels.walk_two.Given as goal
 
 abbrev pub invariant-loop-e : goal.invariant-loop-e

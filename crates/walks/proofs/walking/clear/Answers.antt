@@ -1,7 +1,5 @@
-use Prim.Native.Nat.{◌-◌}
-use lib.ListN.{length}
 use native.Mathlib.Omega.{arith}
-use Rattle.walks.proofs.Walked.{Clearing, clearing-none, clearing-long, clearing-more, clearing-all}
+use Rattle.walks.proofs.Walked.{clearing-none, clearing-long, clearing-more, clearing-all}
 use Rattle.walks.proofs.walking.clear.Goals as goal
 
 pub loop-row-init : goal.loop-row-init

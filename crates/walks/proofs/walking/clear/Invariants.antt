@@ -1,7 +1,6 @@
 use Prim.Native.Nat.{◌-◌}
 use lib.ListN.{length}
-use native.Mathlib.Omega.{arith}
-use Rattle.walks.proofs.Walked.{Clearing, clearing-none, clearing-long, clearing-more, clearing-all}
+use Rattle.walks.proofs.Walked.{Clearing}
 use Rattle.walks.proofs.walking.clear.Given as goal
 
 abbrev pub invariant-loop-row : goal.invariant-loop-row

@@ -1,4 +1,3 @@
-use borrow.Author.Rules.{rules}
 use Rattle.walks.proofs.Planned.{two_ready, two_made, three-ready, three_made}
 use Rattle.walks.proofs.walking.walk.Goals as goal
 

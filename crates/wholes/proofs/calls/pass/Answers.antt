@@ -1,4 +1,3 @@
-use borrow.Author.Rules.{rules}
 use Rattle.yates.specs.Calls.{pass_refused, pass_column}
 use Rattle.wholes.proofs.Told.{told_of}
 use Rattle.wholes.proofs.calls.pass.Goals as goal

@@ -1,4 +1,3 @@
-use borrow.Author.Rules.{rules}
 use Rattle.recovery.specs.Calls.{recover_refused, recover_column}
 use Rattle.wholes.proofs.Told.{told_of}
 use Rattle.wholes.proofs.calls.recover.Goals as goal

@@ -1,4 +1,3 @@
-use borrow.Author.Rules.{rules}
 use Rattle.algebra.specs.Laws.Tests.{is}
 use Rattle.figures.specs.Laws.Roomed.{room-is, without-room, with-room}
 use Rattle.wholes.proofs.calls.table.Goals as goal

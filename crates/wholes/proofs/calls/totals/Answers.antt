@@ -1,4 +1,3 @@
-use borrow.Author.Rules.{rules}
 use Rattle.yates.specs.Calls.{totals_refused, totals_column}
 use Rattle.wholes.proofs.Told.{told_of}
 use Rattle.wholes.proofs.calls.totals.Goals as goal

@@ -1,6 +1,4 @@
 use mathlib.Core.Path.{sym}
-use borrow.Author.Rules.{rules}
-use native.Mathlib.Omega.{arith}
 use Rattle.words.specs.Laws.Letters.{beyond-most, beyond-shifted}
 use Rattle.words.proofs.letters.has_beyond.Goals as goal
 

@@ -1,5 +1,4 @@
 use mathlib.Core.Path.{refl}
-use borrow.Author.Rules.{rules}
 use Rattle.algebra.specs.Laws.Bits.{bit-none}
 use Rattle.words.proofs.letters.has_letter.Goals as goal
 

@@ -1,7 +1,4 @@
-use Prim.Native.Nat.{◌-◌}
-use native.Mathlib.Omega.{arith}
-use lib.ListN.{length}
-use Rattle.words.specs.Laws.Combined.{Combining, combining-start, combining-more, combining-end}
+use Rattle.words.specs.Laws.Combined.{combining-start, combining-more, combining-end}
 use Rattle.words.proofs.lists.combine.Goals as goal
 
 pub loop-j-init : goal.loop-j-init

@@ -1,7 +1,6 @@
 use Prim.Native.Nat.{◌-◌}
-use native.Mathlib.Omega.{arith}
 use lib.ListN.{length}
-use Rattle.words.specs.Laws.Combined.{Combining, combining-start, combining-more, combining-end}
+use Rattle.words.specs.Laws.Combined.{Combining}
 use Rattle.words.proofs.lists.combine.Given as goal
 
 abbrev pub invariant-loop-j : goal.invariant-loop-j

@@ -1,10 +1,7 @@
 use Prim.Native.Nat.{◌-◌}
-use native.Mathlib.Omega.{arith}
 use lib.Dec.{eqb}
 use lib.ListN.{length, get_or}
-use borrow.Author.Tests.{eq-eqb, ne_eqb}
-use Rattle.algebra.specs.Laws.Searching.{Unfound, unfound, onward, found, nowhere}
-use Rattle.words.specs.Words.{any, among}
+use Rattle.algebra.specs.Laws.Searching.{Unfound}
 use Rattle.words.proofs.lists.is_among.Given as goal
 
 abbrev pub invariant-loop-i : goal.invariant-loop-i

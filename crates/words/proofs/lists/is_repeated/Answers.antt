@@ -1,10 +1,8 @@
 use mathlib.Core.Path.{sym}
-use Prim.Native.Nat.{◌-◌}
 use native.Mathlib.Omega.{arith}
 use lib.Seq.{length-take-le}
-use lib.ListN.{length, get_or, take}
-use Rattle.algebra.specs.Laws.Searching.{Unfound, unfound, onward, found, nowhere}
-use Rattle.words.specs.Words.{among, repeated}
+use Rattle.algebra.specs.Laws.Searching.{unfound, onward, found, nowhere}
+use Rattle.words.specs.Words.{repeated}
 use Rattle.algebra.specs.Laws.Tests.{is}
 use Rattle.words.proofs.lists.is_repeated.Goals as goal
 

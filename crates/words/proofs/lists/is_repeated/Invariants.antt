@@ -1,11 +1,7 @@
-use mathlib.Core.Path.{sym}
 use Prim.Native.Nat.{◌-◌}
-use native.Mathlib.Omega.{arith}
-use lib.Seq.{length-take-le}
 use lib.ListN.{length, get_or, take}
-use Rattle.algebra.specs.Laws.Searching.{Unfound, unfound, onward, found, nowhere}
-use Rattle.words.specs.Words.{among, repeated}
-use Rattle.algebra.specs.Laws.Tests.{is}
+use Rattle.algebra.specs.Laws.Searching.{Unfound}
+use Rattle.words.specs.Words.{among}
 use Rattle.words.proofs.lists.is_repeated.Given as goal
 
 abbrev pub invariant-loop-i : goal.invariant-loop-i

@@ -3,7 +3,6 @@ use Rattle.plan.proofs.Laws.Answers.{stopped, completed}
 use Rattle.yates.specs.Calls.{pass_refused, pass_column}
 use Rattle.yates.specs.Laws.Admitted.{pass-admitted}
 use Rattle.yates.proofs.Called.{pass-ready, pass-made}
-use borrow.Author.Rules.{rules}
 use Rattle.yates.proofs.calls.pass.Goals as goal
 
 pub returns-then-n-ne0 : goal.returns-then-n-ne0

@@ -4,7 +4,6 @@ use Rattle.plan.specs.Plan.{factors_of}
 use Rattle.yates.specs.Calls.{totals_refused, totals_column}
 use Rattle.columns.specs.Laws.Admitted.{readings-admitted}
 use Rattle.passes.specs.Laws.Plans.{plan-readings}
-use borrow.Author.Rules.{rules}
 use Rattle.yates.proofs.calls.totals.Goals as goal
 
 pub form_totals-requires : goal.form_totals-requires
