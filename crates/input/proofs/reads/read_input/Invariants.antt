@@ -4,7 +4,7 @@ use mathlib.Core.Path.{◌≡◌}
 use Rattle.input.proofs.reads.read_input.Given as goal
 
 abbrev pub invariant-loop-n : goal.invariant-loop-n
-invariant-loop-n l = (length l.buffer ≡ length l.initial.buffer) × (l.n ≤ length l.initial.buffer)
+invariant-loop-n g l = (length l.buffer ≡ length l.initial.buffer) × (l.n ≤ length l.initial.buffer)
 
 abbrev pub decreases-loop-n : goal.decreases-loop-n
-decreases-loop-n l = length l.initial.buffer - l.n
+decreases-loop-n g l = length l.initial.buffer - l.n
