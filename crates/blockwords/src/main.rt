@@ -6,38 +6,45 @@ mod list_lines;
 mod lists;
 mod numbers;
 
-use libc::STDERR_FILENO;
 use lists::print_blockings;
 use numbers::{Argument, argument_of};
+use std::env::{Env, FillError};
 
 // As many bytes as the system hands over in one argument at the most.
 const ARGUMENT: usize = 131072;
 
+// Whether there is an argument i, the program's name being argument 0.
+fn has_argument(rt: &impl Env, i: usize) -> bool {
+    match rt.arg(i, &mut []) {
+        Err(FillError::NotPresent) => false,
+        Ok(_) | Err(FillError::TooLong) => true,
+    }
+}
+
 // Argument i; one that is missing has no bytes.
-fn read_argument(i: usize) -> Argument {
+fn read_argument(rt: &impl Env, i: usize) -> Argument {
     let mut buffer = [0u8; ARGUMENT];
-    let n = os::arg(i, &mut buffer);
+    let n = rt.arg(i, &mut buffer).unwrap_or(0);
     argument_of(&buffer[..n])
 }
 
-fn tell_wanted() {
-    io::write_all(
-        STDERR_FILENO,
-        b"blockwords: wants the number of factors, 2 to 5, and that of block words, 1 to 3\n",
+fn tell_wanted(rt: &impl Eprint) {
+    let _ = rt.eprintln(
+        "blockwords: wants the number of factors, 2 to 5, and that of block words, 1 to 3",
     );
 }
 
-fn main() {
-    if os::arg_count() != 3 {
-        return tell_wanted();
+fn main(rt: HostRuntime) {
+    if !has_argument(&rt, 2) || has_argument(&rt, 3) {
+        return tell_wanted(&rt);
     }
-    let Argument::Number(k) = read_argument(1) else {
-        return tell_wanted();
+    let Argument::Number(k) = read_argument(&rt, 1) else {
+        return tell_wanted(&rt);
     };
-    let Argument::Number(words) = read_argument(2) else {
-        return tell_wanted();
+    let Argument::Number(words) = read_argument(&rt, 2) else {
+        return tell_wanted(&rt);
     };
-    if !print_blockings(k, words) {
-        io::write_all(STDERR_FILENO, b"blockwords: the text cannot be written\n");
+    if print_blockings(&rt, k, words).is_err() {
+        let _ = rt.eprintln("blockwords: the text cannot be written");
     }
 }

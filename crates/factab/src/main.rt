@@ -3,24 +3,23 @@
 #![tactic(auto)]
 
 use input::{Input, read_input};
-use libc::{STDERR_FILENO, STDOUT_FILENO};
 use printing::{INPUT, TEXT, print_input};
 
-fn print_text(input: &[u8; INPUT], count: usize) {
+fn print_text(rt: &(impl Print + Eprint), input: &[u8; INPUT], count: usize) {
     let mut text = [0u8; TEXT];
     let n = print_input(input, count, &mut text);
-    if !io::write_all(STDOUT_FILENO, &text[..n]) {
-        io::write_all(STDERR_FILENO, b"factab: the text cannot be written\n");
+    if rt.write_all(&text[..n]).is_err() {
+        let _ = rt.eprintln("factab: the text cannot be written");
     }
 }
 
-fn main() {
+fn main(rt: HostRuntime) {
     let mut buffer = [0u8; INPUT];
-    match read_input(&mut buffer) {
-        Input::Full(n) => print_text(&buffer, n),
-        Input::Ended(n) => print_text(&buffer, n),
+    match read_input(&mut rt.stdin(), &mut buffer) {
+        Input::Full(n) => print_text(&rt, &buffer, n),
+        Input::Ended(n) => print_text(&rt, &buffer, n),
         Input::Failed => {
-            io::write_all(STDERR_FILENO, b"factab: the input cannot be read\n");
+            let _ = rt.eprintln("factab: the input cannot be read");
         }
     }
 }
