@@ -44,7 +44,7 @@ fn main(rt: HostRuntime) {
     let Argument::Number(words) = read_argument(&rt, 2) else {
         return tell_wanted(&rt);
     };
-    if print_blockings(&rt, k, words).is_err() {
+    if print_blockings(&mut rt.stdout(), k, words).is_err() {
         let _ = rt.eprintln("blockwords: the text cannot be written");
     }
 }

@@ -1,7 +1,8 @@
 -- The lists of a column, one after the other.
 --
 --   list-fits       the places of list i are in the column
---   list-ready      list i, as a part of the column
+--   list-words      list i, as a part of the column
+--   list-ready      its words are block words
 --   column-ready    a column that the blocking call has written
 use Rattle.std.specs.Prelude.{◌≡◌, List, [], ◌++◌, ℕ, ◌+◌, ◌*◌, ◌-◌, ◌<◌, ◌≤◌, ltb, length, take, get_or}
 use Rattle.std.proofs.Math.Path.{refl, sym, ap}
@@ -43,6 +44,9 @@ module _ {k b n : ℕ} {column : List ℕ} (c : ListsIn k b n column) where
         let parts : column ≡ blocking_words k b ++ rest =
         sym (take-append-drop (length (blocking_words k b)) column) ∙ ap (λ l. l ++ rest) c.begins in
         ap (λ l. take b (drop (i * b) l)) parts ∙ flat-part b (blockings_of k b) (wide k b) rest i (omega (arith, c.all))
+
+    pub list-words : take (i * b + b - i * b) (drop (i * b) column) ≡ get_or (blockings_of k b) i []
+    list-words = let width : i * b + b - i * b ≡ b = omega arith in rw width its-words
 
     pub list-ready : Blocked k (take (i * b + b - i * b) (drop (i * b) column))
     list-ready =

@@ -23,6 +23,6 @@ shape_of-text c = same_size c.loop-word.invariant.0
 
 pub returns : goal.returns
 returns c =
-    let all-is = one_shifted _ 16 (omega (arith, c.requires.small)) in
+    let all-is = one_shifted c.args.k 16 (omega (arith, c.requires.small)) in
     let inv = c.loop-word.invariant in
     all-effects _ _ all-is (omega (arith, c.loop-word-test.false, inv.1)) inv.0

@@ -1,6 +1,10 @@
-use mathlib.Core.Path.{sym}
+use native.Mathlib.Omega.{arith}
+use mathlib.Core.Path.{sym, subst}
 use lib.Seq.{length-take-le}
+use Rattle.std.specs.Prelude.{OnOk}
+use Rattle.std.specs.Io.KnownBytes.{Appends}
 use Rattle.blockwords.specs.Laws.Lists.{ends-within}
+use Rattle.blockwords.specs.Laws.Texts.{whole-text}
 use Rattle.blockwords.proofs.lists.print_list.Goals as goal
 
 pub list_line-end-requires : goal.list_line-end-requires
@@ -11,3 +15,9 @@ slice_bounds-text-end g c = ends-within c.list_line-end.ensures.wrote
 
 pub slice_bounds-write_all-end : goal.slice_bounds-write_all-end
 slice_bounds-write_all-end g c = sym (length-take-le _ _ (ends-within c.list_line-end.ensures.wrote))
+
+pub returns : goal.returns
+returns g c =
+    let line = c.list_line-end.ensures in
+    subst (λ t. OnOk c.write_all.result (Appends (g.W.Write.contents c.args.out.now) (g.W.Write.contents c.write_all.new.self) t))
+    (whole-text line.wrote (omega (arith, line.wrote.ends, line.value))) c.write_all.ensures.bytes
