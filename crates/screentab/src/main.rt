@@ -5,25 +5,55 @@
 
 mod texts;
 
+ghost use Rattle.std.specs.Prelude.{List, ℕ, IfSome, OnOk};
+ghost use Rattle.std.specs.Io.KnownBytes.{Appends};
+ghost use Rattle.printing.specs.Input.{Holds};
+ghost use Rattle.screentab.specs.Screened.{screened_text};
+
 use input::{Input, read_input};
 use printing::{INPUT, TEXT};
+use std::io::{Read, Write};
 use texts::screened_input;
 
-fn print_text(rt: &(impl Print + Eprint), input: &[u8; INPUT], count: usize) {
+// Why there is no text, or not all of it.
+#[derive(Clone, Copy)]
+enum Failure {
+    Read,
+    Write,
+}
+
+// Writes the text of a sheet of which the first `count` bytes of the buffer are as much as there is room for.
+fn print_text<W: Write>(out: &mut W, input: &[u8; INPUT], count: usize) -> Result<(), Failure>
+    ensures { (sheet : List ℕ) → Holds sheet input.now count → OnOk result (Appends (W.contents out.old) (W.contents out.new) (screened_text sheet)) }
+{
     let mut text = [0u8; TEXT];
     let n = screened_input(input, count, &mut text);
-    if rt.write_all(&text[..n]).is_err() {
-        let _ = rt.eprintln("screentab: the text cannot be written");
+    match out.write_all(&text[..n]) {
+        Ok(()) => Ok(()),
+        Err(_) => Err(Failure::Write),
+    }
+}
+
+// Reads a sheet, which is the whole input, and writes its text.
+fn print_read<R: Read, W: Write>(reader: &mut R, out: &mut W) -> Result<(), Failure>
+    ensures { OnOk result (IfSome (R.remaining reader.old) (λ sheet. Appends (W.contents out.old) (W.contents out.new) (screened_text sheet))) }
+{
+    let mut buffer = [0u8; INPUT];
+    match read_input(reader, &mut buffer) {
+        Input::Full(n) => print_text(out, &buffer, n),
+        Input::Ended(n) => print_text(out, &buffer, n),
+        Input::Failed => Err(Failure::Read),
     }
 }
 
 fn main(rt: HostRuntime) {
-    let mut buffer = [0u8; INPUT];
-    match read_input(&mut rt.stdin(), &mut buffer) {
-        Input::Full(n) => print_text(&rt, &buffer, n),
-        Input::Ended(n) => print_text(&rt, &buffer, n),
-        Input::Failed => {
+    match print_read(&mut rt.stdin(), &mut rt.stdout()) {
+        Ok(()) => {}
+        Err(Failure::Read) => {
             let _ = rt.eprintln("screentab: the input cannot be read");
+        }
+        Err(Failure::Write) => {
+            let _ = rt.eprintln("screentab: the text cannot be written");
         }
     }
 }
