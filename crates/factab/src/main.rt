@@ -2,8 +2,8 @@
 // Where the input cannot be read it writes no text. That, and a text that cannot be written, it tells on standard error.
 #![tactic(auto)]
 
-ghost use Rattle.std.specs.Prelude.{List, ℕ, IfSome, OnOk};
-ghost use Rattle.std.specs.Io.KnownBytes.{Appends};
+ghost use Rattle.std.specs.Prelude.{◌≡◌, List, ℕ, IfSome, IfErr, OnOk};
+ghost use Rattle.std.specs.Io.KnownBytes.{Appends, Keeps};
 ghost use Rattle.printing.specs.Input.{Holds};
 ghost use Rattle.printing.specs.Printed.{text_of};
 
@@ -20,7 +20,8 @@ enum Failure {
 
 // Writes the text of a sheet of which the first `count` bytes of the buffer are as much as there is room for.
 fn print_text<W: Write>(out: &mut W, input: &[u8; INPUT], count: usize) -> Result<(), Failure>
-    ensures { (sheet : List ℕ) → Holds sheet input.now count → OnOk result (Appends (W.contents out.old) (W.contents out.new) (text_of sheet)) }
+    ensures text { (sheet : List ℕ) → Holds sheet input.now count → OnOk result (Appends (W.contents out.old) (W.contents out.new) (text_of sheet)) }
+    ensures failure { IfErr result (λ why. why ≡ Failure.Write) }
 {
     let mut text = [0u8; TEXT];
     let n = print_input(input, count, &mut text);
@@ -30,9 +31,10 @@ fn print_text<W: Write>(out: &mut W, input: &[u8; INPUT], count: usize) -> Resul
     }
 }
 
-// Reads a sheet, which is the whole input, and writes its text.
+// Reads a sheet, which is the whole input, and writes its text. Where a read fails it writes nothing.
 fn print_read<R: Read, W: Write>(reader: &mut R, out: &mut W) -> Result<(), Failure>
-    ensures { OnOk result (IfSome (R.remaining reader.old) (λ sheet. Appends (W.contents out.old) (W.contents out.new) (text_of sheet))) }
+    ensures text { OnOk result (IfSome (R.remaining reader.old) (λ sheet. Appends (W.contents out.old) (W.contents out.new) (text_of sheet))) }
+    ensures unread { IfErr result (λ why. why ≡ Failure.Read → Keeps (W.contents out.old) (W.contents out.new)) }
 {
     let mut buffer = [0u8; INPUT];
     match read_input(reader, &mut buffer) {
