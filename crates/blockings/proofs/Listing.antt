@@ -30,7 +30,8 @@ use Rattle.algebra.specs.Laws.Collected.{placed, Room}
 use Rattle.plan.specs.Check.{plan_refused}
 use Rattle.plan.proofs.Laws.Alike.{same-refused}
 use Rattle.blockings.specs.Blockings.{strictly_rising, blocked_plan, is_blocking, blockings_of, blocking_words}
-use Rattle.blockings.specs.Inner.Numbered.{word_at, words_at, blockings-tab}
+use Rattle.blockings.specs.Inner.Numbered.{word_at, words_at}
+use Rattle.blockings.proofs.Laws.Numbered.{blockings-tab}
 
 pub short : (a b : ℕ) → a ≤ 5 → b ≤ 3 → a * b < 64
 short a b h l = omega (arith, mul-le-mul h l)

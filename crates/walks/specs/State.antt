@@ -17,8 +17,6 @@
 --   Holding h rows parts s        the variables of a loop hold h
 --   RunningTwo, RunningThree      the invariants of the loops
 use Rattle.std.specs.Prelude.{◌≡◌, List, ℕ, zero, suc, ◌+◌, ◌*◌, ◌%◌, ◌≤◌, ℤ, pos, nat_abs, ◌+ℤ◌, length, get_or, set, replicate}
-use Rattle.std.specs.Int.{w64}
-use Rattle.std.proofs.Common.{of_z}
 use Rattle.algebra.specs.Tab.{tab}
 use Rattle.contrasts.specs.Columns.{read}
 use Rattle.walks.specs.declared.types.Sums.{Sums}

@@ -38,7 +38,7 @@ pub returns-then-is_bad : goal.returns-then-is_bad
 returns-then-is_bad c =
     let on : Next c.args.sheet.now c.loop-at.at c.field_end-end.result
     c.loop-at.invariant.fs = next c.loop-at.invariant.rest c.loop-at-test.true c.field_end-end.ensures c.if-end-eq0.false in
-    passed-unknown c.loop-at.invariant on c.place-here.ensures (omega (arith, c.if-here-last.false)) refl
+    passed-unknown c.loop-at.invariant on c.place-here.ensures (omega arith) refl
     (is c.is_bad.ensures c.if-is_bad.true)
 
 pub loop-at-smaller : goal.loop-at-smaller
@@ -51,7 +51,7 @@ pub loop-at-preserved : goal.loop-at-preserved
 loop-at-preserved c =
     let on : Next c.args.sheet.now c.loop-at.at c.field_end-end.result
     c.loop-at.invariant.fs = next c.loop-at.invariant.rest c.loop-at-test.true c.field_end-end.ensures c.if-end-eq0.false in
-    passed-one c.loop-at.invariant on c.place-here.ensures (omega (arith, c.if-here-last.false)) refl
+    passed-one c.loop-at.invariant on c.place-here.ensures (omega arith) refl
     (is c.is_bad.ensures c.if-is_bad.false)
 
 pub returns : goal.returns

@@ -42,7 +42,7 @@ returns-then-wrong c =
       readings-are = c.body-readings.ensures;
       marks-are = c.body-marks.ensures;
     } in
-    let needed : let args = c.args in Needed (fields_of args.sheet.now) args.p args.narrow c.body-readings.result.now c.body-marks.result.now = record { opened = opened; needed = is c.needless_repeats-needless.ensures c.if-needless.false } in
+    let needed : let args = c.args in Needed (fields_of args.sheet.now) args.p args.narrow c.body-readings.result.now c.body-marks.result.now = record { opened = opened; needed = is c.needless_repeats-needless.ensures (cc) } in
     lengths-wrong needed (is c.wrong_lengths-wrong.ensures c.if-wrong.true)
 
 pub returns-then-any_beyond : goal.returns-then-any_beyond
@@ -55,8 +55,8 @@ returns-then-any_beyond c =
       readings-are = c.body-readings.ensures;
       marks-are = c.body-marks.ensures;
     } in
-    let needed : let args = c.args in Needed (fields_of args.sheet.now) args.p args.narrow c.body-readings.result.now c.body-marks.result.now = record { opened = opened; needed = is c.needless_repeats-needless.ensures c.if-needless.false } in
-    let measured : let args = c.args in Measured (fields_of args.sheet.now) args.p args.narrow c.body-readings.result.now c.body-marks.result.now = record { before = needed; lengths = is c.wrong_lengths-wrong.ensures c.if-wrong.false } in
+    let needed : let args = c.args in Needed (fields_of args.sheet.now) args.p args.narrow c.body-readings.result.now c.body-marks.result.now = record { opened = opened; needed = is c.needless_repeats-needless.ensures (cc) } in
+    let measured : let args = c.args in Measured (fields_of args.sheet.now) args.p args.narrow c.body-readings.result.now c.body-marks.result.now = record { before = needed; lengths = is c.wrong_lengths-wrong.ensures (cc) } in
     beyond measured (is c.any_beyond.ensures c.if-any_beyond.true)
 
 pub returns-then-bad_marks : goal.returns-then-bad_marks
@@ -69,8 +69,8 @@ returns-then-bad_marks c =
       readings-are = c.body-readings.ensures;
       marks-are = c.body-marks.ensures;
     } in
-    let needed : let args = c.args in Needed (fields_of args.sheet.now) args.p args.narrow c.body-readings.result.now c.body-marks.result.now = record { opened = opened; needed = is c.needless_repeats-needless.ensures c.if-needless.false } in
-    let measured : let args = c.args in Measured (fields_of args.sheet.now) args.p args.narrow c.body-readings.result.now c.body-marks.result.now = record { before = needed; lengths = is c.wrong_lengths-wrong.ensures c.if-wrong.false } in
+    let needed : let args = c.args in Needed (fields_of args.sheet.now) args.p args.narrow c.body-readings.result.now c.body-marks.result.now = record { opened = opened; needed = is c.needless_repeats-needless.ensures (cc) } in
+    let measured : let args = c.args in Measured (fields_of args.sheet.now) args.p args.narrow c.body-readings.result.now c.body-marks.result.now = record { before = needed; lengths = is c.wrong_lengths-wrong.ensures (cc) } in
     let within : let args = c.args in Within (fields_of args.sheet.now) args.p args.narrow c.body-readings.result.now c.body-marks.result.now = record { measured = measured; within = is c.any_beyond.ensures c.if-any_beyond.false } in
     marked within (is c.bad_marks.ensures c.if-bad_marks.true)
 
@@ -84,7 +84,7 @@ returns c =
       readings-are = c.body-readings.ensures;
       marks-are = c.body-marks.ensures;
     } in
-    let needed : let args = c.args in Needed (fields_of args.sheet.now) args.p args.narrow c.body-readings.result.now c.body-marks.result.now = record { opened = opened; needed = is c.needless_repeats-needless.ensures c.if-needless.false } in
-    let measured : let args = c.args in Measured (fields_of args.sheet.now) args.p args.narrow c.body-readings.result.now c.body-marks.result.now = record { before = needed; lengths = is c.wrong_lengths-wrong.ensures c.if-wrong.false } in
+    let needed : let args = c.args in Needed (fields_of args.sheet.now) args.p args.narrow c.body-readings.result.now c.body-marks.result.now = record { opened = opened; needed = is c.needless_repeats-needless.ensures (cc) } in
+    let measured : let args = c.args in Measured (fields_of args.sheet.now) args.p args.narrow c.body-readings.result.now c.body-marks.result.now = record { before = needed; lengths = is c.wrong_lengths-wrong.ensures (cc) } in
     let within : let args = c.args in Within (fields_of args.sheet.now) args.p args.narrow c.body-readings.result.now c.body-marks.result.now = record { measured = measured; within = is c.any_beyond.ensures c.if-any_beyond.false } in
     accepted within (is c.bad_marks.ensures c.if-bad_marks.false)

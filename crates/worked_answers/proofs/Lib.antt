@@ -1,0 +1,4 @@
+-- Laws that the proofs cite.
+--
+--   Doubles    doubles that are no NaN
+pub mod Doubles
