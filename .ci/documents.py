@@ -49,7 +49,7 @@ CODE_FOLDERS = ("crates", "include", "bindings", "reference", "tools", "bench", 
 EXAMPLES, EXAMPLE_ENDINGS = "examples", (".c", ".rs", ".py")
 PASSED_OVER = (".git", "target", "out", "__pycache__")
 BUILT = r"target/|crates/\w+/out/"
-KIT = ("io", "libc", "std", "check", "bytes", "os")
+KIT = ("io", "libc", "std", "check", "bytes", "os", "itoa")
 
 # Words of the kit's messages and of C that documents cite and no code here has.
 OUTSIDE = {"axioms", "logic-built", "libraries-built", "statements", "trusted", "restrict"}

@@ -7,13 +7,14 @@
 --   alias_refusals p e     the refusals of the call besides those of the plan
 --   alias_refused p e      the first number that applies, 0 where the alias is given
 --   alias_outcome          the cases of the call's answer
-use Rattle.std.specs.Prelude.{Bool, cond, not, ◌&&◌, List, [], ◌∷◌, ℕ, ◌/◌, ◌%◌, ◌^◌, eqb, length, get_or}
+use Rattle.std.specs.Prelude.{Result, Bool, cond, not, ◌&&◌, List, [], ◌∷◌, ℕ, ◌/◌, ◌%◌, ◌^◌, eqb, length, get_or}
 use Rattle.algebra.specs.Naturals.{Σℕ}
 use Rattle.algebra.specs.Tests.{differ}
 use Rattle.plan.specs.declared.types.Plan.{Plan}
 use Rattle.aliases.specs.declared.types.Alias.{Alias}
-use Rattle.aliases.specs.declared.types.Alias.TheVariants.{Reduced, Refused}
-use Rattle.plan.specs.Outcome.{Refusal, refusal, Outcome, given, refused}
+use Rattle.plan.specs.declared.refusals.Refusal as refusals
+use Rattle.plan.specs.Refusals.{outcome_by}
+use Rattle.plan.specs.Outcome.{Refusal, refusal, Outcome}
 use Rattle.words.specs.Words.{has, odd, odd_word, beyond, combined}
 use Rattle.plan.specs.Plan.{added_words, added_signs, all_letters}
 use Rattle.plan.specs.Check.{with_plan}
@@ -50,6 +51,5 @@ unfoldable pub alias_refused : Plan → ℕ → ℕ
 alias_refused p e = with_plan p (alias_refusals p e)
 
 -- F12
-abbrev pub alias_outcome : Alias → Outcome (ℕ × Bool)
-alias_outcome (Reduced word turned) = given (word, turned)
-alias_outcome (Refused n) = refused n
+abbrev pub alias_outcome : Result Alias refusals.Refusal → Outcome (ℕ × Bool)
+alias_outcome answer = outcome_by (λ (alias : Alias). (alias.word, alias.turned)) answer

@@ -1,12 +1,13 @@
 // The alias call: each added letter of an effect is replaced by its word.
-ghost use Rattle.std.specs.Prelude.{◌≡◌, cond, not, ◌&&◌, ◌+◌, ◌%◌, ◌^◌, ◌≤◌, ◌<◌, eqb, length, take};
+ghost use Rattle.std.specs.Prelude.{◌≡◌, cond, not, ◌&&◌, ◌%◌, ◌^◌, ◌≤◌, ◌<◌, eqb};
 ghost use Rattle.algebra.specs.Tests.{differ};
-ghost use Rattle.words.specs.Words.{odd, odd_word, beyond};
+ghost use Rattle.words.specs.Words.{odd, odd_word};
 ghost use Rattle.plan.specs.Outcome.{outcome};
+ghost use Rattle.plan.specs.Plan.{added_words, added_signs};
 ghost use Rattle.aliases.specs.Alias.{sign_ones, base_word, turned, alias_refused, alias_values, alias_outcome};
 
 use super::types::Alias;
-use plan::{Plan, lowest};
+use plan::{Plan, Refusal, check};
 use words::{combine, has_beyond, has_letter, is_odd_word};
 
 // The base letters of an effect.
@@ -21,12 +22,7 @@ fn base_letters(effect: u16, k: usize) -> u16
 fn one_sign(replaced: bool, sign: u8) -> usize
     ensures { (result ≡ cond (replaced && eqb sign 1) 1 0) × (result ≤ 1) }
 {
-    if replaced {
-        if sign == 1 {
-            return 1;
-        }
-    }
-    0
+    usize::from(replaced && sign == 1)
 }
 
 // How many letters are replaced that have sign 1, bit j for added factor j.
@@ -34,10 +30,8 @@ fn count_signs(replaced: u16, signs: &[u8]) -> usize
     ensures { result ≡ sign_ones replaced signs.now }
 {
     let mut n = 0;
-    let mut j = 0;
-    while j < signs.len() {
-        n += one_sign(has_letter(replaced, j), signs[j]);
-        j += 1;
+    for (j, sign) in signs.iter().enumerate() {
+        n += one_sign(has_letter(replaced, j), *sign);
     }
     n
 }
@@ -51,34 +45,30 @@ fn is_turned(effect: u16, word: u16, signs: usize) -> bool
     (signs % 2 == 1) != reversed
 }
 
-// The answer about an effect of a plan of two levels, from the plan's arrays.
-fn reduced(effect: u16, k: usize, added: usize, words: [u16; 6], signs: [u8; 6]) -> Alias
-    requires { (k ≤ 10) × (added ≤ 6) }
-    ensures { alias_outcome result
-        ≡ outcome (cond (beyond (k + length (take added words)) effect) 10 0)
-        (base_word k (take added words) effect, turned k (take added words) (take added signs) effect) }
+// The alias of an effect of a plan of two levels.
+#[tactic(auto, unfolding(crate::specs::Alias::base_word, crate::specs::Alias::turned, crate::specs::Alias::odd_signs))]
+fn reduced(p: &Plan, effect: u16) -> Alias
+    requires { p.now.k ≤ 10 }
+    ensures { result ≡ record { word = base_word p.now.k (added_words p.now) effect; turned = turned p.now.k (added_words p.now) (added_signs p.now) effect } }
 {
-    if has_beyond(effect, k + added) {
-        return Alias::Refused(10);
-    }
+    let k = p.k as usize;
     let replaced = effect >> k;
-    let word = combine(base_letters(effect, k), replaced, &words[..added]);
-    let turned = is_turned(effect, word, count_signs(replaced, &signs[..added]));
-    Alias::Reduced { word, turned }
+    let word = combine(base_letters(effect, k), replaced, p.added_words());
+    let turned = is_turned(effect, word, count_signs(replaced, p.added_signs()));
+    Alias { word, turned }
 }
 
 // The base word that the effect reduces to, and whether the sign turns.
-pub fn alias(p: Plan, effect: u16) -> Alias
+#[tactic(auto, using(plan::proofs::Laws::Answers::refused_first), unfolding(crate::specs::Alias::alias_refused))]
+pub fn alias(p: Plan, effect: u16) -> Result<Alias, Refusal>
     ensures { alias_outcome result ≡ outcome (alias_refused p effect) (alias_values p effect) }
 {
-    let n = lowest(p);
-    if n != 0 {
-        return Alias::Refused(n);
-    }
+    check(p)?;
     if p.levels == 3 {
-        return Alias::Refused(9);
+        return Err(Refusal::ThreeLevels);
     }
-    let words = p.words;
-    let signs = p.signs;
-    reduced(effect, p.k as usize, p.added as usize, words, signs)
+    if has_beyond(effect, p.k as usize + p.added_words().len()) {
+        return Err(Refusal::NotInPlan);
+    }
+    Ok(reduced(&p, effect))
 }

@@ -1,8 +1,8 @@
 // What the alias call answers.
 
 // The base word that an effect reduces to, and whether the sign turns.
-#[derive(Clone, Copy)]
-pub enum Alias {
-    Reduced { word: u16, turned: bool },
-    Refused(u8),
+#[derive(Clone, Copy, PartialEq, Eq)]
+pub struct Alias {
+    pub word: u16,
+    pub turned: bool,
 }

@@ -18,6 +18,7 @@ use borrow.Author.Tests.{eq-eqb, ne_eqb}
 use lib.Dec.{eqb}
 use lib.IntN.{ℤ}
 use lib.ListN.{length, replicate}
+use Rattle.std.specs.List.{sum_by}
 use Rattle.algebra.specs.Laws.Products.{mul-pow}
 use Rattle.algebra.specs.Laws.Tab.{length-tab}
 use Rattle.contrasts.specs.Columns.{read, totals_of, run_sums_in, squares_of}
@@ -42,8 +43,9 @@ use Rattle.walks.specs.After.{sums_after}
 use Rattle.anova.specs.declared.types.Figures.{Figures}
 use Rattle.anova.specs.Inner.Effects.{effect_source, effect_figures}
 use Rattle.anova.specs.Inner.Figures.{line_in, figures_from}
-use Rattle.anova.specs.Inner.Ready.{SquaresFit, RunSquares, Checkable, Joinable, Figurable}
-use Rattle.anova.specs.Inner.Readings.{about_means}
+use Rattle.anova.specs.Inner.Ready.{RunSquares, Checkable, Joinable, Figurable}
+use Rattle.anova.specs.Inner.Readings.{about_means, squared}
+use Rattle.anova.proofs.Squared.{squares-summed}
 use Rattle.anova.specs.Laws.Admitted.{TableReady, sums-ready}
 use Rattle.anova.specs.Laws.After.{numerator-after-all, degrees-after-all, totals-after-all}
 use Rattle.anova.specs.Laws.Within.{fit, effect-within, total-source-within, within-source-within, effect-error-within}
@@ -68,8 +70,8 @@ module _ {p : Plan} {readings : List ℤ} {marks : List ℕ} {totals : List ℤ}
       let d = mul-le-mul_right (p.repeats * squares_of readings) (denominator-pos (factors_of p)) in
       omega (arith, total-small, one-mul (p.repeats * squares_of readings), d)
 
-  pub squares-ready : SquaresFit readings
-  squares-ready = record { sum_fits = omega (arith, repeated-small, one-mul (squares_of readings), mul-le-mul_right (squares_of readings) some) }
+  pub squares-ready : sum_by squared readings < 2 ^ 63
+  squares-ready = rw (squares-summed readings) (omega (arith, repeated-small, one-mul (squares_of readings), mul-le-mul_right (squares_of readings) some))
 
   pub spread-ready : {s : ℕ} → s ≡ squares_of readings → RunSquares p.repeats s readings totals
   spread-ready e =

@@ -3,7 +3,7 @@
 --   runs-ready, blocks-ready    the run sums are formed, and the amount of them
 --   amount-formed, column-kept  what is formed, and the length of the column that is lent for it
 --   amount-ready, amount-is     what the table hands to it, and what it gets
---   row_is, row-there           the row that it leaves is one of the rows
+--   row_is                      the row that it leaves is one of the rows
 --   row-ready, rows_left        it leaves enough, and what is left is what the table has of its rows
 --   marks-there                 the row has a mark
 --   moved_ready, moved-is       so it is with the figures

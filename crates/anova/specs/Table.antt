@@ -18,7 +18,7 @@
 --   table_totals, table_rows   the lent slices at exit
 --   table_outcome              the cases of the call's answer
 --   SourceWithin limit s       degrees and numerator of a source are within a limit
-use Rattle.std.specs.Prelude.{Bool, cond, ◌||◌, List, [], ◌∷◌, ℕ, ◌+◌, ◌-◌, ◌*◌, ◌≤◌, eqb, ℤ, length}
+use Rattle.std.specs.Prelude.{Result, Bool, cond, ◌||◌, List, [], ◌∷◌, ℕ, ◌+◌, ◌-◌, ◌*◌, ◌≤◌, eqb, ℤ, length}
 use Rattle.algebra.specs.Naturals.{Σℕ}
 use Rattle.algebra.specs.Sum.{Σ}
 use Rattle.algebra.specs.Tab.{tab}
@@ -31,15 +31,15 @@ use Rattle.contrasts.specs.Checks.{rounds}
 use Rattle.plan.specs.declared.types.Plan.{Plan}
 use Rattle.plan.specs.Check.{with_plan}
 use Rattle.plan.specs.Limits.{reading_limit}
-use Rattle.plan.specs.Outcome.{Refusal, refusal, Outcome, given, refused, written}
+use Rattle.plan.specs.Outcome.{Refusal, refusal, Outcome, written}
+use Rattle.plan.specs.Refusals.{outcome_by}
+use Rattle.plan.specs.declared.refusals.Refusal as refusals
 use Rattle.plan.specs.Plan.{factors_of, runs_of, all_readings, run_sums_of, denominator_of, three_word, word_row}
 use Rattle.columns.specs.Refusals.{wrong_length, wrong_readings, any_beyond}
 use Rattle.rows.specs.Kinds.{rows_in, wrong_rows, Kind, mean_row, blocks_row, error_row, kept_row, kind_of, same, bad_marks}
 use Rattle.anova.specs.declared.types.Source.{Source}
 use Rattle.anova.specs.declared.types.Checks.{Checks}
 use Rattle.anova.specs.declared.types.Figures.{Figures}
-use Rattle.anova.specs.declared.types.Table.{Table}
-use Rattle.anova.specs.declared.types.Table.TheVariants.{Made, Refused}
 
 -- ---- what is refused
 
@@ -142,9 +142,8 @@ table_rows p readings marks totals rows = written (table_refused p readings mark
 -- ---- the answer
 
 -- F12
-abbrev pub table_outcome : Table → Outcome Figures
-table_outcome (Made figures) = given figures
-table_outcome (Refused n) = refused n
+abbrev pub table_outcome : Result Figures refusals.Refusal → Outcome Figures
+table_outcome answer = outcome_by (λ v. v) answer
 
 -- ---- the limit
 

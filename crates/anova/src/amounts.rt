@@ -30,6 +30,7 @@ pub fn leave_row(row: usize, amount: u64, rows: &mut [u64])
 }
 
 // What a line has left where the amount's row is one of its own: the amount leaves it, with 2 degrees.
+#[tactic(auto, unfolding(crate::specs::Inner::Figures::leaves))]
 fn left(line: Source, own: bool, amount: u64) -> Source
     requires { Leavable line own amount }
     ensures { result ≡ leaves line own amount }
@@ -45,6 +46,7 @@ fn left(line: Source, own: bool, amount: u64) -> Source
 }
 
 // The amount enters a line, with 2 degrees.
+#[tactic(auto, unfolding(crate::specs::Table::joined))]
 fn entered(line: Source, amount: u64) -> Source
     requires { Enterable line amount }
     ensures { result ≡ joined line (record { degrees = 2; numerator = amount }) }
@@ -56,23 +58,15 @@ fn entered(line: Source, amount: u64) -> Source
 }
 
 // The figures with the amount in the blocks line. Its row is error where it is marked, and else kept.
+#[tactic(auto, unfolding(crate::specs::Inner::Figures::moved_figures))]
 pub fn move_amount(figures: Figures, marked: bool, amount: u64) -> Figures
     requires { Movable figures marked amount }
     ensures { result ≡ moved_figures figures marked amount }
 {
-    let kept = figures.kept;
-    let error = figures.error;
-    let blocks = figures.blocks;
-    let mean = figures.mean;
-    let total = figures.total;
-    let checks = figures.checks;
     Figures {
-        denominator: figures.denominator,
-        mean,
-        kept: left(kept, !marked, amount),
-        blocks: entered(blocks, amount),
-        error: left(error, marked, amount),
-        total,
-        checks,
+        kept: left(figures.kept, !marked, amount),
+        blocks: entered(figures.blocks, amount),
+        error: left(figures.error, marked, amount),
+        ..figures
     }
 }

@@ -22,10 +22,8 @@ fn round(column: &mut [i64], sets: usize)
     requires { Sets sets column.old }
     ensures { column.new ≡ after_round sets column.old }
 {
-    let mut i = 0;
-    while i < sets {
+    for i in 0..sets {
         column[i] = turned(column[3 * i], column[3 * i + 1], column[3 * i + 2]);
-        i += 1;
     }
 }
 
@@ -36,16 +34,15 @@ fn all_rounds(k: usize, column: &mut [i64]) -> i64
     ensures column_len_unchanged { length column.new ≡ length column.old }
 {
     let mut sets = column.len();
-    let mut i = 0;
-    while i < k {
+    for i in 0..k {
         sets /= 3;
         round(column, sets);
-        i += 1;
     }
     column[0]
 }
 
 // What the totals must add up to. At three levels the column is used for the rounds.
+// At two levels there are no rounds: two ways to a number, which no trait would make plainer.
 pub fn check_number(levels: u8, k: u8, repeats: usize, readings: &[i32], column: &mut [i64]) -> i64
     requires { Checkable levels k repeats readings.now column.old }
     ensures value { result ≡ rounds (replicate k (of_levels levels)) (read (run_sums_in (length column.old) repeats readings.now)) }

@@ -1,35 +1,38 @@
 // The sum of squared readings, and their squares about their run's mean.
-ghost use Rattle.std.specs.Prelude.{◌≡◌, length};
-ghost use Rattle.contrasts.specs.Columns.{squares_of};
-ghost use Rattle.anova.specs.Inner.Ready.{SquaresFit, RunSquares};
-ghost use Rattle.anova.specs.Inner.Readings.{about_means};
+ghost use Rattle.std.specs.Prelude.{◌≡◌, ◌^◌, ◌<◌, ℤ, length, sum_by};
+ghost use Rattle.anova.specs.Inner.Ready.{RunSquares};
+ghost use Rattle.anova.specs.Inner.Readings.{about_means, squared};
 
 use repeats::sum_runs;
 use walks::square;
 
-pub fn sum_of_squares(readings: &[i32]) -> u64
-    requires { SquaresFit readings.now }
-    ensures { result ≡ squares_of readings.now }
-{
-    let mut sum = 0;
-    let mut i = 0;
-    while i < readings.len() {
-        sum += square(readings[i] as i64);
-        i += 1;
-    }
-    sum
+// What can be squared: a reading or a run sum, with the whole number that it is.
+pub trait Whole: Copy + Into<i64> {
+    ghost whole: { Self → ℤ };
+
+    ghost converts_whole: { (x : Self) (n : ℤ) → Self.converts x n → n ≡ whole x };
 }
 
-// The same of run sums.
-fn sum_of_run_squares(column: &[i64]) -> u64
-    requires { SquaresFit column.now }
-    ensures { result ≡ squares_of column.now }
+impl Whole for i32 {
+    ghost whole = { λ x. x };
+
+    ghost converts_whole = { λ x n h. h };
+}
+
+impl Whole for i64 {
+    ghost whole = { λ x. x };
+
+    ghost converts_whole = { λ x n h. h };
+}
+
+// The sum of the squares of readings, or of run sums.
+pub fn sum_of_squares<T: Whole>(column: &[T]) -> u64
+    requires { sum_by (λ x. squared (T.whole x)) column.now < 2 ^ 63 }
+    ensures { result ≡ sum_by (λ x. squared (T.whole x)) column.now }
 {
     let mut sum = 0;
-    let mut i = 0;
-    while i < column.len() {
-        sum += square(column[i]);
-        i += 1;
+    for x in column {
+        sum += square((*x).into());
     }
     sum
 }
@@ -45,5 +48,5 @@ pub fn about_means(readings: &[i32], repeats: usize, squares: u64, column: &mut 
         return 0;
     }
     sum_runs(readings, repeats, column);
-    (repeats as u64) * squares - sum_of_run_squares(column)
+    (repeats as u64) * squares - sum_of_squares(column)
 }

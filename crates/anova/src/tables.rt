@@ -6,27 +6,20 @@ ghost use Rattle.plan.specs.Outcome.{outcome};
 ghost use Rattle.plan.specs.Plan.{factors_of, runs_of, run_sums_of};
 ghost use Rattle.walks.specs.After.{sums_after};
 ghost use Rattle.anova.specs.Inner.Effects.{effect_figures, rows_by_effects};
-ghost use Rattle.anova.specs.Inner.Figures.{figures_from};
+ghost use Rattle.anova.specs.Inner.Figures.{figures_from, line_in};
 ghost use Rattle.anova.specs.Inner.Ready.{Joinable, Figurable};
 ghost use Rattle.anova.specs.Laws.Admitted.{TableReady, InBlocks};
 ghost use Rattle.anova.specs.Table.{table_refused, joined, table_figures, table_totals, table_rows, table_outcome, rows_of};
 
 use super::amounts::{amount_of, leave_row, move_amount};
-use super::refusals::table_refused;
+use super::refusals::check_table;
 use super::rounds::check_number;
 use super::squares::{about_means, sum_of_squares};
-use super::types::{Checks, Figures, Source, Table};
+use super::types::{Checks, Figures, Source};
 use passes::form_totals;
-use plan::{Plan, three_word, word_row};
+use plan::{Plan, Refusal, three_word, word_row};
+use rows::Kind;
 use walks::{Sums, walk};
-
-const KEPT: usize = 0;
-
-const ERROR: usize = 1;
-
-const MEAN: usize = 2;
-
-const BLOCKS: usize = 3;
 
 // The denominator of runs made once: 2 to the power k at two levels. At three 6 to the power k, which is the number of runs times that of rows.
 fn denominator(levels: u8, runs: usize, rows: usize) -> u32
@@ -41,6 +34,8 @@ fn denominator(levels: u8, runs: usize, rows: usize) -> u32
 }
 
 // Totals, rows and the sums of the four kinds, from the run sums.
+// Plan, readings, marks, column and rows go from call to call as the table call is handed them. A struct of them would be made for the call and
+// opened at each step: no plainer.
 fn form(p: Plan, readings: &[i32], marks: &[u8], column: &mut [i64], rows: &mut [u64]) -> Sums
     requires { TableReady p readings.now marks.now column.old rows.old }
     ensures value { result ≡ sums_after p (total (factors_of p) (read (run_sums_of p readings.now))) marks.now (runs_of p) }
@@ -58,17 +53,17 @@ fn form(p: Plan, readings: &[i32], marks: &[u8], column: &mut [i64], rows: &mut 
 }
 
 // The source of a kind.
-fn source(numerators: [u64; 4], degrees: [u64; 4], kind: usize) -> Source
-    requires { kind < 4 }
-    ensures { result ≡ record { degrees = get_or degrees kind 0; numerator = get_or numerators kind 0 } }
+fn source(sums: Sums, kind: Kind) -> Source
+    ensures { result ≡ line_in sums kind }
 {
     Source {
-        degrees: degrees[kind],
-        numerator: numerators[kind],
+        degrees: sums.degrees[kind as usize],
+        numerator: sums.numerators[kind as usize],
     }
 }
 
 // The squares of readings about their run's mean join a line.
+#[tactic(auto, unfolding(crate::specs::Table::joined))]
 fn join(line: Source, runs: usize, repeats: usize, within: u64) -> Source
     requires { Joinable line runs repeats within }
     ensures { result ≡ joined line (record { degrees = runs * (repeats - 1); numerator = within }) }
@@ -94,26 +89,18 @@ fn figures(
     ensures { result ≡ figures_from once runs repeats squares within sums check }
 {
     let over = once * (repeats as u64);
-    let numerators = sums.numerators;
-    let degrees = sums.degrees;
-    let from_totals = sums.totals;
-    let mean = source(numerators, degrees, MEAN);
-    let kept = source(numerators, degrees, KEPT);
-    let blocks = source(numerators, degrees, BLOCKS);
-    let pooled = source(numerators, degrees, ERROR);
-    let error = join(pooled, runs, repeats, once * within);
     Figures {
         denominator: over,
-        mean,
-        kept,
-        blocks,
-        error,
+        mean: source(sums, Kind::Mean),
+        kept: source(sums, Kind::Kept),
+        blocks: source(sums, Kind::Blocks),
+        error: join(source(sums, Kind::Error), runs, repeats, once * within),
         total: Source {
             degrees: (runs * repeats) as u64,
             numerator: over * squares,
         },
         checks: Checks {
-            totals: from_totals,
+            totals: sums.totals,
             readings: check,
         },
     }
@@ -178,16 +165,19 @@ fn make(p: Plan, readings: &[i32], marks: &[u8], column: &mut [i64], rows: &mut 
 }
 
 // The table of a plan's readings, with the rows that are marked pooled as error.
-pub fn table(p: Plan, readings: &[i32], marks: &[u8], totals: &mut [i64], rows: &mut [u64]) -> Table
+pub fn table(
+    p: Plan,
+    readings: &[i32],
+    marks: &[u8],
+    totals: &mut [i64],
+    rows: &mut [u64],
+) -> Result<Figures, Refusal>
     ensures result_value { table_outcome result ≡ outcome
         (table_refused p readings.now marks.now totals.old rows.old)
         (table_figures p readings.now marks.now) }
     ensures totals_after { totals.new ≡ table_totals p readings.now marks.now totals.old rows.old }
     ensures rows_after { rows.new ≡ table_rows p readings.now marks.now totals.old rows.old }
 {
-    let n = table_refused(p, readings, marks, totals, rows);
-    if n != 0 {
-        return Table::Refused(n);
-    }
-    Table::Made(make(p, readings, marks, totals, rows))
+    check_table(p, readings, marks, totals, rows)?;
+    Ok(make(p, readings, marks, totals, rows))
 }

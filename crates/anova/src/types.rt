@@ -1,4 +1,4 @@
-// What the table call answers.
+// What the table call gives.
 
 // A line of the analysis of variance: how many degrees it has, and its numerator over the table's denominator.
 #[derive(Clone, Copy)]
@@ -24,10 +24,4 @@ pub struct Figures {
     pub error: Source,
     pub total: Source,
     pub checks: Checks,
-}
-
-#[derive(Clone, Copy)]
-pub enum Table {
-    Made(Figures),
-    Refused(u8),
 }

@@ -10,7 +10,7 @@
 --   blockings_refusals k b room             the refusals of the call
 --   blockings_refused, blockings_column     the first number that applies, 0 where the lists are written, and the column at exit
 --   blockings_outcome      the cases of the call's answer
-use Rattle.std.specs.Prelude.{Bool, not, ◌&&◌, ◌||◌, ℕ, zero, suc, ◌+◌, ◌-◌, ◌^◌, eqb, leb, ltb, length, get_or, drop, replicate}
+use Rattle.std.specs.Prelude.{Result, Bool, not, ◌&&◌, ◌||◌, ℕ, zero, suc, ◌+◌, ◌-◌, ◌^◌, eqb, leb, ltb, length, get_or, drop, replicate}
 use mathlib.Core.List.{List, [], ◌∷◌, ◌++◌, map, flatten}
 use Rattle.algebra.specs.Search.{some}
 use Rattle.algebra.specs.Tab.{tab}
@@ -18,9 +18,9 @@ use Rattle.algebra.specs.Those.{those}
 use Rattle.contrasts.specs.Limits.{most_added, most_blocks}
 use Rattle.plan.specs.declared.types.Plan.{Plan}
 use Rattle.plan.specs.Check.{plan_refused}
-use Rattle.plan.specs.Outcome.{Refusal, refusal, lowest, Outcome, given, refused, written}
-use Rattle.blockings.specs.declared.types.Blockings.{Blockings}
-use Rattle.blockings.specs.declared.types.Blockings.TheVariants.{Written, Refused}
+use Rattle.plan.specs.Outcome.{Refusal, refusal, lowest, Outcome, written}
+use Rattle.plan.specs.declared.refusals.Refusal as refusals
+use Rattle.plan.specs.Refusals.{outcome_by}
 
 -- ---- the lists
 
@@ -85,6 +85,5 @@ blockings_column k b column =
     written (blockings_refused k b (length column)) (blocking_words k b ++ drop (length (blocking_words k b)) column) column
 
 -- R17: "The number of lists is returned"
-abbrev pub blockings_outcome : Blockings → Outcome ℕ
-blockings_outcome (Written n) = given n
-blockings_outcome (Refused n) = refused n
+abbrev pub blockings_outcome : Result ℕ refusals.Refusal → Outcome ℕ
+blockings_outcome answer = outcome_by (λ n. n) answer

@@ -7,8 +7,8 @@ ghost use Rattle.blockings.specs.Inner.Numbered.{words_at};
 ghost use Rattle.blockings.specs.Inner.Ready.{InRange};
 
 use super::lists::{all_lists, is_listed, put_list};
-use super::refusals::blockings_refused;
-use super::types::Blockings;
+use super::refusals::check_blockings;
+use plan::Refusal;
 
 // The list with the number i is put into the column from a place on.
 fn put_at(k: u8, words: u8, i: usize, at: usize, column: &mut [u16])
@@ -27,13 +27,11 @@ fn write(k: u8, words: u8, column: &mut [u16]) -> usize
 {
     let all = all_lists(k, words);
     let mut n = 0;
-    let mut i = 0;
-    while i < all {
+    for i in 0..all {
         if is_listed(k, words, i) {
             put_at(k, words, i, n * words as usize, column);
             n += 1;
         }
-        i += 1;
     }
     n
 }
@@ -41,14 +39,11 @@ fn write(k: u8, words: u8, column: &mut [u16]) -> usize
 // Writes every list of so many strictly rising words that the plan check accepts as the block words of a plan of k factors at two levels with
 // no added factor: in rising order, a place for each word, later places kept. It answers how many lists there are, which may be 0. Refused with
 // 3 for a k that is not 2 to 5, 17 for other than one to three words, 18 for fewer places than words; then no place changes.
-pub fn blockings(k: u8, words: u8, column: &mut [u16]) -> Blockings
+#[tactic(auto, using(plan::proofs::Laws::Answers::left_alone), unfolding(crate::specs::Blockings::blockings_column))]
+pub fn blockings(k: u8, words: u8, column: &mut [u16]) -> Result<usize, Refusal>
     ensures result_value { blockings_outcome result ≡ outcome (blockings_refused k words (length column.old)) (length (blockings_of k words)) }
     ensures column_after { column.new ≡ blockings_column k words column.old }
 {
-    let m = blockings_refused(k, words, column.len());
-    if m != 0 {
-        return Blockings::Refused(m);
-    }
-    let n = write(k, words, column);
-    Blockings::Written(n)
+    check_blockings(k, words, column.len())?;
+    Ok(write(k, words, column))
 }

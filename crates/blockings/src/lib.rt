@@ -1,13 +1,12 @@
 // Every way to block a small plan: all lists of strictly rising block words that the plan check accepts.
 //
 //   blockings(k, words, column)   writes the lists of so many words, and answers how many there are
-//   Blockings                     its answer
+//   blocked_plan(k, list)         the plan of two levels with these block words, and nothing else
 #![tactic(auto)]
 
 mod calls;
 mod lists;
 mod refusals;
-mod types;
 
 pub use calls::blockings;
-pub use types::Blockings;
+pub use lists::blocked_plan;

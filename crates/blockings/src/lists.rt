@@ -1,12 +1,12 @@
 // The lists of words by their numbers, and which of them block a plan.
-ghost use Rattle.std.specs.Prelude.{◌≡◌, ◌*◌, ◌^◌, ◌<◌, ◌≤◌, eqb, length, take};
-ghost use Rattle.plan.specs.Check.{plan_refused};
+ghost use Rattle.std.specs.Prelude.{◌≡◌, ◌*◌, ◌^◌, ◌<◌, ◌≤◌, length};
 ghost use Rattle.blockings.specs.Blockings.{strictly_rising, blocked_plan, is_blocking};
 ghost use Rattle.blockings.specs.Inner.Numbered.{word_at, words_at};
 
-use plan::{Plan, lowest};
+use plan::{Plan, check};
 
 // The word at a place of the list with the number i: a digit to the base 2 ^ k, the first word the highest.
+// (That k is at most 5 and the words at most 3 is what the call checks first; a type for the two would be opened at each shift: no plainer.)
 fn word_at(k: usize, words: usize, i: usize, place: usize) -> u16
     requires { (k ≤ 5) × (words ≤ 3) × (place < words) }
     ensures { result ≡ word_at k words i place }
@@ -19,10 +19,9 @@ pub fn put_list(k: usize, i: usize, places: &mut [u16])
     requires { (k ≤ 5) × (length places.old ≤ 3) }
     ensures { places.new ≡ words_at k (length places.old) i }
 {
-    let mut place = 0;
-    while place < places.len() {
-        places[place] = word_at(k, places.len(), i, place);
-        place += 1;
+    let words = places.len();
+    for place in 0..words {
+        places[place] = word_at(k, words, i, place);
     }
 }
 
@@ -30,44 +29,40 @@ pub fn put_list(k: usize, i: usize, places: &mut [u16])
 fn rises(words: &[u16]) -> bool
     ensures { result ≡ strictly_rising words.now }
 {
-    let mut j = 0;
-    while j + 1 < words.len() {
-        if words[j + 1] <= words[j] {
+    for j in 1..words.len() {
+        if words[j] <= words[j - 1] {
             return false;
         }
-        j += 1;
     }
     true
 }
 
-// Whether the plan check accepts the first words as the block words of a plan of two levels with no added factor.
-fn is_accepted(k: u8, words: u8, list: [u16; 4]) -> bool
-    requires { words ≤ 3 }
-    ensures { result ≡ eqb (plan_refused (blocked_plan k (take words list))) 0 }
+// The plan of two levels with these block words, with no added factor and each run made once.
+pub fn blocked_plan(k: u8, list: &[u16]) -> Plan
+    requires { length list.now ≤ 4 }
+    ensures { result ≡ blocked_plan k list.now }
 {
-    let p = Plan {
+    let mut blockwords = [0u16; 4];
+    blockwords[..list.len()].copy_from_slice(list);
+    Plan {
         levels: 2,
         k,
         added: 0,
         words: [0; 6],
         signs: [0; 6],
-        blocks: words,
-        blockwords: list,
+        blocks: list.len() as u8,
+        blockwords,
         repeats: 1,
-    };
-    lowest(p) == 0
+    }
 }
 
-// Whether the first words rise, and block a plan.
-fn is_blocking(k: u8, words: u8, list: [u16; 4]) -> bool
-    requires { words ≤ 3 }
-    ensures { result ≡ is_blocking k (take words list) }
+// Whether the words rise, and the plan check accepts them as block words.
+#[tactic(auto, unfolding(crate::specs::Blockings::is_blocking))]
+fn is_blocking(k: u8, list: &[u16]) -> bool
+    requires { length list.now ≤ 3 }
+    ensures { result ≡ is_blocking k list.now }
 {
-    let n = words as usize;
-    if rises(&list[..n]) {
-        return is_accepted(k, words, list);
-    }
-    false
+    rises(list) && check(blocked_plan(k, list)).is_ok()
 }
 
 // The same of the list with the number i.
@@ -75,10 +70,10 @@ pub fn is_listed(k: u8, words: u8, i: usize) -> bool
     requires { (k ≤ 5) × (words ≤ 3) }
     ensures { result ≡ is_blocking k (words_at k words i) }
 {
-    let mut list = [0u16; 4];
-    let n = words as usize;
-    put_list(k as usize, i, &mut list[..n]);
-    is_blocking(k, words, list)
+    let mut places = [0u16; 3];
+    let list = &mut places[..words as usize];
+    put_list(k as usize, i, list);
+    is_blocking(k, list)
 }
 
 // How many lists of so many words there are, rising or not.

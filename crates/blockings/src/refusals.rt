@@ -1,28 +1,26 @@
 // What is refused of the blocking call.
 ghost use Rattle.std.specs.Prelude.{◌≡◌, ◌≤◌, length};
+ghost use Rattle.plan.specs.Refusals.{number_of};
 ghost use Rattle.blockings.specs.Blockings.{blockings_of, bad_factor_count, bad_word_count, blockings_refused};
 ghost use Rattle.blockings.specs.Inner.Ready.{InRange};
 
 use super::lists::{all_lists, is_listed};
+use plan::Refusal;
 
 // Refusal 3.
+#[tactic(auto, unfolding(crate::specs::Blockings::bad_factor_count))]
 fn bad_factor_count(k: u8) -> bool
     ensures { result ≡ bad_factor_count k }
 {
-    if k < 2 {
-        return true;
-    }
-    5 < k
+    k < 2 || 5 < k
 }
 
 // Refusal 17.
+#[tactic(auto, unfolding(crate::specs::Blockings::bad_word_count))]
 fn bad_word_count(words: u8) -> bool
     ensures { result ≡ bad_word_count words }
 {
-    if words < 1 {
-        return true;
-    }
-    3 < words
+    words < 1 || 3 < words
 }
 
 // How many lists block a plan.
@@ -32,30 +30,27 @@ fn count(k: u8, words: u8) -> usize
 {
     let all = all_lists(k, words);
     let mut n = 0;
-    let mut i = 0;
-    while i < all {
+    for i in 0..all {
         if is_listed(k, words, i) {
             n += 1;
         }
-        i += 1;
     }
     n
 }
 
-// The first number that applies to a column of so many places, and 0 where none does.
-pub fn blockings_refused(k: u8, words: u8, room: usize) -> u8
-    ensures { result ≡ blockings_refused k words room }
+// The first refusal that applies to a column of so many places.
+#[tactic(auto, unfolding(crate::specs::Blockings::blockings_refused))]
+pub fn check_blockings(k: u8, words: u8, room: usize) -> Result<(), Refusal>
+    ensures { number_of result ≡ blockings_refused k words room }
 {
-    let bad_factors = bad_factor_count(k);
-    let bad_words = bad_word_count(words);
-    if bad_factors {
-        return 3;
+    if bad_factor_count(k) {
+        return Err(Refusal::Factors);
     }
-    if bad_words {
-        return 17;
+    if bad_word_count(words) {
+        return Err(Refusal::WordCount);
     }
     if room < count(k, words) * words as usize {
-        return 18;
+        return Err(Refusal::Room);
     }
-    0
+    Ok(())
 }

@@ -190,7 +190,7 @@ module _ {k w : ℕ} {xs : List ℤ} (pre : Blockable k w xs) where
       by zero u = absurd (u (row-of-none w))
       by (suc n) u = omega arith
 
-  whole-sets : length xs % 3 ≡ 0
+  pub whole-sets : length xs % 3 ≡ 0
   whole-sets = rw pre.whole (by k some-factor)
     where
       by : (n : ℕ) → 0 < n → 3 ^ n % 3 ≡ 0
@@ -220,19 +220,19 @@ module _ {k w : ℕ} {xs : List ℤ} (pre : Blockable k w xs) where
       pub set_there : i + 3 ≤ length xs
       set_there = omega (arith, low, a.sets, whole-sets)
 
-      module _ {b d : ℕ} (first : b ≡ block_of (replicate (k - 1) three) (w / 3) (i / 3)) (digit : d ≡ w % 3) where
+      module _ {b d : ℕ} (turn : ℕ) (run : i ≡ 3 * turn) (first : b ≡ block_of (replicate (k - 1) three) (w / 3) turn) (digit : d ≡ w % 3) where
         -- the blocks of the three runs of the set
         at : (j : ℕ) → j < 3 → block_of (replicate k three) w (i + j) ≡ (d * j + b) % 3
         at j l =
             let more : k ≡ suc (k - 1) = omega (arith, some-factor) in
-            let place : i + j ≡ i / 3 * 3 + j = omega (arith, a.sets) in
-            rw (first, digit) (ap₂ (λ n m. block_of (replicate n three) w m) more place ∙ block-set (k - 1) w (i / 3) j l)
+            let place : i + j ≡ turn * 3 + j = omega (arith, run) in
+            rw (first, digit) (ap₂ (λ n m. block_of (replicate n three) w m) more place ∙ block-set (k - 1) w turn j l)
 
         pub set-ready : SetAddable sums b d (read xs i) (read xs (i + 1)) (read xs (i + 2))
         set-ready =
             record {
               three = three-long a;
-              block = rw first (block-lt (replicate (k - 1) three) (w / 3) (i / 3));
+              block = rw first (block-lt (replicate (k - 1) three) (w / 3) turn);
               digit = rw digit (omega arith);
               sums-few = sums-few;
               first = value-few i;
@@ -240,8 +240,8 @@ module _ {k w : ℕ} {xs : List ℤ} (pre : Blockable k w xs) where
               third = value-few (i + 2);
             }
 
-        pub adding-more : Adding k w xs (i + 3) (set_added sums b d (read xs i) (read xs (i + 1)) (read xs (i + 2)))
-        adding-more =
+        pub adding-more : {m : ℕ} → m ≡ i + 3 → Adding k w xs m (set_added sums b d (read xs i) (read xs (i + 1)) (read xs (i + 2)))
+        adding-more e =
             let b-small : b < 3 = set-ready.block in
             let d_small : d < 3 = set-ready.digit in
             let own : b ≡ block_of (replicate k three) w i = sym (ap (block_of (replicate k three) w) (sym (add-zero i)) ∙ at 0 (lit< tt) ∙ omega (arith, b-small)) in
@@ -250,7 +250,7 @@ module _ {k w : ℕ} {xs : List ℤ} (pre : Blockable k w xs) where
             let one = one_more i b sums own a.so in
             let two = one_more (i + 1) ((b + d) % 3) _ next (one ∙ ap (λ n. tab 3 (partly k w xs n)) (sym (add-one i))) in
             let three-added = one_more (i + 2) (((b + d) % 3 + d) % 3) _ last (two ∙ ap (λ n. tab 3 (partly k w xs n)) (omega arith)) in
-            record { upto = set_there; sets = omega (arith, a.sets); so = three-added ∙ ap (λ n. tab 3 (partly k w xs n)) (omega arith) }
+            rw e (record { upto = set_there; sets = omega (arith, a.sets); so = three-added ∙ ap (λ n. tab 3 (partly k w xs n)) (omega arith) })
 
 -- the amount, from the three sums
 pub amount-made : {k w : ℕ} {xs : List ℤ} → Blockable k w xs → {i n : ℕ} {sums : List ℤ} {a b c : ℤ} → Adding k w xs i sums → length xs ≤ i

@@ -64,9 +64,9 @@ pub fn block_amount(k: u8, word: u16, column: &[i64]) -> u64
 {
     let digit = (word % 3) as u8;
     let mut sums = [0i64; 3];
-    let mut run = 0;
-    while run < column.len() {
-        let block = three_block(k - 1, word / 3, run / 3);
+    for set in 0..column.len() / 3 {
+        let block = three_block(k - 1, word / 3, set);
+        let run = 3 * set;
         add_set(
             &mut sums,
             block,
@@ -75,7 +75,6 @@ pub fn block_amount(k: u8, word: u16, column: &[i64]) -> u64
             column[run + 1],
             column[run + 2],
         );
-        run += 3;
     }
     amount(k, sums[0], sums[1], sums[2])
 }

@@ -3,10 +3,8 @@
 --   is_digit b          the byte is a digit
 --   all_digits bytes    so are all these bytes
 --   argument_of bytes   their number, 255 where it is above that, or no number
-use Rattle.std.specs.Prelude.{Bool, true, not, cond, ◌&&◌, List, [], ◌∷◌, ℕ, min, eqb, leb, length}
+use Rattle.std.specs.Prelude.{Bool, true, not, cond, ◌&&◌, List, [], ◌∷◌, ℕ, Option, None, Some, min, eqb, leb, length}
 use Rattle.text.specs.Laws.Digits.{worth}
-use Rattle.blockwords.specs.declared.numbers.Argument.{Argument}
-use Rattle.blockwords.specs.declared.numbers.Argument.TheVariants.{Number, Other}
 
 -- the bytes from 48 to 57
 unfoldable pub is_digit : ℕ → Bool
@@ -17,5 +15,5 @@ all_digits [] = true
 all_digits (b ∷ bs) = is_digit b && all_digits bs
 
 -- no byte at all is no number
-unfoldable pub argument_of : List ℕ → Argument
-argument_of bytes = cond (not (eqb (length bytes) 0) && all_digits bytes) (Number (min 255 (worth 0 bytes))) Other
+unfoldable pub argument_of : List ℕ → Option ℕ
+argument_of bytes = cond (not (eqb (length bytes) 0) && all_digits bytes) (Some (min 255 (worth 0 bytes))) None

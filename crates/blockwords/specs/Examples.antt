@@ -3,7 +3,7 @@
 --   numbers, others             arguments that are numbers, two of them above 255, and arguments that are none
 --   one_word, two-words         lines of lists for two and for three factors
 --   three-words                 four factors: all seven combinations are confounded
-use Rattle.std.specs.Prelude.{◌≡◌, refl, [], ◌∷◌, map}
+use Rattle.std.specs.Prelude.{◌≡◌, refl, [], ◌∷◌, map, None, Some}
 use Rattle.algebra.specs.Bits.{bits}
 use Rattle.algebra.specs.Naturals.{Σℕ}
 use Rattle.algebra.specs.Search.{some}
@@ -14,16 +14,15 @@ use Rattle.plan.specs.Plan.{some_combination, combines_to}
 use Rattle.text.specs.Text.{ascii}
 use Rattle.text.specs.Spelled.{letter_of, letters_in}
 use Rattle.lines.specs.Lines.{line_of}
-use Rattle.blockwords.specs.declared.numbers.Argument.TheVariants.{Number, Other}
 use Rattle.blockwords.specs.Arguments.{is_digit, all_digits, argument_of}
 use Rattle.blockwords.specs.Listed.{confounded_of, list_line}
 
 numbers : map argument_of (ascii "4" ∷ ascii "007" ∷ ascii "259" ∷ ascii "1000000000000000000000" ∷ [])
-    ≡ Number 4 ∷ Number 7 ∷ Number 255 ∷ Number 255 ∷ []
+    ≡ Some 4 ∷ Some 7 ∷ Some 255 ∷ Some 255 ∷ []
 unfolding argument_of all_digits is_digit
 numbers = refl
 
-others : map argument_of ([] ∷ ascii "-1" ∷ ascii "4 " ∷ ascii "x" ∷ []) ≡ Other ∷ Other ∷ Other ∷ Other ∷ []
+others : map argument_of ([] ∷ ascii "-1" ∷ ascii "4 " ∷ ascii "x" ∷ []) ≡ None ∷ None ∷ None ∷ None ∷ []
 unfolding argument_of all_digits is_digit
 others = refl
 

@@ -1,44 +1,27 @@
 // The line of a list of block words, in a lent buffer: the words, a colon, and the effects that they confound.
-ghost use Rattle.std.specs.Prelude.{◌≡◌, cond, [], ◌∷◌, ◌++◌, ◌-◌, ◌≤◌, length, replicate};
+ghost use Rattle.std.specs.Prelude.{◌≡◌, cond, [], ◌∷◌, length};
 ghost use Rattle.plan.specs.Plan.{confounded_in};
-ghost use Rattle.text.specs.Text.{Wrote};
+ghost use Rattle.text.specs.Text.{Wrote, Writes};
 ghost use Rattle.blockings.specs.Blockings.{blocked_plan};
 ghost use Rattle.blockwords.specs.Listed.{confounded_of, list_line};
 ghost use Rattle.blockwords.specs.Inner.Ready.{Blocked};
 ghost use Rattle.blockwords.specs.Inner.Written.{space_after, space_before};
 
-use plan::{Plan, confounded};
-use text::{letters, put};
+use blockings::blocked_plan;
+use plan::confounded;
+use text::Text;
 
 // Room for every line: none has more than 614 bytes.
 pub const LINE: usize = 1024;
 
 // The letters of each word, and a space after each.
-fn words_text(text: &mut [u8], at: usize, list: &[u16]) -> usize
-    ensures { Wrote text.old at (space_after list.now) text.new result }
+fn words_text(text: &mut Text<'_>, list: &[u16])
+    ensures { Writes text.old (space_after list.now) text.new }
 {
-    let mut next = at;
-    let mut i = 0;
-    while i < list.len() {
-        next = letters(text, next, list[i]);
-        next = put(text, next, b' ');
-        i += 1;
+    for word in list {
+        text.letters(*word);
+        text.put(b' ');
     }
-    next
-}
-
-// The list in a plan's places for block words, with 0 in those that it leaves.
-fn in_places(list: &[u16]) -> [u16; 4]
-    requires { length list.now ≤ 4 }
-    ensures { result ≡ list.now ++ replicate (4 - length list.now) 0 }
-{
-    let mut places = [0u16; 4];
-    let mut i = 0;
-    while i < list.len() {
-        places[i] = list[i];
-        i += 1;
-    }
-    places
 }
 
 // Whether an effect is confounded where the list has the block words of a plan of k factors at two levels, with no added factor.
@@ -46,43 +29,38 @@ fn is_confounded(k: u8, list: &[u16], word: u16) -> bool
     requires { Blocked k list.now }
     ensures { result ≡ confounded_in (blocked_plan k list.now) word }
 {
-    let p = Plan {
-        levels: 2,
-        k,
-        added: 0,
-        words: [0; 6],
-        signs: [0; 6],
-        blocks: list.len() as u8,
-        blockwords: in_places(list),
-        repeats: 1,
-    };
-    confounded(p, word)
+    confounded(blocked_plan(k, list), word)
 }
 
 // The letters of an effect after a space, if it is confounded.
-fn next_effect(text: &mut [u8], at: usize, word: u16, lost: bool) -> usize
-    ensures { Wrote text.old at (space_before (cond lost (word ∷ []) [])) text.new result }
+fn next_effect(text: &mut Text<'_>, word: u16, lost: bool)
+    ensures { Writes text.old (space_before (cond lost (word ∷ []) [])) text.new }
 {
     if lost {
-        let next = put(text, at, b' ');
-        return letters(text, next, word);
+        text.put(b' ');
+        text.letters(word);
     }
-    at
 }
 
 // The confounded effects, a space before each.
-fn effects_text(text: &mut [u8], at: usize, k: u8, list: &[u16]) -> usize
+fn effects_text(text: &mut Text<'_>, k: u8, list: &[u16])
     requires { Blocked k list.now }
-    ensures { Wrote text.old at (space_before (confounded_of k list.now)) text.new result }
+    ensures { Writes text.old (space_before (confounded_of k list.now)) text.new }
 {
-    let all = 1u16 << k;
-    let mut next = at;
-    let mut word = 0;
-    while word < all {
-        next = next_effect(text, next, word, is_confounded(k, list, word));
-        word += 1;
+    for word in 0..1u16 << k {
+        next_effect(text, word, is_confounded(k, list, word));
     }
-    next
+}
+
+// The line.
+fn line_text(text: &mut Text<'_>, k: u8, list: &[u16])
+    requires { Blocked k list.now }
+    ensures { Writes text.old (list_line k list.now) text.new }
+{
+    words_text(text, list);
+    text.put(b':');
+    effects_text(text, k, list);
+    text.put(b'\n');
 }
 
 // The line, whole: there is room for it.
@@ -91,8 +69,7 @@ pub fn list_line(text: &mut [u8; LINE], k: u8, list: &[u16]) -> usize
     ensures wrote { Wrote text.old 0 (list_line k list.now) text.new result }
     ensures value { result ≡ length (list_line k list.now) }
 {
-    let next = words_text(text, 0, list);
-    let next = put(text, next, b':');
-    let next = effects_text(text, next, k, list);
-    put(text, next, b'\n')
+    let mut line = Text::new(text);
+    line_text(&mut line, k, list);
+    line.len()
 }

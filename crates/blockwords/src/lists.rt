@@ -9,10 +9,11 @@ ghost use Rattle.blockwords.specs.Printed.{list_lines, blockings_text};
 ghost use Rattle.blockwords.specs.Inner.Ready.{Blocked, ListsIn};
 
 use super::list_lines::{LINE, list_line};
-use blockings::{Blockings, blockings};
+use blockings::blockings;
 use lines::named_line;
 use std::io;
 use std::io::Write;
+use text::Text;
 
 // Places for the words of all lists: the most are 1,120 lists of three.
 const PLACES: usize = 3360;
@@ -21,12 +22,14 @@ const PLACES: usize = 3360;
 fn print_number<W: Write>(out: &mut W, name: &[u8], n: u64) -> io::Result<()>
     ensures { length name.now ≤ 1000 → OnOk result (Appends (W.contents out.old) (W.contents out.new) (named_line name.now n)) }
 {
-    let mut text = [0u8; LINE];
-    let end = named_line(&mut text, 0, name, n);
-    out.write_all(&text[..end])
+    let mut line = [0u8; LINE];
+    let mut text = Text::new(&mut line);
+    named_line(&mut text, name, n);
+    out.write_all(text.bytes())
 }
 
 // The line of a list.
+// (As `print_number`, of another line; with the line as a closure the contract would name what the closure writes, no plainer.)
 fn print_list<W: Write>(out: &mut W, k: u8, list: &[u16]) -> io::Result<()>
     requires { Blocked k list.now }
     ensures { OnOk result (Appends (W.contents out.old) (W.contents out.new) (list_line k list.now)) }
@@ -60,10 +63,10 @@ pub fn print_blockings<W: Write>(out: &mut W, k: u8, words: u8) -> io::Result<()
 {
     let mut column = [0u16; PLACES];
     match blockings(k, words, &mut column) {
-        Blockings::Written(n) => {
+        Ok(n) => {
             print_number(out, b"lists", n as u64)?;
             print_lists(out, k, words as usize, n, &column)
         }
-        Blockings::Refused(n) => print_number(out, b"refused", n as u64),
+        Err(refusal) => print_number(out, b"refused", refusal.number() as u64),
     }
 }

@@ -7,7 +7,7 @@ mod lists;
 mod numbers;
 
 use lists::print_blockings;
-use numbers::{Argument, argument_of};
+use numbers::argument_of;
 use std::env::{Env, FillError};
 
 // As many bytes as the system hands over in one argument at the most.
@@ -15,14 +15,11 @@ const ARGUMENT: usize = 131072;
 
 // Whether there is an argument i, the program's name being argument 0.
 fn has_argument(rt: &impl Env, i: usize) -> bool {
-    match rt.arg(i, &mut []) {
-        Err(FillError::NotPresent) => false,
-        Ok(_) | Err(FillError::TooLong) => true,
-    }
+    !matches!(rt.arg(i, &mut []), Err(FillError::NotPresent))
 }
 
 // Argument i; one that is missing has no bytes.
-fn read_argument(rt: &impl Env, i: usize) -> Argument {
+fn read_argument(rt: &impl Env, i: usize) -> Option<u8> {
     let mut buffer = [0u8; ARGUMENT];
     let n = rt.arg(i, &mut buffer).unwrap_or(0);
     argument_of(&buffer[..n])
@@ -38,10 +35,10 @@ fn main(rt: HostRuntime) {
     if !has_argument(&rt, 2) || has_argument(&rt, 3) {
         return tell_wanted(&rt);
     }
-    let Argument::Number(k) = read_argument(&rt, 1) else {
+    let Some(k) = read_argument(&rt, 1) else {
         return tell_wanted(&rt);
     };
-    let Argument::Number(words) = read_argument(&rt, 2) else {
+    let Some(words) = read_argument(&rt, 2) else {
         return tell_wanted(&rt);
     };
     if print_blockings(&mut rt.stdout(), k, words).is_err() {

@@ -11,7 +11,7 @@ use Rattle.std.specs.Prelude.{Bool, false, ◌||◌, List, [], ◌∷◌, ◌++�
 use Rattle.plan.specs.declared.types.Plan.{Plan}
 use Rattle.plan.specs.Check.{plan_refusals, plan_refused}
 use Rattle.plan.specs.Outcome.{Refusal, refusal, Lowest}
-use Rattle.plan.specs.Plan.{all_readings}
+use Rattle.plan.specs.Plan.{whole_plan, all_readings}
 use Rattle.plan.specs.Limits.{reading_limit}
 use Rattle.columns.specs.Refusals.{any_beyond}
 use Rattle.rows.specs.Kinds.{bad_marks}
@@ -33,7 +33,6 @@ use Rattle.heads.specs.Heads.{bad_head, head_plan, head_refusals, head_refused, 
 use Rattle.facts.specs.Facts.{run_on_head, alias_on_head, estimate_on_head}
 use Rattle.figures.specs.Numbers.{wrong_room, call_refused}
 use Rattle.tables.specs.Sheets.{wrong_slices, sheet_table_refused}
-use Rattle.wholes.specs.Whole.{whole_plan}
 
 abbrev pub on_plan : Plan → List Refusal → List Refusal
 on_plan p further = plan_refusals p ++ further

@@ -10,16 +10,15 @@
 --   readings_refusals p xs ys            those of one that reads readings
 --   readings_refused p xs ys             and its number
 --   answer_outcome                       the cases of the answer
-use Rattle.std.specs.Prelude.{Bool, not, ◌||◌, List, [], ◌∷◌, ℕ, eqb, ℤ, length}
-use Rattle.algebra.specs.Search.{some}
-use Rattle.contrasts.specs.Columns.{read}
+use Rattle.std.specs.Prelude.{Result, Bool, not, ◌||◌, List, [], ◌∷◌, ℕ, eqb, ℤ, length}
+use Rattle.std.specs.List.{list_any}
 use Rattle.plan.specs.declared.types.Plan.{Plan}
 use Rattle.plan.specs.Check.{with_plan}
 use Rattle.plan.specs.Limits.{reading_limit, is_beyond}
-use Rattle.plan.specs.Outcome.{Refusal, refusal, Outcome, given, refused}
+use Rattle.plan.specs.Outcome.{Refusal, refusal, Outcome}
 use Rattle.plan.specs.Plan.{runs_of, all_readings}
-use Rattle.columns.specs.declared.types.Answer.{Answer}
-use Rattle.columns.specs.declared.types.Answer.TheVariants.{Done, Refused}
+use Rattle.plan.specs.Refusals.{outcome_by}
+use Rattle.plan.specs.declared.refusals.Refusal as refusals
 
 -- N11: "[..] totals [..] not N [..] long; pass or step column not N"
 unfoldable pub wrong_length : Plan → ℕ → Bool
@@ -31,7 +30,7 @@ wrong_readings p n = not (eqb n (all_readings p))
 
 -- N12: "12 with these limits", of a column
 unfoldable pub any_beyond : ℕ → List ℤ → Bool
-any_beyond limit xs = some (length xs) (λ i. is_beyond limit (read xs i))
+any_beyond limit xs = list_any (is_beyond limit) xs
 
 -- N11
 unfoldable pub lengths_refused : Plan → Bool → ℕ
@@ -57,6 +56,5 @@ unfoldable pub readings_refused : Plan → List ℤ → List ℤ → ℕ
 readings_refused p xs ys = with_plan p (readings_refusals p xs ys)
 
 -- F12: what a call makes is in the column, so the answer has no values
-abbrev pub answer_outcome : Answer → Outcome Unit
-answer_outcome Done = given tt
-answer_outcome (Refused n) = refused n
+abbrev pub answer_outcome : Result Unit refusals.Refusal → Outcome Unit
+answer_outcome answer = outcome_by (λ v. v) answer

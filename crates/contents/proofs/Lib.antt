@@ -1,4 +1,4 @@
 -- Laws that the proofs cite.
 --
---   Made    the plan that is held, part by part
+--   Made    arrays that are made place by place
 pub mod Made

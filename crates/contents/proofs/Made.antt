@@ -1,17 +1,26 @@
--- The plan that is held, part by part.
+-- Arrays that are made place by place.
 --
---   made    a plan whose parts are those of a sheet's fields is the one that is held
-use mathlib.Core.Path.{◌≡◌}
-use Prim.Native.Nat.{min}
-use lib.ListN.{length}
+--   made    an array of what a closure gives at each place is the list of these
+use mathlib.Core.Path.{◌≡◌, subst, ◌∙◌}
+use mathlib.Core.List.{List}
+use Prim.Native.Nat.{ℕ, zero, suc, ◌+◌, ◌<◌}
+use native.Mathlib.Omega.{arith}
+use denote.Param.Members.{Mut}
+use lib.ListN.{get_or}
+use Rattle.std.specs.Fn.{Called}
+use Rattle.std.specs.Array.{IsFromFnResult, IsFromFnResultFrom}
 use Rattle.algebra.specs.Tab.{tab}
-use Rattle.plan.specs.declared.types.Plan.{Plan}
-use Rattle.fields.specs.Fields.{Fields, bodies, body_at}
-use Rattle.contents.specs.Contents.{byte_at, word_in, repeats_in, plan_in}
-use Rattle.contents.specs.Held.{held}
+use Rattle.algebra.specs.Laws.Tab.{is-tab}
 
-pub made : (fs : Fields) (p : Plan) → p.levels ≡ byte_at 0 (body_at 1 0 fs) → p.k ≡ byte_at 1 (body_at 1 0 fs) → p.added ≡ min (length (bodies 2 fs)) 7
-    → p.words ≡ tab 6 (λ i. word_in (body_at 2 i fs)) → p.signs ≡ tab 6 (λ i. byte_at 2 (body_at 2 i fs)) → p.blocks ≡ min (length (bodies 3 fs)) 5
-    → p.blockwords ≡ tab 4 (λ i. word_in (body_at 3 i fs)) → p.repeats ≡ repeats_in fs → p ≡ held (plan_in fs)
-unfolding held plan_in
-made fs p l k a w s b v r = λ i. record { levels = l i; k = k i; added = a i; words = w i; signs = s i; blocks = b i; blockwords = v i; repeats = r i }
+module _ {F : Type 0} {g : Mut F (ℕ × Unit {0}) ℕ} {f : F} (h : ℕ → ℕ) (gives : (i y : ℕ) (q : F) → Called g f (i, tt) y q → (q ≡ f) × (y ≡ h i)) where
+  each : (ys : List ℕ) (i n : ℕ) → IsFromFnResultFrom g f ys i n → (j : ℕ) → j < n → get_or ys (i + j) 0 ≡ h (i + j)
+  each ys i zero r j l = absurd (omega (arith, l))
+  each ys i (suc n) (q, y, at, call, rest) zero l =
+      let e : i + 0 ≡ i = omega arith in
+      rw e (at.1 0 ∙ (gives i y q call).1)
+  each ys i (suc n) (q, y, at, call, rest) (suc j) l =
+      let e : i + suc j ≡ i + 1 + j = omega arith in
+      rw e (each ys (i + 1) n (subst (λ p. IsFromFnResultFrom g p ys (i + 1) n) (gives i y q call).0 rest) j (omega (arith, l)))
+
+  pub made : {ys : List ℕ} {n : ℕ} → IsFromFnResult g f ys n → ys ≡ tab n h
+  made {ys} {n} r = is-tab 0 ys n h r.long (λ i l. let e : 0 + i ≡ i = omega arith in subst (λ j. get_or ys j 0 ≡ h j) e (each ys 0 n r.each i l))

@@ -68,5 +68,5 @@ module _ (p : Plan) {n : ℕ} (count : n ≡ run_count p) where
           by (inr (inl a)) = absurd (l a.levels)
           by (inr (inr a)) = a
 
-      pub is-three : (n ≡ 3 ^ p.k) × (0 < p.k) × (p.k ≤ 6)
-      is-three = (count ∙ known-three.count, some-factor, known-three.most)
+      pub is-three : (n ≡ 3 ^ p.k) × (0 < p.k) × (p.k ≤ 6) × (n ≤ 729)
+      is-three = (count ∙ known-three.count, some-factor, known-three.most, few-three (count ∙ known-three.count) known-three.most)

@@ -68,11 +68,12 @@ module _ {k n : ℕ} {ys : List ℕ} (w : Missing k n ys) where
         let e : 6 - (n - 1) ≡ suc (6 - n) = omega (arith, w.most) in
         rw (e, pow-suc 3 (6 - n)) (div-div-eq-div-mul x (3 ^ (6 - n)) 3)
 
-    pub missing-more : {zs : List ℕ} → zs ≡ thirds ys → Missing k (n - 1) zs
+    pub missing-more : {m : ℕ} → m ≡ n - 1 → {zs : List ℕ} → zs ≡ thirds ys → Missing k m zs
     unfolding thirds divisors_of
-    missing-more e =
-        record {
+    missing-more d e =
+        rw d
+        (record {
           most = omega (arith, w.most);
           there = omega (arith, w.most);
           so = e ∙ rw missing-long (rw w.so (tab-cong 0 729 _ _ (λ i l. ap (λ x. x / 3) (get_or-tab 0 729 _ i l) ∙ one_more (divisor* (replicate 6 three) i))));
-        }
+        })

@@ -2,19 +2,23 @@
 --
 --   Singly f old n e ys                   the list once the places below e are filled, one a turn
 --   singly-none, singly-more, singly-all  before the first turn, where all places hold the same; after one more; after the last
+--   front                                 the first places filled with one number
 --   Threes f old n q ys                   the list after q turns, each of which reads place q and fills the places 3 q, 3 q + 1 and 3 q + 2
 --   threes-none, threes-more, threes-all  before the first turn, after one more, after the last
 --   threes-read                           turn q reads f q, where place 0 holds f 0 from the start
 use mathlib.Core.Path.{◌≡◌, refl, ◌∙◌}
 use mathlib.Core.Bool.{cond}
-use mathlib.Core.List.{List}
-use Prim.Native.Nat.{ℕ, ◌+◌, ◌*◌, ◌/◌, ◌%◌, ◌<◌, ◌≤◌}
+use mathlib.Core.List.{List, ◌++◌}
+use Prim.Native.Nat.{ℕ, ◌+◌, ◌-◌, ◌*◌, ◌/◌, ◌%◌, ◌<◌, ◌≤◌}
 use native.Mathlib.Decide.{dec_lt}
 use native.Mathlib.Omega.{arith}
 use lib.Dec.{ltb}
-use lib.ListN.{get_or, set, replicate}
+use borrow.Author.Tests.{lt-ltb, le-ltb}
+use lib.ListN.{length, get_or, set, drop, replicate}
+use Rattle.std.proofs.lemmas.List.{length-append, length-replicate, get_or-replicate, get_or_append_left, get_or-append_right, get_or-drop, drop-replicate}
 use Rattle.algebra.specs.Laws.Fill.{Filled, filled-blank, filled-old, filled-new, filled_more, filled-three}
 use Rattle.algebra.specs.Tab.{tab}
+use Rattle.algebra.specs.Laws.Tab.{is-tab}
 
 -- ---- one place a turn
 
@@ -33,6 +37,22 @@ module _ {f old : ℕ → ℕ} {n e : ℕ} {ys : List ℕ} (w : Singly f old n e
   singly-all h =
       let d : e ≡ n = omega (arith, w.upto) in
       w.so.so ∙ rw d refl
+
+-- ---- the first places, filled with one number
+
+pub front : {n : ℕ} (v z : ℕ) {ys : List ℕ} → n ≤ 1024 → ys ≡ replicate n v → ys ++ drop n (replicate 1024 z) ≡ tab 1024 (λ e. cond (ltb e n) v z)
+front {n} v z most e = rw e (is-tab 0 _ 1024 _ long (λ i h. by i h (dec_lt i n)))
+  where
+    long : length (replicate n v ++ drop n (replicate 1024 z)) ≡ 1024
+    long = rw (length-append (replicate n v) (drop n (replicate 1024 z)), drop-replicate n 1024 z, length-replicate n v, length-replicate (1024 - n) z) (omega arith)
+
+    by : (i : ℕ) → i < 1024 → Dec (i < n) → get_or (replicate n v ++ drop n (replicate 1024 z)) i 0 ≡ cond (ltb i n) v z
+    by i h (yes l) =
+        get_or_append_left (replicate n v) (drop n (replicate 1024 z)) 0 i (rw (length-replicate n v) l)
+        ∙ get_or-replicate n i v 0 l ∙ rw (lt-ltb i n l) refl
+    by i h (no l) =
+        get_or-append_right (replicate n v) (drop n (replicate 1024 z)) n i 0 (length-replicate n v) (omega arith)
+        ∙ get_or-drop n (replicate 1024 z) (i - n) 0 ∙ get_or-replicate 1024 (n + (i - n)) z 0 (omega arith) ∙ rw (le-ltb i n (omega arith)) refl
 
 -- ---- three places a turn
 

@@ -29,7 +29,7 @@ use Rattle.plan.specs.Check.{run_count}
 use Rattle.plan.specs.Plan.{factors_of}
 use Rattle.plan.proofs.Laws.Sizes.{RunsTwo, RunsThree, runs-known}
 use Rattle.effects.specs.Effects.{effect_rows}
-use Rattle.effects.proofs.Counted.{threes-of, few-three, is-three}
+use Rattle.effects.proofs.Counted.{threes-of, is-three}
 use Rattle.effects.proofs.Filling.{Threes, threes-none, threes-read, threes-more}
 
 -- ---- three levels
@@ -102,7 +102,7 @@ module _ (p : Plan) {n : ℕ} (count : n ≡ run_count p) where
         by (yes z) = (omega arith, omega arith)
         by (no some) =
             let known = is-three p count some l in
-            (rw known.0 (threes-of p.k known.1), few-three known.0 known.2)
+            (rw known.0 (threes-of p.k known.1), known.3)
 
     pub effect-rows-three : {ys : List ℕ} → ys ≡ tab 1024 (λ e. cond (ltb e n) (row_of (replicate 6 three) e) 0) → ys ≡ effect_rows p
     effect-rows-three {ys} e = by (runs-known p)

@@ -2,7 +2,7 @@
 --
 --   WeightsThree k n q ys                     at three levels, weights are filled below effect 3 q, each from that of a lower effect
 --   three-none, three-more, three-all         before the first three effects, after three more, after the last
---   three-few, three-fits                     there are few effects, and the weight that is read fits
+--   three-fits                                the weight that is read fits
 --   no-weights                                the weights of a plan without effects
 --   effect-weights-two, effect-weights-three  those of any other, by its levels
 use mathlib.Core.Path.{◌≡◌, refl, sym, ◌∙◌, ap}
@@ -26,7 +26,7 @@ use Rattle.plan.specs.declared.types.Plan.{Plan}
 use Rattle.plan.specs.Check.{run_count}
 use Rattle.plan.specs.Plan.{factors_of}
 use Rattle.effects.specs.Effects.{effect_weights}
-use Rattle.effects.proofs.Counted.{threes-of, few-three, none-counted, known_two, known-three}
+use Rattle.effects.proofs.Counted.{threes-of, none-counted, known_two, known-three}
 use Rattle.effects.proofs.Filling.{Threes, threes-none, threes-read, threes-more, threes-all}
 
 -- ---- three levels
@@ -42,13 +42,10 @@ three-none k n {v} e =
     first : Filled 1024 (weight* (replicate k three)) (λ j. 0) 1 (set (replicate 1024 0) 0 v)
     first = filled_more 0 (filled-blank 0 1024 (weight* (replicate k three)) 0) (omega arith) (e ∙ sym (weight-first k))
 
-module _ {k n : ℕ} (pre : (n ≡ 3 ^ k) × (0 < k) × (k ≤ 6)) where
+module _ {k n : ℕ} (pre : (n ≡ 3 ^ k) × (0 < k) × (k ≤ 6) × (n ≤ 729)) where
   -- there is a lowest digit, and k - 1 factors have the others
   others : k ≡ suc (k - 1)
   others = omega (arith, pre.1)
-
-  pub three-few : n ≤ 729
-  three-few = few-three pre.0 pre.2
 
   pub three-all : {q : ℕ} {ys : List ℕ} → WeightsThree k n q ys → n / 3 ≤ q
       → ys ≡ tab 1024 (λ j. cond (ltb j n) (weight* (replicate k three) j) 0)
@@ -61,7 +58,7 @@ module _ {k n : ℕ} (pre : (n ≡ 3 ^ k) × (0 < k) × (k ≤ 6)) where
 
   module _ {q : ℕ} {ys : List ℕ} (w : WeightsThree k n q ys) (low : q < n / 3) where
     before : get_or ys q 0 ≡ weight* (replicate k three) q
-    before = threes-read w low (omega (arith, three-few)) refl
+    before = threes-read w low (omega (arith, pre.3)) refl
 
     pub three-fits : get_or ys q 0 ≤ 46656
     three-fits = rw before (weight-fits k q pre.2)
@@ -73,7 +70,7 @@ module _ {k n : ℕ} (pre : (n ≡ 3 ^ k) × (0 < k) × (k ≤ 6)) where
         → WeightsThree k n (q + 1) (set (set (set ys (q * 3) a) (q * 3 + 1) b) (q * 3 + 2) c)
     three-more d e f =
         let s = weight-three (k - 1) q below others in
-        threes-more w low (omega (arith, three-few)) (d ∙ rw before (sym s.0)) (e ∙ rw before (sym s.1)) (f ∙ rw before (sym s.2))
+        threes-more w low (omega (arith, pre.3)) (d ∙ rw before (sym s.0)) (e ∙ rw before (sym s.1)) (f ∙ rw before (sym s.2))
 
 -- ---- the weights of a plan
 

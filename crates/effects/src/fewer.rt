@@ -8,10 +8,8 @@ use super::constants::six_factors;
 fn divide_by_three(divisors: &mut [u32])
     ensures { divisors.new ≡ thirds divisors.old }
 {
-    let mut e = 0;
-    while e < divisors.len() {
-        divisors[e] /= 3;
-        e += 1;
+    for divisor in divisors.iter_mut() {
+        *divisor /= 3;
     }
 }
 
@@ -20,10 +18,8 @@ pub fn fewer_factors(k: usize) -> [u32; 729]
     ensures { result ≡ divisors_of k }
 {
     let mut divisors = six_factors();
-    let mut factors = 6;
-    while k < factors {
+    for _ in k..6 {
         divide_by_three(&mut divisors);
-        factors -= 1;
     }
     divisors
 }

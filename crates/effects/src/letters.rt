@@ -9,15 +9,14 @@ use plan::Plan;
 use sizes::runs;
 
 // At two levels an effect's row is its own number.
+// (How many effects there are is a number that `runs` answers; a type for it, here and for divisors and weights, would be opened at each place.)
 fn rows_of_two(n: usize) -> [u16; 1024]
     requires { n ≤ 1024 }
     ensures { result ≡ tab 1024 (λ e. cond (ltb e n) e 0) }
 {
     let mut rows = [0u16; 1024];
-    let mut e = 0;
-    while e < n {
+    for e in 0..n {
         rows[e] = e as u16;
-        e += 1;
     }
     rows
 }
@@ -29,21 +28,19 @@ fn rows_of_three(n: usize) -> [u16; 1024]
     ensures { result ≡ tab 1024 (λ e. cond (ltb e n) (row_of (replicate 6 three) e) 0) }
 {
     let mut rows = [0u16; 1024];
-    let third = n / 3;
-    let mut q = 0;
-    while q < third {
+    for q in 0..n / 3 {
         let moved = 2 * rows[q];
         let with_first = moved + 1;
         let e = q * 3;
         rows[e] = moved;
         rows[e + 1] = with_first;
         rows[e + 2] = with_first;
-        q += 1;
     }
     rows
 }
 
 // The row of each effect, and 0 where a plan has no such effect.
+// (The arms fill their tables in different ways: two functions, and no trait.)
 pub fn rows(p: Plan) -> [u16; 1024]
     ensures { result ≡ effect_rows p }
 {

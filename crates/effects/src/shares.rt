@@ -16,30 +16,25 @@ fn divisors_of_two(n: usize, repeats: u8) -> [u32; 1024]
 {
     let divisor = (repeats as u32) * (n as u32);
     let mut divisors = [1u32; 1024];
-    let mut e = 0;
-    while e < n {
-        divisors[e] = divisor;
-        e += 1;
-    }
+    divisors[..n].fill(divisor);
     divisors
 }
 
 // At three levels they are r times those of the table for so many factors. There are n effects.
 fn divisors_of_three(n: usize, k: usize, repeats: u8) -> [u32; 1024]
-    requires { (n ≡ 3 ^ k) × (k ≤ 6) }
+    requires { (n ≡ 3 ^ k) × (k ≤ 6) × (n ≤ 729) }
     ensures { result ≡ tab 1024 (λ e. cond (ltb e n) (repeats * divisor* (replicate k three) e) 1) }
 {
     let table = fewer_factors(k);
     let mut divisors = [1u32; 1024];
-    let mut e = 0;
-    while e < n {
+    for e in 0..n {
         divisors[e] = (repeats as u32) * table[e];
-        e += 1;
     }
     divisors
 }
 
 // The divisor of each effect, and 1 where a plan has no such effect.
+// The arms fill their tables in different ways: two functions, and no trait.
 pub fn divisors(p: Plan) -> [u32; 1024]
     ensures { result ≡ effect_divisors p }
 {

@@ -14,37 +14,31 @@ fn weights_of_two(n: usize) -> [u32; 1024]
     ensures { result ≡ tab 1024 (λ e. cond (ltb e n) 1 0) }
 {
     let mut weights = [0u32; 1024];
-    let mut e = 0;
-    while e < n {
-        weights[e] = 1;
-        e += 1;
-    }
+    weights[..n].fill(1);
     weights
 }
 
 // At three levels a weight is the product of 2, 3 or 1 by digit. Effect q has a 2 for its last digit, which is 0. The effects 3 q, 3 q + 1 and
 // 3 q + 2 have its other digits, each moved on by one, and for the lowest a 2, 3 or 1. There are n effects of k factors.
 fn weights_of_three(n: usize, k: usize) -> [u32; 1024]
-    requires { (n ≡ 3 ^ k) × (0 < k) × (k ≤ 6) }
+    requires { (n ≡ 3 ^ k) × (0 < k) × (k ≤ 6) × (n ≤ 729) }
     ensures { result ≡ tab 1024 (λ e. cond (ltb e n) (weight* (replicate k three) e) 0) }
 {
     let mut weights = [0u32; 1024];
     weights[0] = 1u32 << k;
-    let third = n / 3;
-    let mut q = 0;
-    while q < third {
+    for q in 0..n / 3 {
         let whole = weights[q];
         let half = whole / 2;
         let e = q * 3;
         weights[e] = whole;
         weights[e + 1] = 3 * half;
         weights[e + 2] = half;
-        q += 1;
     }
     weights
 }
 
 // The weight of each effect, and 0 where a plan has no such effect.
+// The arms fill their tables in different ways: two functions, and no trait.
 pub fn weights(p: Plan) -> [u32; 1024]
     ensures { result ≡ effect_weights p }
 {

@@ -13,17 +13,20 @@
 --   total_limit p           the largest size of a total that is admitted
 --   estimate_refusals p e t  the refusals of the call besides those of the plan
 --   estimate_refused p e t   the first number that applies, 0 where an estimate is given
---   estimate_outcome         the cases of the call's answer
+--   value_of                 the cases of what the call gives
+--   estimate_outcome         and of its answer
 --   ExactlyGiven p e t o     a mean or a difference that is given is exactly its quotient
-use Rattle.std.specs.Prelude.{Bool, cond, List, [], ◌∷◌, ℕ, ◌+◌, ◌*◌, ◌-◌, ◌^◌, eqb, ℤ, neg_ℤ, Float}
+use Rattle.std.specs.Prelude.{Result, Bool, cond, List, [], ◌∷◌, ℕ, ◌+◌, ◌*◌, ◌-◌, ◌^◌, eqb, ℤ, neg_ℤ, Float}
 use Rattle.words.specs.Words.{odd_word, beyond}
 use Rattle.plan.specs.declared.types.Plan.{Plan}
 use Rattle.plan.specs.Outcome.{Refusal, refusal, Outcome, given, refused}
+use Rattle.plan.specs.Refusals.{outcome_by}
+use Rattle.plan.specs.declared.refusals.Refusal as refusals
 use Rattle.plan.specs.Plan.{confounded_in}
 use Rattle.plan.specs.Check.{with_plan}
 use Rattle.plan.specs.Limits.{run_limit, is_beyond}
 use Rattle.estimates.specs.declared.types.Estimate.{Estimate}
-use Rattle.estimates.specs.declared.types.Estimate.TheVariants as answer
+use Rattle.estimates.specs.declared.types.Estimate.TheVariants as estimate
 use Rattle.estimates.specs.Quotient.{Exactly, quotient}
 
 -- ---- the values
@@ -92,11 +95,13 @@ estimate_refused p e t = with_plan p (estimate_refusals p e t)
 -- ---- the answer
 
 -- F12
-abbrev pub estimate_outcome : Estimate → Outcome Value
-estimate_outcome (answer.Mean x) = given (mean x)
-estimate_outcome (answer.Difference x) = given (difference x)
-estimate_outcome answer.Lost = given lost
-estimate_outcome (answer.Refused n) = refused n
+abbrev pub value_of : Estimate → Value
+value_of (estimate.Mean x) = mean x
+value_of (estimate.Difference x) = difference x
+value_of estimate.Lost = lost
+
+abbrev pub estimate_outcome : Result Estimate refusals.Refusal → Outcome Value
+estimate_outcome answer = outcome_by value_of answer
 
 -- E5: "The double is exactly that quotient": a mean times 2 to the power k times r is the total, and a difference times 2 to the power k - 1
 -- times r the total as it is printed; there is no number where the effect is lost or the call is refused

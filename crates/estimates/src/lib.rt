@@ -1,7 +1,7 @@
 // Estimates: the mean and the differences of two-level plans, from their totals.
 //
 //   estimate(p, effect, total)   the mean or a difference, as the double that it exactly is, or lost to blocks
-//   Estimate                     its answer
+//   Estimate                     what it answers where nothing is refused
 #![tactic(auto)]
 
 mod effects;

@@ -2,32 +2,22 @@
 // Where the input cannot be read it writes no text. That, and a text that cannot be written, it tells on standard error.
 #![tactic(auto)]
 
-ghost use Rattle.std.specs.Prelude.{◌≡◌, List, ℕ, IfSome, IfErr, OnOk};
+ghost use Rattle.std.specs.Prelude.{◌≡◌, IfSome, IfErr, OnOk};
 ghost use Rattle.std.specs.Io.KnownBytes.{Appends, Keeps};
-ghost use Rattle.printing.specs.Input.{Holds};
 ghost use Rattle.printing.specs.Printed.{text_of};
 
-use input::{Input, read_input};
+use input::{Failure, Printer};
 use printing::{INPUT, TEXT, print_input};
 use std::io::{Read, Write};
 
-// Why there is no text, or not all of it.
-#[derive(Clone, Copy)]
-enum Failure {
-    Read,
-    Write,
-}
+// The text of a sheet that factab prints.
+struct Tables;
 
-// Writes the text of a sheet of which the first `count` bytes of the buffer are as much as there is room for.
-fn print_text<W: Write>(out: &mut W, input: &[u8; INPUT], count: usize) -> Result<(), Failure>
-    ensures text { (sheet : List ℕ) → Holds sheet input.now count → OnOk result (Appends (W.contents out.old) (W.contents out.new) (text_of sheet)) }
-    ensures failure { IfErr result (λ why. why ≡ Failure.Write) }
-{
-    let mut text = [0u8; TEXT];
-    let n = print_input(input, count, &mut text);
-    match out.write_all(&text[..n]) {
-        Ok(()) => Ok(()),
-        Err(_) => Err(Failure::Write),
+impl Printer for Tables {
+    ghost text_of = { text_of };
+
+    fn print(&self, input: &[u8; INPUT], count: usize, text: &mut [u8; TEXT]) -> usize {
+        print_input(input, count, text)
     }
 }
 
@@ -36,22 +26,12 @@ fn print_read<R: Read, W: Write>(reader: &mut R, out: &mut W) -> Result<(), Fail
     ensures text { OnOk result (IfSome (R.remaining reader.old) (λ sheet. Appends (W.contents out.old) (W.contents out.new) (text_of sheet))) }
     ensures unread { IfErr result (λ why. why ≡ Failure.Read → Keeps (W.contents out.old) (W.contents out.new)) }
 {
-    let mut buffer = [0u8; INPUT];
-    match read_input(reader, &mut buffer) {
-        Input::Full(n) => print_text(out, &buffer, n),
-        Input::Ended(n) => print_text(out, &buffer, n),
-        Input::Failed => Err(Failure::Read),
-    }
+    input::print_read(&Tables, reader, out)
 }
 
+// (Each program says its own name.)
 fn main(rt: HostRuntime) {
-    match print_read(&mut rt.stdin(), &mut rt.stdout()) {
-        Ok(()) => {}
-        Err(Failure::Read) => {
-            let _ = rt.eprintln("factab: the input cannot be read");
-        }
-        Err(Failure::Write) => {
-            let _ = rt.eprintln("factab: the text cannot be written");
-        }
+    if let Err(failure) = print_read(&mut rt.stdin(), &mut rt.stdout()) {
+        let _ = eprintln!(rt; "factab: {failure}");
     }
 }

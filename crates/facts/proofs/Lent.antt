@@ -1,49 +1,43 @@
 -- A call on the plan of a head that is lent two places: its number and what it leaves in them, by what the call on the plan answers.
 --
 --   Leaves m a b    the call's number is m, and it leaves a and b in the places: f and g of the plan's values where the number is 0
---   by-head         so where the head is refused, with its number
+--   by_head         so where the head is refused
 --   by_values       where the call on the plan gives values
---   by-refusal      and where it is refused
-use mathlib.Core.Path.{◌≡◌, sym, ap, ◌∙◌}
-use mathlib.Core.List.{List}
-use Prim.Native.Nat.{ℕ}
+--   by_refusal      and where it is refused
+use Rattle.std.specs.Prelude.{◌≡◌, List, ℕ}
+use Rattle.std.proofs.Common.{sym, ap, ◌∙◌}
 use Rattle.plan.specs.declared.types.Plan.{Plan}
+use Rattle.plan.specs.declared.refusals.Refusal as refusals
 use Rattle.plan.specs.Outcome.{given, refused, outcome, written}
-use Rattle.plan.proofs.Laws.Answers.{given_is, refused-is, unwritten, written_new}
-use Rattle.contents.specs.Held.{held}
+use Rattle.plan.specs.Refusals.{number}
+use Rattle.plan.proofs.Laws.Answers.{given_is, refused-is, left_alone, written_new}
 use Rattle.heads.specs.Heads.{head_plan, head_refused, called}
-use Rattle.heads.specs.Laws.Called.{stops, goes, plan-is}
+use Rattle.heads.specs.Laws.Called.{called_off, called_as}
 
-module _ (head : List ℕ) (number : Plan → ℕ) {W A B : Type 0} (values : Plan → W) (f : W → A) (g : W → B) (x : A) (y : B) where
+module _ (head : List ℕ) (call : Plan → ℕ) {W A B : Type 0} (values : Plan → W) (f : W → A) (g : W → B) (x : A) (y : B) where
   abbrev pub Leaves : ℕ → A → B → Type 0
   Leaves m a b =
-      let n = called head number in
+      let n = called head call in
       let v = values (head_plan head) in
       (m ≡ n) × ((a ≡ written n (f v) x) × (b ≡ written n (g v) y))
 
-  -- a number that is not 0 leaves both as they were
-  kept : {m : ℕ} → m ≡ called head number → (m ≡ 0 → ⊥) → Leaves m x y
-  kept d h =
-      let v = values (head_plan head) in
-      let other : called head number ≡ 0 → ⊥ = λ z. h (d ∙ z) in
-      (d, (unwritten (called head number) (f v) x other, unwritten (called head number) (g v) y other))
+  -- a refusal leaves both as they were
+  kept : (r : refusals.Refusal) → number r ≡ called head call → Leaves (number r) x y
+  kept r d = let v = values (head_plan head) in (d, (left_alone r (f v) x d, left_alone r (g v) y d))
 
-  module _ {n : ℕ} (e : n ≡ head_refused head) where
-    pub by-head : (n ≡ 0 → ⊥) → Leaves n x y
-    by-head h = kept (stops head e h number) h
+  pub by_head : (r : refusals.Refusal) → number r ≡ head_refused head → Leaves (number r) x y
+  by_head r e = kept r (called_off head r e call)
 
-    module _ (z : n ≡ 0) {p : Plan} (is : p ≡ held (head_plan head)) where
-      pub by_values : {v : W} → given v ≡ outcome (number p) (values p) → Leaves 0 (f v) (g v)
-      by_values answer =
-          let own = given_is (number p) (values p) answer in
-          let d = goes head e z is number (sym own.0) in
-          let new = own.1 ∙ ap values (plan-is head e z is) in
-          let v = values (head_plan head) in (
-            d,
-            (ap f new ∙ written_new (called head number) (f v) x (sym d), ap g new ∙ written_new (called head number) (g v) y (sym d)),
-          )
+  module _ (z : head_refused head ≡ 0) {p : Plan} (is : p ≡ head_plan head) where
+    pub by_values : {v : W} → given v ≡ outcome (call p) (values p) → Leaves 0 (f v) (g v)
+    by_values answer =
+        let own = given_is (call p) (values p) answer in
+        let d : 0 ≡ called head call = called_as head z is call (sym own.0) in
+        let new = own.1 ∙ ap values is in
+        let v = values (head_plan head) in (
+          d,
+          (ap f new ∙ written_new (called head call) (f v) x (sym d), ap g new ∙ written_new (called head call) (g v) y (sym d)),
+        )
 
-      pub by-refusal : {m : ℕ} → refused m ≡ outcome (number p) (values p) → Leaves m x y
-      by-refusal answer =
-          let own = refused-is (number p) (values p) answer in
-          kept (goes head e z is number own.0) (λ d. own.1 (sym own.0 ∙ d))
+    pub by_refusal : (r : refusals.Refusal) → refused (number r) ≡ outcome (call p) (values p) → Leaves (number r) x y
+    by_refusal r answer = kept r (called_as head z is call (refused-is (call p) (values p) answer).0)

@@ -7,7 +7,7 @@
 //   estimate(head, effect, total, kind, value)   the mean or a difference as a double, or that the effect is lost to blocks: 0, 1 or 2 in `kind`
 //   blockings(k, words, column, lists)           every list of block words, and how many there are
 //
-// Each gives 0 where it is done and the number of the refusal where it is not, and then no place that it was lent has changed.
+// Each answers the refusal where it is not done, and then no place that it was lent has changed.
 #![tactic(auto)]
 
 mod blocks;

@@ -1,84 +1,61 @@
--- Refusal 1 as the code judges it.
+-- Refusal 1 as the code judges it, field by field: b says whether the sheet is bad, as what is left of it says.
 --
---   itself                        a test of a test
---   Passed s at last              the fields before the place `at` are not bad, and the tag of the last has the place `last` in the order of tags
---   passed_none, passed-cut, passed-falling, passed-unknown, passed-one, passed-all
---                                 the loop that judges field by field
---   not-one, two-sixes, not-four, by-five
---                                 how many fields of each tag there are
+--   unknown, unfit             a field whose tag is unknown, or that has another length
+--   falling, onward            one whose tag comes before that of the one before it, and one that is not bad
+--   at_end                     after the last whole field the sheet is bad where bytes are left
 use mathlib.Core.Path.{◌≡◌, refl, sym, ap, ◌∙◌}
-use mathlib.Core.Bool.{Bool, true, false, not, cond, or-false}
-use mathlib.Core.List.{List}
-use Prim.Native.Nat.{ℕ, ◌+◌, ◌-◌, ◌≤◌, ◌<◌}
+use mathlib.Core.Bool.{Bool, true, false, not, cond, ◌||◌}
+use mathlib.Core.List.{List, [], ◌∷◌, cons≢nil}
+use Prim.Native.Nat.{ℕ, suc, ◌≤◌, ◌<◌}
 use native.Mathlib.Omega.{arith}
-use borrow.Author.Tests.{lt-ltb, le-ltb, le-leb, lt-leb, eq-eqb, ne_eqb}
-use lib.Dec.{eqb}
-use lib.ListN.{length, get_or}
-use Rattle.fields.specs.Fields.{Fields, fields_of, bodies}
-use Rattle.fields.specs.Inner.Places.{end_at}
-use Rattle.fields.specs.Tags.{tag_rules, admits, place_of, bad_from, bad_fields}
-use Rattle.fields.proofs.Walking.{Rest, begin, ended, cut-here, Next}
+use borrow.Author.Tests.{lt-ltb, le-ltb, ne_eqb}
+use lib.Dec.{eqb, ltb}
+use lib.ListN.{length}
+use Rattle.fields.specs.Fields.{Fields, cut, field, first, fields_of}
+use Rattle.fields.specs.Tags.{tag_rules, admits, place_of, bad_from}
+use Rattle.fields.specs.Laws.Enough.{field-first}
+use Rattle.fields.specs.Inner.Walk.{whole}
 
-pub itself : (b : Bool) → not b ≡ not (cond b true false)
-itself true = refl
-itself false = refl
-
-pub record Passed (s : List ℕ) (at last : ℕ) : Type 0 where
-  pub fs : Fields
-  pub rest : Rest s at fs
-  pub so : bad_from 0 (fields_of s) ≡ bad_from last fs
-
-pub passed_none : (s : List ℕ) → Passed s 0 0
-passed_none s = record { fs = fields_of s; rest = begin s; so = refl }
-
-module _ {s : List ℕ} {at last : ℕ} (w : Passed s at last) where
-  pub passed-all : length s ≤ at → false ≡ bad_from 0 (fields_of s)
+module _ (last : ℕ) {b : Bool} {fs : Fields} (so : b ≡ bad_from last fs) {t : ℕ} {body : List ℕ} {rest : Fields} (is : fs ≡ field t body rest) where
+  opened : b ≡ (ltb (place_of tag_rules t) last || (not (admits tag_rules t (length body)) || bad_from (place_of tag_rules t) rest))
   unfolding bad_from
-  passed-all h = sym (w.so ∙ rw (ended w.rest h) refl)
+  opened = so ∙ ap (bad_from last) is
 
-  pub passed-cut : at < length s → {r : ℕ} → r ≡ end_at s at → r ≡ 0 → true ≡ bad_from 0 (fields_of s)
-  unfolding bad_from
-  passed-cut inside e z = sym (w.so ∙ rw (cut-here w.rest inside e z) refl)
+  pub unknown : ((n : ℕ) → admits tag_rules t n ≡ false) → true ≡ b
+  unknown h = sym (opened ∙ rw (h (length body)) (by (ltb (place_of tag_rules t) last)))
+    where
+      by : (c : Bool) → (c || true) ≡ true
+      by true = refl
+      by false = refl
 
-  module _ {r : ℕ} (on : Next s at r w.fs) {here : ℕ} (place : here ≡ place_of tag_rules (get_or s at 0)) where
-    pub passed-falling : here < last → true ≡ bad_from 0 (fields_of s)
-    unfolding bad_from
-    passed-falling h = sym (w.so ∙ rw (on.so, ← place, lt-ltb here last h) refl)
+  module _ {u : ℕ} (same : u ≡ t) where
+    pub unfit : {d : Bool} → d ≡ admits tag_rules u (length body) → d ≡ false → true ≡ b
+    unfit e f = sym (opened ∙ rw (← same, ← e, f) (by (ltb (place_of tag_rules u) last)))
+      where
+        by : (c : Bool) → (c || true) ≡ true
+        by true = refl
+        by false = refl
 
-    module _ (h : last ≤ here) {n : ℕ} (q : n ≡ r - at - 3) where
-      size : n ≡ r - (at + 3)
-      size = omega (arith, q, on.past)
+    module _ {here : ℕ} (place : here ≡ place_of tag_rules u) where
+      pub falling : here < last → true ≡ b
+      falling h = sym (opened ∙ rw (← same, ← place, lt-ltb here last h) refl)
 
-      pub passed-unknown : not (admits tag_rules (get_or s at 0) n) ≡ true → true ≡ bad_from 0 (fields_of s)
-      unfolding bad_from
-      passed-unknown d = sym (w.so ∙ rw (on.so, ← place, le-ltb here last h, on.long, ← size, d) refl)
+      pub onward : last ≤ here → {d : Bool} → d ≡ admits tag_rules u (length body) → d ≡ true → b ≡ bad_from here rest
+      onward h e f = opened ∙ rw (← same, ← place, le-ltb here last h, ← e, f) refl
 
-      pub passed-one : not (admits tag_rules (get_or s at 0) n) ≡ false → Passed s r here
-      unfolding bad_from
-      passed-one d = record {
-        fs = on.more;
-        rest = on.rest;
-        so = w.so ∙ ap (bad_from last) on.so ∙ rw (← place, le-ltb here last h, on.long, ← size, d) refl;
-      }
+-- bytes that hold no whole field are bad, and no bytes are not
+pub at_end : (last : ℕ) {b : Bool} {fs : Fields} → b ≡ bad_from last fs → whole fs ≡ [] → (s : List ℕ) → fields_of s ≡ fs → not (eqb (length s) 0) ≡ b
+unfolding bad_from whole
+at_end last so none [] is = sym (so ∙ ap (bad_from last) (sym is ∙ field-first []))
+at_end last so none (a ∷ s) is =
+    let first-is = sym is ∙ field-first (a ∷ s) in
+    rw (ne_eqb (suc (length s)) 0 (λ d. omega (arith, d))) (sym (so ∙ ap (bad_from last) first-is ∙ by s (ap whole (sym first-is) ∙ none)))
+  where
+    cut-only : (c : Bool) (t : ℕ) (body : List ℕ) (rest : Fields) → whole (cond c (field t body rest) cut) ≡ [] → bad_from last (cond c (field t body rest) cut) ≡ true
+    cut-only true t body rest d = absurd (cons≢nil d)
+    cut-only false t body rest d = refl
 
--- ---- how many fields of each tag there are, one tag after the other
-
-module _ (fs : Fields) (fine : bad_from 0 fs ≡ false) {i : ℕ} (ones : i ≡ length (bodies 1 fs)) where
-  pub not-one : (i ≡ 1 → ⊥) → true ≡ bad_fields fs
-  unfolding bad_fields
-  not-one h = rw (fine, ← ones, ne_eqb i 1 h) refl
-
-  module _ (one : i ≡ 1) {l : ℕ} (sixes : l ≡ length (bodies 6 fs)) where
-    pub two-sixes : 1 < l → true ≡ bad_fields fs
-    unfolding bad_fields
-    two-sixes h = rw (fine, ← ones, eq-eqb i 1 one, ← sixes, lt-leb l 1 h) refl
-
-    module _ (few : l ≤ 1) {j : ℕ} (fours : j ≡ length (bodies 4 fs)) where
-      pub not-four : (j ≡ 1 → ⊥) → true ≡ bad_fields fs
-      unfolding bad_fields
-      not-four h = rw (fine, ← ones, eq-eqb i 1 one, ← sixes, le-leb l 1 few, ← fours, ne_eqb j 1 h) refl
-
-      pub by-five : j ≡ 1 → {m : ℕ} → m ≡ length (bodies 5 fs) → not (eqb m 1) ≡ bad_fields fs
-      unfolding bad_fields
-      by-five four {m} fives =
-          rw (fine, ← ones, eq-eqb i 1 one, ← sixes, le-leb l 1 few, ← fours, eq-eqb j 1 four, ← fives) (sym (or-false (not (eqb m 1))))
+    by : (s : List ℕ) → whole (first fields_of (a ∷ s)) ≡ [] → bad_from last (first fields_of (a ∷ s)) ≡ true
+    by [] d = refl
+    by (b ∷ []) d = refl
+    by (b ∷ c ∷ s) d = cut-only _ _ _ _ d

@@ -1,8 +1,8 @@
 -- Laws that the proofs cite.
 --
---   Walking    a walk from field to field
---   Searching  the walks that count and look for fields
+--   Walking    the walk from field to field
+--   Places     the same from place to place
 --   Judging    refusal 1 as the code judges it
 pub mod Walking
-pub mod Searching
+pub mod Places
 pub mod Judging

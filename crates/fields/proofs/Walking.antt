@@ -1,143 +1,119 @@
--- A walk over a sheet, from field to field.
+-- The walk over a sheet, from field to field.
 --
---   end_short, end-cut, end_whole    where a field ends, as the code finds it
---   Rest s at fs                     fs are the fields of the sheet s from the place `at` on
---   begin, ended                     at the start of the walk, and at the end of the sheet
---   cut-here                         a field that has no end is cut short
---   Next s at r fs, next             a field that ends at r, and the fields from there on
-use mathlib.Core.Path.{◌≡◌, refl, sym, ap, ◌∙◌}
-use mathlib.Core.Bool.{cond}
+--   short, cut_short, whole_first    what the bytes begin with: no field, where they are too few, or one
+--   walk                             the walk gives the fields that are whole
+--   tagged t xs                      those of tag t
+--   counted, sought                  how many there are of a tag, and one of them
+use mathlib.Core.Path.{◌≡◌, refl, sym, ap, subst, ◌∙◌}
+use mathlib.Core.Bool.{Bool, true, false, cond}
 use mathlib.Core.List.{List, [], ◌∷◌}
-use Prim.Native.Nat.{ℕ, zero, suc, ◌+◌, ◌-◌, ◌≤◌, ◌<◌}
-use native.Mathlib.Decide.{dec_le}
+use Prim.Native.Nat.{ℕ, zero, suc, ◌-◌, ◌≤◌, ◌<◌}
 use native.Mathlib.Omega.{arith}
 use borrow.Author.Tests.{le-leb, lt-leb}
-use lib.Dec.{leb}
+use lib.Dec.{eqb}
 use lib.ListN.{length, take, drop, get_or, length-drop}
-use lib.Seq.{drop-cons, drop-drop, drop-length, length-take-le}
-use Rattle.fields.specs.Fields.{Fields, end, cut, field, first, parse, fields_of}
-use Rattle.fields.specs.Inner.Places.{length_at, end_at}
+use lib.Seq.{take_all}
+use Rattle.std.specs.Prelude.{Option, None, Some, MatchOption}
+use Rattle.std.specs.Option.{option_map}
+use Rattle.std.specs.List.{filter, IsSplitAt, slice_get}
+use Rattle.std.proofs.lemmas.Iterator.{YieldsList}
+use Rattle.std.proofs.lemmas.Iterator.Consumers.{YieldsList-from_shown}
+use Rattle.numerals.specs.Numbers.{big}
+use Rattle.fields.specs.Fields.{Fields, end, cut, field, fields_of, bodies, body_at}
+use Rattle.fields.specs.Laws.Enough.{field-first}
+use Rattle.fields.specs.Inner.Walk.{whole, Gives}
+use Rattle.fields.specs.declared.walks.Field.{Field}
+use Rattle.fields.specs.declared.walks.Fields.{Fields as Walk}
 
--- ---- where a field ends
+-- ---- what the bytes begin with
 
-module _ (s : List ℕ) (at : ℕ) where
-  pub end_short : length s < at + 3 → 0 ≡ end_at s at
-  unfolding end_at
-  end_short h = rw (lt-leb (at + 3) (length s) h) refl
-
-  module _ (whole : at + 3 ≤ length s) {n : ℕ} (is : n ≡ length_at s at) where
-    pub end-cut : length s < at + 3 + n → 0 ≡ end_at s at
-    unfolding end_at
-    end-cut h = rw (← is, le-leb (at + 3) (length s) whole, lt-leb (at + 3 + n) (length s) h) refl
-
-    pub end_whole : at + 3 + n ≤ length s → at + 3 + n ≡ end_at s at
-    unfolding end_at
-    end_whole h = rw (← is, le-leb (at + 3) (length s) whole, le-leb (at + 3 + n) (length s) h) refl
-
--- ---- what the definition finds at a place
-
--- the three bytes of a tag and a length, and what follows
-three : (s : List ℕ) (at : ℕ) → at + 3 ≤ length s → drop at s ≡ get_or s at 0 ∷ get_or s (at + 1) 0 ∷ get_or s (at + 2) 0 ∷ drop (at + 3) s
-three s at h = from at (at + 1) (at + 2) (at + 3) (omega arith) (omega arith) (omega arith) h
-  where
-    from : (a b c d : ℕ) → suc a ≡ b → suc b ≡ c → suc c ≡ d → d ≤ length s → drop a s ≡ get_or s a 0 ∷ get_or s b 0 ∷ get_or s c 0 ∷ drop d s
-    from a b c d p q r l =
-        drop-cons s a 0 (omega arith)
-        ∙ rw (p, drop-cons s b 0 (omega arith), q, drop-cons s c 0 (omega arith), r) refl
-
-at_field : (f : ℕ) (s : List ℕ) (at : ℕ) → at + 3 ≤ length s
-    → parse (suc f) (drop at s)
-    ≡ cond
-    (leb (length_at s at) (length (drop (at + 3) s)))
-    (field (get_or s at 0) (take (length_at s at) (drop (at + 3) s)) (parse f (drop (length_at s at) (drop (at + 3) s))))
-    cut
-unfolding parse
-at_field f s at h = ap (first (parse f)) (three s at h)
-
-few : (f : ℕ) (bytes : List ℕ) → 0 < length bytes → length bytes < 3 → parse (suc f) bytes ≡ cut
-unfolding parse
-few f [] h k = absurd (omega (arith, h))
-few f (a ∷ []) h k = refl
-few f (a ∷ b ∷ []) h k = refl
-few f (a ∷ b ∷ c ∷ bytes) h k = absurd (no (length bytes) k)
+pub short : (s : List ℕ) → length s < 3 → whole (fields_of s) ≡ []
+unfolding whole
+short [] h = ap whole (field-first [])
+short (a ∷ []) h = ap whole (field-first (a ∷ []))
+short (a ∷ b ∷ []) h = ap whole (field-first (a ∷ b ∷ []))
+short (a ∷ b ∷ c ∷ s) h = absurd (no (length s) h)
   where
     no : (n : ℕ) → suc (suc (suc n)) < 3 → ⊥
     no n h = omega arith
 
-at-end : (f : ℕ) → parse f [] ≡ end
-unfolding parse
-at-end zero = refl
-at-end (suc f) = refl
+-- what follows a tag and a length
+others : (s : List ℕ) → take (length s - 3) (drop 3 s) ≡ drop 3 s
+others s = take_all (length s - 3) (drop 3 s) (rw length-drop (omega arith))
+
+module _ {n : ℕ} where
+  cut-three : (s : List ℕ) → 3 ≤ length s → n ≡ big (get_or s 1 0 ∷ get_or s 2 0 ∷ []) → length (drop 3 s) < n → whole (fields_of s) ≡ []
+  unfolding whole
+  cut-three [] h e k = absurd (omega (arith, h))
+  cut-three (a ∷ []) h e k = absurd (omega (arith, h))
+  cut-three (a ∷ b ∷ []) h e k = absurd (omega (arith, h))
+  cut-three (t ∷ a ∷ b ∷ s) h e k = ap whole (field-first (t ∷ a ∷ b ∷ s)) ∙ rw (← e, lt-leb n (length s) k) refl
+
+  first-three : (s : List ℕ) → 3 ≤ length s → n ≡ big (get_or s 1 0 ∷ get_or s 2 0 ∷ []) → n ≤ length (drop 3 s)
+      → fields_of s ≡ field (get_or s 0 0) (take n (drop 3 s)) (fields_of (drop n (drop 3 s)))
+  first-three [] h e k = absurd (omega (arith, h))
+  first-three (a ∷ []) h e k = absurd (omega (arith, h))
+  first-three (a ∷ b ∷ []) h e k = absurd (omega (arith, h))
+  first-three (t ∷ a ∷ b ∷ s) h e k = field-first (t ∷ a ∷ b ∷ s) ∙ rw (← e, le-leb n (length s) k) refl
+
+  module _ (s : List ℕ) (h : 3 ≤ length s) (e : n ≡ big (get_or s 1 0 ∷ get_or s 2 0 ∷ [])) where
+    pub cut_short : length (take (length s - 3) (drop 3 s)) < n → whole (fields_of s) ≡ []
+    cut_short k = cut-three s h e (rw (← others s) k)
+
+    pub whole_first : {body rest : List ℕ} → IsSplitAt (take (length s - 3) (drop 3 s)) n body rest → fields_of s ≡ field (get_or s 0 0) body (fields_of rest)
+    whole_first k =
+        let i : n ≤ length (drop 3 s) = rw (← others s) k.0 in
+        first-three s h e i ∙ rw (k.1, k.2, others s) refl
 
 -- ---- the walk
 
-pub record Rest (s : List ℕ) (at : ℕ) (fs : Fields) : Type 0 where
-  pub fuel : ℕ
-  pub reach : length s ≤ at + fuel
-  pub inside : at ≤ length s
-  pub so : fs ≡ parse fuel (drop at s)
+abbrev pub gives : Walk → Option Field → Walk → Type 0
+gives s r t = Gives (fields_of s.rest.now) r (fields_of t.rest.now)
 
-pub begin : (s : List ℕ) → Rest s 0 (fields_of s)
-unfolding fields_of
-begin s = record { fuel = length s; reach = omega arith; inside = omega arith; so = refl }
+abbrev pub view : Field → ℕ × List ℕ
+view f = (f.tag, f.body.now)
 
-pub record Next (s : List ℕ) (at r : ℕ) (fs : Fields) : Type 0 where
-  pub more : Fields
-  pub so : fs ≡ field (get_or s at 0) (take (r - (at + 3)) (drop (at + 3) s)) more
-  pub rest : Rest s r more
-  pub past : at + 3 ≤ r
-  pub long : length (take (r - (at + 3)) (drop (at + 3) s)) ≡ r - (at + 3)
+pub walk : (s : Walk) → YieldsList gives view s (whole (fields_of s.rest.now))
+unfolding whole
+walk = YieldsList-from_shown gives view (λ s. whole (fields_of s.rest.now)) (λ s t h. ap length h.0) (λ s x t h. ap whole h)
 
--- the fuel is not used up before the end
-left : (n at f : ℕ) → n ≤ at + f → at < n → (g : ℕ) × (f ≡ suc g)
-left n at zero h k = absurd (omega (arith, h, k))
-left n at (suc g) h k = (g, refl)
+-- ---- the fields of a tag
 
-module _ {s : List ℕ} {at : ℕ} {fs : Fields} (w : Rest s at fs) where
-  pub ended : length s ≤ at → fs ≡ end
-  ended h =
-      let e : at ≡ length s = omega (arith, w.inside) in
-      w.so ∙ rw (e, drop-length s) (at-end w.fuel)
+abbrev pub tagged : ℕ → List (ℕ × List ℕ) → List (ℕ × List ℕ)
+tagged t xs = filter (λ f. eqb f.0 t) xs
 
-  module _ (inside : at < length s) where
-    one_less : (g : ℕ) × (w.fuel ≡ suc g)
-    one_less = left (length s) at w.fuel w.reach inside
+pub counted : (t : ℕ) (fs : Fields) → length (tagged t (whole fs)) ≡ length (bodies t fs)
+unfolding whole bodies
+counted t end = refl
+counted t cut = refl
+counted t (field u body rest) = by (eqb u t) (counted t rest)
+  where
+    by : (b : Bool) → length (tagged t (whole rest)) ≡ length (bodies t rest)
+        → length (cond b ((u, body) ∷ tagged t (whole rest)) (tagged t (whole rest))) ≡ length (cond b (body ∷ bodies t rest) (bodies t rest))
+    by true e = ap suc e
+    by false e = e
 
-    opened : fs ≡ parse (suc one_less.0) (drop at s)
-    opened = w.so ∙ ap (λ f. parse f (drop at s)) one_less.1
+pub sought : (t i : ℕ) (fs : Fields) → MatchOption (slice_get (tagged t (whole fs)) i) (body_at t i fs ≡ []) (λ f. body_at t i fs ≡ f.1)
+unfolding whole bodies body_at
+sought t i end = refl
+sought t i cut = refl
+sought t i (field u body rest) = by (eqb u t) i (λ j. sought t j rest)
+  where
+    by : (b : Bool) (i : ℕ) → ((j : ℕ) → MatchOption (slice_get (tagged t (whole rest)) j) (body_at t j rest ≡ []) (λ f. body_at t j rest ≡ f.1))
+        → MatchOption
+        (slice_get (cond b ((u, body) ∷ tagged t (whole rest)) (tagged t (whole rest))) i)
+        (get_or (cond b (body ∷ bodies t rest) (bodies t rest)) i [] ≡ [])
+        (λ f. get_or (cond b (body ∷ bodies t rest) (bodies t rest)) i [] ≡ f.1)
+    by true zero h = refl
+    by true (suc i) h = h i
+    by false i h = h i
 
-    pub cut-here : {r : ℕ} → r ≡ end_at s at → r ≡ 0 → fs ≡ cut
-    unfolding end_at
-    cut-here e z = opened ∙ by (dec_le (at + 3) (length s)) (dec_le (at + 3 + length_at s at) (length s)) (sym e ∙ z)
-      where
-        by : Dec (at + 3 ≤ length s) → Dec (at + 3 + length_at s at ≤ length s)
-            → cond (leb (at + 3) (length s)) (cond (leb (at + 3 + length_at s at) (length s)) (at + 3 + length_at s at) 0) 0 ≡ 0
-            → parse (suc one_less.0) (drop at s) ≡ cut
-        by (no a) b d = few one_less.0 (drop at s) (rw (length-drop) (omega arith)) (rw (length-drop) (omega arith))
-        by (yes a) (no b) d = at_field one_less.0 s at a ∙ rw (length-drop, lt-leb (length_at s at) (length s - (at + 3)) (omega arith)) refl
-        by (yes a) (yes b) d = absurd (omega (arith, rw (le-leb (at + 3) (length s) a, le-leb (at + 3 + length_at s at) (length s) b) at d))
-
-    pub next : {r : ℕ} → r ≡ end_at s at → (r ≡ 0 → ⊥) → Next s at r fs
-    unfolding end_at
-    next {r} e z = by (dec_le (at + 3) (length s)) (dec_le (at + 3 + length_at s at) (length s)) e
-      where
-        by : Dec (at + 3 ≤ length s) → Dec (at + 3 + length_at s at ≤ length s)
-            → r ≡ cond (leb (at + 3) (length s)) (cond (leb (at + 3 + length_at s at) (length s)) (at + 3 + length_at s at) 0) 0
-            → Next s at r fs
-        by (no a) b d = absurd (z (d ∙ rw (lt-leb (at + 3) (length s) (omega arith)) refl))
-        by (yes a) (no b) d = absurd (z (d ∙ rw (le-leb (at + 3) (length s) a, lt-leb (at + 3 + length_at s at) (length s) (omega arith)) refl))
-        by (yes a) (yes b) d = there (d ∙ rw (le-leb (at + 3) (length s) a, le-leb (at + 3 + length_at s at) (length s) b) refl)
-          where
-            there : r ≡ at + 3 + length_at s at → Next s at r fs
-            there q =
-                let n : length_at s at ≡ r - (at + 3) = omega arith in
-                let m : at + 3 + (r - (at + 3)) ≡ r = omega arith in
-                record {
-                  more = parse one_less.0 (drop r s);
-                  so = opened
-                      ∙ at_field one_less.0 s at a
-                      ∙ rw (length-drop, le-leb (length_at s at) (length s - (at + 3)) (omega arith), drop-drop, n, m) refl;
-                  rest = record { fuel = one_less.0; reach = omega (arith, one_less.1, w.reach); inside = omega arith; so = refl };
-                  past = omega arith;
-                  long = length-take-le (r - (at + 3)) (drop (at + 3) s) (rw (length-drop) (omega arith));
-                }
+-- the field that the walk found, if there is one
+pub at-place : (t i : ℕ) (fs : Fields) (r : Option Field) {bytes : List ℕ} → option_map view r ≡ slice_get (tagged t (whole fs)) i
+    → MatchOption r (bytes ≡ []) (λ f. bytes ≡ f.body.now) → bytes ≡ body_at t i fs
+at-place t i fs r {bytes} e h = by r h (subst (λ o. MatchOption o (body_at t i fs ≡ []) (λ f. body_at t i fs ≡ f.1)) (sym e) (sought t i fs))
+  where
+    by : (r : Option Field) → MatchOption r (bytes ≡ []) (λ f. bytes ≡ f.body.now)
+        → MatchOption (option_map view r) (body_at t i fs ≡ []) (λ f. body_at t i fs ≡ f.1) → bytes ≡ body_at t i fs
+    by None h k = h ∙ sym k
+    by (Some f) h k = h ∙ sym k

@@ -1,4 +1,6 @@
 -- What the inner functions ask of what they are handed, and what they leave; no promise of a call.
 --
---   Places   where a field ends
+--   Walk     the walk over a sheet, from field to field
+--   Places   where fields end, by their places
+pub mod Walk
 pub mod Places

@@ -7,8 +7,12 @@
 --   bad_from last fs               a field is cut short or not admitted, or its tag comes before that of the field before it
 --   any_wrong_count                there are too few fields of a tag, or too many
 --   bad_fields                     refusal 1
+--   bad_with n fs                  the same of fields of which n hold readings, and as many hold marks
+--   tag_number                     the number of a tag by name
 use Rattle.std.specs.Prelude.{Bool, true, false, not, cond, ◌||◌, List, [], ◌∷◌, ℕ, suc, ◌%◌, eqb, leb, ltb, length}
 use Rattle.fields.specs.Fields.{Fields, end, cut, field, bodies}
+use Rattle.fields.specs.declared.tags.Tag.{Tag}
+use Rattle.fields.specs.declared.tags.Tag.TheVariants as tag
 
 -- S4, S7, S8: "once"
 abbrev pub once : ℕ → Bool
@@ -66,3 +70,20 @@ any_wrong_count (rule t counts lengths ∷ rs) fs = not (counts (length (bodies 
 -- N1
 unfoldable pub bad_fields : Fields → Bool
 bad_fields fs = bad_from 0 fs || any_wrong_count tag_rules fs
+
+-- ---- for the code
+
+-- refusal 1 of fields of which n hold readings, and as many hold marks: of a sheet one, of its head none
+unfoldable pub bad_with : ℕ → Fields → Bool
+bad_with n fs =
+    bad_from 0 fs
+    || (not (once (length (bodies 1 fs)))
+    || (not (at_most_once (length (bodies 6 fs))) || (not (eqb (length (bodies 4 fs)) n) || not (eqb (length (bodies 5 fs)) n))))
+
+abbrev pub tag_number : Tag → ℕ
+tag_number tag.Factors = 1
+tag_number tag.Added = 2
+tag_number tag.Block = 3
+tag_number tag.Readings = 4
+tag_number tag.Marks = 5
+tag_number tag.Repeats = 6

@@ -1,96 +1,107 @@
-// Refusal 1 of the table of refusals, judged over the whole sheet.
-ghost use Rattle.std.specs.Prelude.{not, ◌≡◌};
+// The tags of a sheet's fields, and refusal 1 of the table of refusals, judged over the whole sheet.
+ghost use Rattle.std.specs.Prelude.{◌≡◌, ℕ, false, MatchOption};
 ghost use Rattle.fields.specs.Fields.{fields_of};
-ghost use Rattle.fields.specs.Tags.{tag_rules, admits, place_of, bad_from, bad_fields};
+ghost use Rattle.fields.specs.Tags.{tag_number, tag_rules, admits, place_of, bad_from, bad_with, bad_fields};
 
-use super::walks::{count, field_end};
+use super::walks::{Fields, count};
 
-// Whether the tag is unknown, or its fields have another length.
-fn is_bad(tag: u8, length: usize) -> bool
-    ensures { result ≡ not (admits tag_rules tag length) }
-{
-    if tag == 1 {
-        return length != 2;
-    }
-    if tag == 2 {
-        return length != 3;
-    }
-    if tag == 3 {
-        return length != 2;
-    }
-    if tag == 6 {
-        return length != 1;
-    }
-    if tag == 4 {
-        return length % 4 != 0;
-    }
-    tag != 5
+// What a field holds, by its tag.
+#[derive(Clone, Copy)]
+pub enum Tag {
+    // Levels, and how many base factors.
+    Factors = 1,
+    // The word and the sign of an added factor.
+    Added = 2,
+    // A block word.
+    Block = 3,
+    Readings = 4,
+    Marks = 5,
+    // How often each run is made.
+    Repeats = 6,
 }
 
-// The place of a tag in the order in which the tags of a sheet stand.
-fn place(tag: u8) -> u8
-    ensures { result ≡ place_of tag_rules tag }
-{
-    if tag == 1 {
-        return 1;
+impl Tag {
+    // The tag that a byte is, if it is one.
+    fn of(byte: u8) -> Option<Tag>
+        ensures { MatchOption result ((n : ℕ) → admits tag_rules byte n ≡ false) (λ tag. tag_number tag ≡ byte) }
+    {
+        match byte {
+            1 => Some(Tag::Factors),
+            2 => Some(Tag::Added),
+            3 => Some(Tag::Block),
+            4 => Some(Tag::Readings),
+            5 => Some(Tag::Marks),
+            6 => Some(Tag::Repeats),
+            _ => None,
+        }
     }
-    if tag == 2 {
-        return 2;
+
+    // Its place in the order in which the tags of a sheet stand.
+    fn place(self) -> u8
+        ensures { result ≡ place_of tag_rules (tag_number self) }
+    {
+        match self {
+            Tag::Factors => 1,
+            Tag::Added => 2,
+            Tag::Block => 3,
+            Tag::Repeats => 4,
+            Tag::Readings => 5,
+            Tag::Marks => 6,
+        }
     }
-    if tag == 3 {
-        return 3;
+
+    // Whether its fields have this length.
+    fn admits(self, length: usize) -> bool
+        ensures { result ≡ admits tag_rules (tag_number self) length }
+    {
+        match self {
+            Tag::Factors | Tag::Block => length == 2,
+            Tag::Added => length == 3,
+            Tag::Repeats => length == 1,
+            Tag::Readings => length % 4 == 0,
+            Tag::Marks => true,
+        }
     }
-    if tag == 6 {
-        return 4;
-    }
-    if tag == 4 {
-        return 5;
-    }
-    if tag == 5 {
-        return 6;
-    }
-    7
 }
 
 // Whether a field is cut short, has a tag that comes before the one before it, an unknown tag or a wrong length.
+// (A `for` would take the walk, whose rest is asked for after the loop.)
 pub fn any_bad_field(sheet: &[u8]) -> bool
     ensures { result ≡ bad_from 0 (fields_of sheet.now) }
 {
     let mut last = 0;
-    let mut at = 0;
-    while at < sheet.len() {
-        let end = field_end(sheet, at);
-        if end == 0 {
+    let mut fields = Fields { rest: sheet };
+    while let Some(field) = fields.next() {
+        let Some(tag) = Tag::of(field.tag) else {
             return true;
-        }
-        let tag = sheet[at];
-        let here = place(tag);
+        };
+        let here = tag.place();
         if here < last {
             return true;
         }
-        if is_bad(tag, end - at - 3) {
+        if !tag.admits(field.body.len()) {
             return true;
         }
         last = here;
-        at = end;
     }
-    false
+    !fields.rest.is_empty()
 }
 
+// Refusal 1 of bytes that have so many fields of readings, and as many of marks: a sheet has one, and its head none.
+#[tactic(auto, unfolding(crate::specs::Tags::bad_with))]
+pub fn bad_fields_with(sheet: &[u8], columns: usize) -> bool
+    ensures { result ≡ bad_with columns (fields_of sheet.now) }
+{
+    any_bad_field(sheet)
+        || count(sheet, Tag::Factors as u8) != 1
+        || count(sheet, Tag::Repeats as u8) > 1
+        || count(sheet, Tag::Readings as u8) != columns
+        || count(sheet, Tag::Marks as u8) != columns
+}
+
+#[tactic(auto, unfolding(crate::specs::Tags::bad_with, crate::specs::Tags::bad_fields))]
 pub fn bad_fields(sheet: &[u8]) -> bool
     ensures { result ≡ bad_fields (fields_of sheet.now) }
 {
-    if any_bad_field(sheet) {
-        return true;
-    }
-    if count(sheet, 1) != 1 {
-        return true;
-    }
-    if count(sheet, 6) > 1 {
-        return true;
-    }
-    if count(sheet, 4) != 1 {
-        return true;
-    }
-    count(sheet, 5) != 1
+    bad_fields_with(sheet, 1)
 }

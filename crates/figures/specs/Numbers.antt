@@ -1,13 +1,15 @@
 -- The table as numbers in slices that a program in C lends.
 --
 --   figure_numbers, check_numbers   the figures as 11 numbers, and the checks as 2, in the order of the slices
+--   left_by answer g old             what an answer's figures are as numbers by g, or what was there before
 --   wrong_room m n                  the slices for figures and checks are not 11 and 2 long
 --   room_refused p                  the number of a call that has no such room
 --   call_refused                    the first number that applies to a table call with such slices, 0 where the table is made
 --   TableLeft m p .. n ts rs fs cs   a call whose number is m answers the number n and leaves these slices: the table of the plan p where m is 0
-use Rattle.std.specs.Prelude.{◌≡◌, Bool, true, not, cond, ◌||◌, List, [], ◌∷◌, ℕ, eqb, ℤ, length}
+use Rattle.std.specs.Prelude.{Result, Ok, Err, ◌≡◌, Bool, true, not, cond, ◌||◌, List, [], ◌∷◌, ℕ, eqb, ℤ, length}
 use Rattle.contrasts.specs.Columns.{totals_of}
 use Rattle.plan.specs.declared.types.Plan.{Plan}
+use Rattle.plan.specs.declared.refusals.Refusal as refusals
 use Rattle.plan.specs.Check.{with_plan}
 use Rattle.plan.specs.Outcome.{refusal, written}
 use Rattle.plan.specs.Plan.{factors_of, run_sums_of}
@@ -34,6 +36,11 @@ figure_numbers f =
 
 abbrev pub check_numbers : Figures → List ℤ
 check_numbers f = f.checks.totals ∷ f.checks.readings ∷ []
+
+-- what a call leaves in a slice that it writes where it makes a table
+abbrev pub left_by : {A : Type 0} → Result Figures refusals.Refusal → (Figures → A) → A → A
+left_by (Ok f) numbers old = numbers f
+left_by (Err r) numbers old = old
 
 -- ---- what is refused
 

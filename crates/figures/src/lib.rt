@@ -4,7 +4,7 @@
 //   screened(the same)                                            the screening call
 //   wrong_room(m, n)                                              whether slices of these lengths have no room for figures and checks
 //
-// The first two give 0 where the table is made and the number of the refusal where it is not, and then no place that they were lent has changed.
+// The first two answer the refusal where the table is not made, and then no place that they were lent has changed.
 #![tactic(auto)]
 
 mod tabulated;

@@ -1,62 +1,44 @@
 // The table as numbers in slices that the caller lends.
 ghost use Rattle.std.specs.Prelude.{◌≡◌, length};
+ghost use Rattle.plan.specs.Refusals.{number_of};
 ghost use Rattle.anova.specs.Table.{table_refused};
 ghost use Rattle.screening.specs.Screening.{screen_refused};
-ghost use Rattle.figures.specs.Numbers.{figure_numbers, check_numbers, wrong_room, TableLeft};
+ghost use Rattle.figures.specs.Numbers.{figure_numbers, check_numbers, left_by, wrong_room, TableLeft};
 
-use anova::{Figures, Table};
-use columns::copy_values;
-use plan::Plan;
+use anova::Figures;
+use plan::{Plan, Refusal};
 
 const FIGURES: usize = 11;
 
 const CHECKS: usize = 2;
 
 // Whether the slices for figures and checks have other lengths than theirs.
+#[tactic(auto, unfolding(crate::specs::Numbers::wrong_room))]
 pub fn wrong_room(figures: usize, checks: usize) -> bool
     ensures { result ≡ wrong_room figures checks }
 {
-    if figures != FIGURES {
-        return true;
-    }
-    checks != CHECKS
-}
-
-fn put_unsigned(from: &[u64], to: &mut [u64])
-    requires { length from.now ≡ length to.old }
-    ensures { to.new ≡ from.now }
-{
-    let mut i = 0;
-    while i < from.len() {
-        to[i] = from[i];
-        i += 1;
-    }
+    figures != FIGURES || checks != CHECKS
 }
 
 // Denominator, then degrees and numerator of mean, kept effects, blocks, error and total.
+// (Eleven places and two. May not change: `tabulate` takes slices.)
 fn put_figures(f: Figures, figures: &mut [u64])
     requires { length figures.old ≡ 11 }
     ensures { figures.new ≡ figure_numbers f }
 {
-    let mean = f.mean;
-    let kept = f.kept;
-    let blocks = f.blocks;
-    let error = f.error;
-    let total = f.total;
-    let numbers = [
+    figures.copy_from_slice(&[
         f.denominator,
-        mean.degrees,
-        mean.numerator,
-        kept.degrees,
-        kept.numerator,
-        blocks.degrees,
-        blocks.numerator,
-        error.degrees,
-        error.numerator,
-        total.degrees,
-        total.numerator,
-    ];
-    put_unsigned(&numbers, figures);
+        f.mean.degrees,
+        f.mean.numerator,
+        f.kept.degrees,
+        f.kept.numerator,
+        f.blocks.degrees,
+        f.blocks.numerator,
+        f.error.degrees,
+        f.error.numerator,
+        f.total.degrees,
+        f.total.numerator,
+    ]);
 }
 
 // The sum of the totals, then what it must be by the run sums.
@@ -64,9 +46,24 @@ fn put_checks(f: Figures, checks: &mut [i64])
     requires { length checks.old ≡ 2 }
     ensures { checks.new ≡ check_numbers f }
 {
-    let both = f.checks;
-    let numbers = [both.totals, both.readings];
-    copy_values(&numbers, checks);
+    checks.copy_from_slice(&[f.checks.totals, f.checks.readings]);
+}
+
+// What a call for a table gives, put in the slices.
+fn put(
+    answer: Result<Figures, Refusal>,
+    figures: &mut [u64],
+    checks: &mut [i64],
+) -> Result<(), Refusal>
+    requires { (length figures.old ≡ 11) × (length checks.old ≡ 2) }
+    ensures number { number_of result ≡ number_of answer }
+    ensures figures_after { figures.new ≡ left_by answer figure_numbers figures.old }
+    ensures checks_after { checks.new ≡ left_by answer check_numbers checks.old }
+{
+    let f = answer?;
+    put_figures(f, figures);
+    put_checks(f, checks);
+    Ok(())
 }
 
 // The table call, where there is room for figures and checks.
@@ -78,21 +75,15 @@ pub fn tabulate(
     rows: &mut [u64],
     figures: &mut [u64],
     checks: &mut [i64],
-) -> u8
+) -> Result<(), Refusal>
     requires { (length figures.old ≡ 11) × (length checks.old ≡ 2) }
     ensures { TableLeft (table_refused p readings.now marks.now totals.old rows.old)
         p readings.now marks.now
         totals.old rows.old figures.old checks.old
-        result totals.new rows.new figures.new checks.new }
+        (number_of result) totals.new rows.new figures.new checks.new }
 {
-    match anova::table(p, readings, marks, totals, rows) {
-        Table::Made(f) => {
-            put_figures(f, figures);
-            put_checks(f, checks);
-            0
-        }
-        Table::Refused(n) => n,
-    }
+    let answer = anova::table(p, readings, marks, totals, rows);
+    put(answer, figures, checks)
 }
 
 // The screening call, where there is room for figures and checks.
@@ -104,19 +95,13 @@ pub fn screened(
     rows: &mut [u64],
     figures: &mut [u64],
     checks: &mut [i64],
-) -> u8
+) -> Result<(), Refusal>
     requires { (length figures.old ≡ 11) × (length checks.old ≡ 2) }
     ensures { TableLeft (screen_refused p readings.now marks.now totals.old rows.old)
         p readings.now marks.now
         totals.old rows.old figures.old checks.old
-        result totals.new rows.new figures.new checks.new }
+        (number_of result) totals.new rows.new figures.new checks.new }
 {
-    match screening::screen(p, readings, marks, totals, rows) {
-        Table::Made(f) => {
-            put_figures(f, figures);
-            put_checks(f, checks);
-            0
-        }
-        Table::Refused(n) => n,
-    }
+    let answer = screening::screen(p, readings, marks, totals, rows);
+    put(answer, figures, checks)
 }

@@ -3,18 +3,14 @@
 --   own-fit, marks-fit          the fields of the readings and of the marks take no more bytes than the sheet has
 --   read_done, read-stopped     what the reader leaves where it is done, and where the sheet is refused
 --   marks-end                   the marks are the last bytes
-use mathlib.Core.Path.{◌≡◌, sym, ap, ◌∙◌}
-use mathlib.Core.List.{List, []}
-use Prim.Native.Nat.{ℕ, ◌+◌, ◌-◌, ◌≤◌}
-use native.Mathlib.Decide.{ℕ_discrete}
-use native.Mathlib.Omega.{arith}
-use lib.IntN.{ℤ}
-use lib.ListN.{length, drop, drop_of_length-le}
-use Rattle.plan.specs.Outcome.{outcome}
-use Rattle.plan.proofs.Laws.Answers.{unwritten, written_new, given_is, refused-is}
-use Rattle.columns.specs.declared.types.Answer.{Answer}
-use Rattle.columns.specs.declared.types.Answer.TheVariants.{Done, Refused}
-use Rattle.columns.specs.Refusals.{answer_outcome}
+use Rattle.std.specs.Prelude.{◌≡◌, List, [], ℕ, ◌+◌, ◌-◌, ◌≤◌, ℤ, length, drop}
+use Rattle.std.proofs.Common.{sym, ap, arith}
+use Rattle.std.proofs.Math.Decide.{ℕ_discrete}
+use lib.ListN.{drop_of_length-le}
+use Rattle.plan.specs.declared.refusals.Refusal as refusals
+use Rattle.plan.specs.Outcome.{Outcome, given, refused, outcome}
+use Rattle.plan.specs.Refusals.{number}
+use Rattle.plan.proofs.Laws.Answers.{unwritten, written_new, given_is, refused-is, left_alone}
 use Rattle.fields.specs.Fields.{fields_of, body_at}
 use Rattle.fields.specs.Laws.Lengths.{span-of-sheet}
 use Rattle.contents.specs.Contents.{marks_in}
@@ -27,17 +23,17 @@ use Rattle.handed.specs.Sheets.{read_span}
 -- ---- the reader, of a sheet and a column of so many places
 
 -- what it knows of the answer of the call below it
-abbrev Answered : List ℕ → ℕ → Answer → Type 0
-Answered sheet room r = answer_outcome r ≡ outcome (read_refused sheet room) tt
+abbrev Answered : List ℕ → ℕ → Outcome Unit → Type 0
+Answered sheet room answer = answer ≡ outcome (read_refused sheet room) tt
 
 -- what it promises of its number, of the column and of the number of bytes
 abbrev Promised : List ℕ → List ℤ → ℕ → ℕ → List ℤ → ℕ → Type 0
 Promised sheet column old n xs span =
     (n ≡ read_refused sheet (length column)) × ((xs ≡ read_column sheet column) × (span ≡ read_span sheet (length column) old))
 
-module _ (sheet : List ℕ) (room : ℕ) {r : Answer} (d : r ≡ Done) (e : Answered sheet room r) where
+module _ (sheet : List ℕ) (room : ℕ) (done : Answered sheet room (given tt)) where
   accepted : read_refused sheet room ≡ 0
-  accepted = (given_is (read_refused sheet room) tt (ap answer_outcome (sym d) ∙ e)).0
+  accepted = (given_is (read_refused sheet room) tt done).0
 
   module _ {own : List ℕ} (o : own ≡ body_at 4 0 (fields_of sheet)) where
     pub own-fit : 3 + length own ≤ length sheet
@@ -46,20 +42,20 @@ module _ (sheet : List ℕ) (room : ℕ) {r : Answer} (d : r ≡ Done) (e : Answ
     pub marks-fit : {marks : List ℕ} → marks ≡ body_at 5 0 (fields_of sheet) → 3 + length marks ≤ length sheet - (3 + length own)
     marks-fit m = rw (o, m) (omega (arith, span-of-sheet sheet (read-admitted sheet room accepted).fields))
 
-module _ (sheet : List ℕ) (column : List ℤ) (old : ℕ) {r : Answer} where
-  pub read-stopped : {n : ℕ} → r ≡ Refused n → Answered sheet (length column) r → {xs : List ℤ} → xs ≡ read_column sheet column
-      → Promised sheet column old n xs old
+module _ (sheet : List ℕ) (column : List ℤ) (old : ℕ) where
+  pub read-stopped : (r : refusals.Refusal) → Answered sheet (length column) (refused (number r))
+      → {xs : List ℤ} → xs ≡ read_column sheet column → Promised sheet column old (number r) xs old
   unfolding read_span
-  read-stopped d e w =
-      let n = refused-is (read_refused sheet (length column)) tt (ap answer_outcome (sym d) ∙ e) in
-      (n.0, (w, unwritten (read_refused sheet (length column)) (head_length sheet) old n.1))
+  read-stopped r e w =
+      let n = (refused-is (read_refused sheet (length column)) tt e).0 in
+      (n, (w, left_alone r (head_length sheet) old n))
 
-  pub read_done : r ≡ Done → Answered sheet (length column) r → {xs : List ℤ} → xs ≡ read_column sheet column
+  pub read_done : Answered sheet (length column) (given tt) → {xs : List ℤ} → xs ≡ read_column sheet column
       → {own marks : List ℕ} → own ≡ body_at 4 0 (fields_of sheet) → marks ≡ body_at 5 0 (fields_of sheet)
       → Promised sheet column old 0 xs (length sheet - (3 + length own) - (3 + length marks))
   unfolding read_span head_length
-  read_done d e w o m =
-      let z = accepted sheet (length column) d e in
+  read_done e w o m =
+      let z = accepted sheet (length column) e in
       (sym z, (w, rw (o, m) (written_new (read_refused sheet (length column)) (head_length sheet) old z)))
 
 -- ---- the marks

@@ -1,6 +1,6 @@
 -- Laws that callers cite.
 --
---   Told     the number of an answer, in each arm of a match
 --   Heads    the first bytes of a sheet that the reader accepts
-pub mod Told
+--   Told     the number of an answer
 pub mod Heads
+pub mod Told

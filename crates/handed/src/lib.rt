@@ -8,7 +8,7 @@
 //   read(sheet, readings, span)             the readings of a sheet, and how many of its first bytes are its plan
 //   marks(sheet)                            how many of its last bytes are its marks
 //
-// Each but the last gives 0 where it is done and the number of the refusal where it is not, and then no place that it was lent has changed.
+// Each but the last answers the refusal where it is not done, and then no place that it was lent has changed.
 #![tactic(auto)]
 
 mod passing;

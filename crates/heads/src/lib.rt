@@ -1,9 +1,10 @@
 // A plan in bytes: the head of a sheet, which is its fields before the readings. So a program in another language hands over a plan of any kind.
-// The bytes come from outside: the call takes any.
+// The bytes come from outside: both calls take any.
 //
-//   refused(head)   the first number that applies to a head, and 0 where nothing is refused; the plan is `contents::plan_in(head)`
+//   read_head(head)    the plan, or the first refusal that applies
+//   check_head(head)   the first refusal that applies
 #![tactic(auto)]
 
 mod refusals;
 
-pub use refusals::refused;
+pub use refusals::{check_head, read_head};

@@ -1,44 +1,32 @@
 // What is refused of a plan in bytes.
-ghost use Rattle.std.specs.Prelude.{◌≡◌};
-ghost use Rattle.fields.specs.Fields.{fields_of};
-ghost use Rattle.heads.specs.Heads.{bad_head, head_refused};
+ghost use Rattle.std.specs.Prelude.{◌≡◌, IfOk};
+ghost use Rattle.plan.specs.Refusals.{number_of};
+ghost use Rattle.heads.specs.Heads.{head_plan, head_refused};
 
 use contents::{needless_repeats, plan_in};
-use fields::{any_bad_field, count};
-use plan::lowest;
+use fields::bad_fields_with;
+use plan::{Plan, Refusal, check};
 
-// Refusal 1: bytes that are no head of a sheet.
-fn bad_head(head: &[u8]) -> bool
-    ensures { result ≡ bad_head (fields_of head.now) }
+// The plan in bytes that are the head of a sheet, or the first refusal that applies to them.
+pub fn read_head(head: &[u8]) -> Result<Plan, Refusal>
+    ensures number { number_of result ≡ head_refused head.now }
+    ensures plan { IfOk result (λ p. p ≡ head_plan head.now) }
 {
-    if any_bad_field(head) {
-        return true;
+    if bad_fields_with(head, 0) {
+        return Err(Refusal::Sheet);
     }
-    if count(head, 1) != 1 {
-        return true;
+    let p = plan_in(head);
+    check(p)?;
+    if needless_repeats(head) {
+        return Err(Refusal::Repeats);
     }
-    if 1 < count(head, 6) {
-        return true;
-    }
-    if count(head, 4) != 0 {
-        return true;
-    }
-    count(head, 5) != 0
+    Ok(p)
 }
 
-// The first number that applies to a plan in bytes, and 0 where none does.
-pub fn refused(head: &[u8]) -> u8
-    ensures { result ≡ head_refused head.now }
+// The first refusal that applies to a plan in bytes.
+pub fn check_head(head: &[u8]) -> Result<(), Refusal>
+    ensures { number_of result ≡ head_refused head.now }
 {
-    if bad_head(head) {
-        return 1;
-    }
-    let n = lowest(plan_in(head));
-    if n != 0 {
-        return n;
-    }
-    if needless_repeats(head) {
-        return 16;
-    }
-    0
+    read_head(head)?;
+    Ok(())
 }

@@ -1,10 +1,9 @@
-// The lines of a printed table, in a lent buffer. Each call writes a line from a place on, as far as the buffer has places, and gives the place
-// after what it wrote.
+// The lines of a printed table. Each call writes a line at the end of a text, as far as its buffer has places.
 //
-//   named_line(text, at, name, n)                         a name and a number
-//   source_line(text, at, name, degrees, numerator)       a name, degrees and numerator
-//   check_line(text, at, totals, readings)                both check numbers
-//   row_line(text, at, row, degrees, numerator, kind)     a row: its label, degrees, numerator and, if so, `error` or `blocks`
+//   named_line(text, name, n)                         a name and a number
+//   source_line(text, name, degrees, numerator)       a name, degrees and numerator
+//   check_line(text, totals, readings)                both check numbers
+//   row_line(text, row, degrees, numerator, kind)     a row: its label, degrees, numerator and, if so, `error` or `blocks`
 #![tactic(auto)]
 
 mod fields;

@@ -1,5 +1,6 @@
 // The library for programs in other languages: every call, under the name that include/lithgorn.h declares to C, for other crates and for `lithgorn_c`,
-// which hands each on to C. Each gives 0 where it is done, or the number of the refusal; but the marks and the text, which give a length.
+// which hands each on to C. Each gives 0 where it is done, or the number of the refusal, as the C interface needs; but the marks and
+// the text, which give a length.
 //
 //   lithgorn_check, lithgorn_run, lithgorn_alias, lithgorn_estimate                 of a plan in bytes (crate `heads`): single answers
 //   lithgorn_pass, lithgorn_step, lithgorn_totals, lithgorn_recover                 columns
@@ -27,15 +28,16 @@ ghost use Rattle.facts.specs.Facts.{run_on_head, run_high, run_block, alias_on_h
 ghost use Rattle.handed.specs.Sheets.{read_span};
 ghost use Rattle.figures.specs.Numbers.{call_refused, TableLeft};
 ghost use Rattle.tables.specs.Sheets.{sheet_table_refused};
-ghost use Rattle.wholes.specs.Whole.{whole_plan};
+ghost use Rattle.plan.specs.Plan.{whole_plan};
 
+use plan::number_of;
 use printing::TEXT;
 
 // The plan check.
 pub fn lithgorn_check(head: &[u8]) -> u8
     ensures { result ≡ head_refused head.now }
 {
-    facts::check(head)
+    number_of(facts::check(head))
 }
 
 // The letters that are high in a run, and its block.
@@ -44,7 +46,7 @@ pub fn lithgorn_run(head: &[u8], number: usize, high: &mut u16, block: &mut u8) 
     ensures high_after { high.new ≡ run_high head.now number high.old }
     ensures block_after { block.new ≡ run_block head.now number block.old }
 {
-    facts::run(head, number, high, block)
+    number_of(facts::run(head, number, high, block))
 }
 
 // The base word that an effect reduces to, and 1 where its sign turns, else 0.
@@ -53,7 +55,7 @@ pub fn lithgorn_alias(head: &[u8], effect: u16, word: &mut u16, turned: &mut u8)
     ensures word_after { word.new ≡ alias_word head.now effect word.old }
     ensures turned_after { turned.new ≡ alias_turned head.now effect turned.old }
 {
-    facts::alias(head, effect, word, turned)
+    number_of(facts::alias(head, effect, word, turned))
 }
 
 // The mean or a difference by the total of an effect, or that the effect is lost; the double keeps its value then.
@@ -62,7 +64,7 @@ pub fn lithgorn_estimate(head: &[u8], effect: u16, total: i64, kind: &mut u8, va
     ensures kind_after { kind.new ≡ estimate_kind head.now effect total kind.old }
     ensures value_after { value.new ≡ estimate_double head.now effect total value.old }
 {
-    facts::estimate(head, effect, total, kind, value)
+    number_of(facts::estimate(head, effect, total, kind, value))
 }
 
 // The lists of block words in the column, and how many there are.
@@ -71,7 +73,7 @@ pub fn lithgorn_blockings(k: u8, words: u8, column: &mut [u16], lists: &mut usiz
     ensures column_after { column.new ≡ blockings_column k words column.old }
     ensures lists_after { lists.new ≡ blockings_count k words (length column.old) lists.old }
 {
-    facts::blockings(k, words, column, lists)
+    number_of(facts::blockings(k, words, column, lists))
 }
 
 // The pass of one factor over a column, in place.
@@ -79,7 +81,7 @@ pub fn lithgorn_pass(head: &[u8], factor: usize, column: &mut [i64]) -> u8
     ensures value { result ≡ called head.now (λ p. pass_refused p factor column.old) }
     ensures column_after { column.new ≡ leaves head.now (λ p. pass_column p factor column.old) column.old }
 {
-    handed::pass(head, factor, column)
+    number_of(handed::pass(head, factor, column))
 }
 
 // The report's step, from one column to another.
@@ -87,7 +89,7 @@ pub fn lithgorn_step(head: &[u8], from: &[i64], to: &mut [i64]) -> u8
     ensures value { result ≡ called head.now (λ p. step_refused p from.now to.old) }
     ensures to_after { to.new ≡ leaves head.now (λ p. step_column p from.now to.old) to.old }
 {
-    handed::step(head, from, to)
+    number_of(handed::step(head, from, to))
 }
 
 // The totals of all effects.
@@ -95,7 +97,7 @@ pub fn lithgorn_totals(head: &[u8], readings: &[i32], totals: &mut [i64]) -> u8
     ensures value { result ≡ called head.now (λ p. totals_refused p readings.now totals.old) }
     ensures totals_after { totals.new ≡ leaves head.now (λ p. totals_column p readings.now totals.old) totals.old }
 {
-    handed::totals(head, readings, totals)
+    number_of(handed::totals(head, readings, totals))
 }
 
 // The readings that have these totals; of runs that are made more than once, the run sums.
@@ -103,7 +105,7 @@ pub fn lithgorn_recover(head: &[u8], totals: &[i64], readings: &mut [i32]) -> u8
     ensures value { result ≡ called head.now (λ p. recover_refused p totals.now readings.old) }
     ensures readings_after { readings.new ≡ leaves head.now (λ p. recover_column p totals.now readings.old) readings.old }
 {
-    handed::recover(head, totals, readings)
+    number_of(handed::recover(head, totals, readings))
 }
 
 // The table of a plan in bytes.
@@ -122,7 +124,7 @@ pub fn lithgorn_table(
         totals.old rows.old figures.old checks.old
         result totals.new rows.new figures.new checks.new }
 {
-    tables::table(head, readings, marks, totals, rows, figures, checks)
+    number_of(tables::table(head, readings, marks, totals, rows, figures, checks))
 }
 
 // The same by the screening profile.
@@ -141,7 +143,7 @@ pub fn lithgorn_screen(
         totals.old rows.old figures.old checks.old
         result totals.new rows.new figures.new checks.new }
 {
-    tables::screen(head, readings, marks, totals, rows, figures, checks)
+    number_of(tables::screen(head, readings, marks, totals, rows, figures, checks))
 }
 
 // The readings of a sheet in the first places of the column, and how many of its first bytes are its plan.
@@ -150,7 +152,7 @@ pub fn lithgorn_read(sheet: &[u8], readings: &mut [i32], span: &mut usize) -> u8
     ensures readings_after { readings.new ≡ read_column sheet.now readings.old }
     ensures span_after { span.new ≡ read_span sheet.now (length readings.old) span.old }
 {
-    handed::read(sheet, readings, span)
+    number_of(handed::read(sheet, readings, span))
 }
 
 // How many of the last bytes of a sheet are its marks; none where the sheet is refused.
@@ -175,7 +177,7 @@ pub fn lithgorn_sheet_table(
         totals.old rows.old figures.old checks.old
         result totals.new rows.new figures.new checks.new }
 {
-    tables::sheet_table(sheet, totals, rows, figures, checks)
+    number_of(tables::sheet_table(sheet, totals, rows, figures, checks))
 }
 
 // The text of a sheet, and how many bytes it has. The buffer's bytes after it are as they were.
@@ -191,7 +193,7 @@ pub fn yates_pass(levels: u8, k: u8, factor: usize, column: &mut [i64]) -> u8
     ensures value { result ≡ pass_refused (whole_plan levels k 1) factor column.old }
     ensures column_after { column.new ≡ pass_column (whole_plan levels k 1) factor column.old }
 {
-    wholes::pass(levels, k, factor, column)
+    number_of(wholes::pass(levels, k, factor, column))
 }
 
 // The totals of all effects.
@@ -199,7 +201,7 @@ pub fn yates_totals(levels: u8, k: u8, repeats: u8, readings: &[i32], totals: &m
     ensures value { result ≡ totals_refused (whole_plan levels k repeats) readings.now totals.old }
     ensures totals_after { totals.new ≡ totals_column (whole_plan levels k repeats) readings.now totals.old }
 {
-    wholes::totals(levels, k, repeats, readings, totals)
+    number_of(wholes::totals(levels, k, repeats, readings, totals))
 }
 
 // The readings that have these totals; of runs that are made more than once, the run sums.
@@ -207,7 +209,7 @@ pub fn yates_recover(levels: u8, k: u8, repeats: u8, totals: &[i64], readings: &
     ensures value { result ≡ recover_refused (whole_plan levels k repeats) totals.now readings.old }
     ensures readings_after { readings.new ≡ recover_column (whole_plan levels k repeats) totals.now readings.old }
 {
-    wholes::recover(levels, k, repeats, totals, readings)
+    number_of(wholes::recover(levels, k, repeats, totals, readings))
 }
 
 // The analysis of variance: totals, row numerators, and the figures as 11 numbers and the checks as 2, in the order that `figure_numbers` and
@@ -230,7 +232,7 @@ pub fn anova_table(
         totals.old rows.old figures.old checks.old
         result totals.new rows.new figures.new checks.new }
 {
-    wholes::table(
+    number_of(wholes::table(
         levels, k, repeats, readings, marks, totals, rows, figures, checks,
-    )
+    ))
 }

@@ -21,7 +21,7 @@ ghost use Rattle.facts.specs.Facts.{run_on_head, run_high, run_block, alias_on_h
 ghost use Rattle.handed.specs.Sheets.{read_span};
 ghost use Rattle.figures.specs.Numbers.{call_refused, TableLeft};
 ghost use Rattle.tables.specs.Sheets.{sheet_table_refused};
-ghost use Rattle.wholes.specs.Whole.{whole_plan};
+ghost use Rattle.plan.specs.Plan.{whole_plan};
 
 use printing::TEXT;
 

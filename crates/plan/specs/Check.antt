@@ -14,13 +14,13 @@
 --   used_row p                                   the row of the letters that a three-level plan's block word uses, for any plan
 --   confounded_accepted p w                      whether the effect of w is confounded, for any plan
 --   check_outcome                                the cases of the check's answer
-use Rattle.std.specs.Prelude.{Bool, false, not, cond, ◌||◌, List, [], ◌∷◌, ◌++◌, ℕ, zero, suc, ◌+◌, ◌*◌, ◌/◌, ◌%◌, ◌^◌, eqb, leb, ltb}
+use Rattle.std.specs.Prelude.{Result, Bool, false, not, cond, ◌||◌, List, [], ◌∷◌, ◌++◌, ℕ, zero, suc, ◌+◌, ◌*◌, ◌/◌, ◌%◌, ◌^◌, eqb, leb, ltb}
 use Rattle.contrasts.specs.Limits.{most_two, most_three, most_added, most_blocks, is_repeats, most_readings}
 use Rattle.contrasts.specs.Passes.{spacing}
 use Rattle.plan.specs.declared.types.Plan.{Plan}
-use Rattle.plan.specs.declared.types.Check.{Check}
-use Rattle.plan.specs.declared.types.Check.TheVariants as check
-use Rattle.plan.specs.Outcome.{Refusal, refusal, lowest, Outcome, given, refused}
+use Rattle.plan.specs.declared.refusals.Refusal as refusals
+use Rattle.plan.specs.Refusals.{outcome_by}
+use Rattle.plan.specs.Outcome.{Refusal, refusal, lowest, Outcome}
 use Rattle.words.specs.Words.{letters, beyond, any, among, repeated}
 use Rattle.plan.specs.Plan.{added_words, added_signs, block_words, three_words, word_row, factors_of, some_combination, combines_to, confounded_in, runs_of}
 
@@ -140,6 +140,5 @@ used_row p = cond (ltb most_three p.k) 0 (word_row p)
 -- ---- the answer
 
 -- F12: an accepted plan has no values
-abbrev pub check_outcome : Check → Outcome Unit
-check_outcome check.Accepted = given tt
-check_outcome (check.Refused n) = refused n
+abbrev pub check_outcome : Result Unit refusals.Refusal → Outcome Unit
+check_outcome answer = outcome_by (λ v. v) answer

@@ -1,5 +1,7 @@
 -- What a plan says: its factors, its words and its runs; which effects are confounded.
 --
+--   whole_plan levels k r                       the plan of k factors of so many levels, with no added factors and no block words, its runs
+--                                               made r times
 --   added_words p, added_signs p                the words and signs that the plan's counts admit
 --   word_count p, block_words p                 its block words that are sets of letters: those of two levels
 --   number_count p, three_words p               its block words that are numbers to the base 3: those of three levels
@@ -23,6 +25,18 @@ use Rattle.contrasts.specs.Totals.{size, divisor*, denominator}
 use Rattle.contrasts.specs.Columns.{run_sums_in}
 use Rattle.plan.specs.declared.types.Plan.{Plan}
 use Rattle.words.specs.Words.{combined}
+
+abbrev pub whole_plan : ℕ → ℕ → ℕ → Plan
+whole_plan levels k r = record {
+  levels = levels;
+  k = k;
+  added = 0;
+  words = replicate 6 0;
+  signs = replicate 6 0;
+  blocks = 0;
+  blockwords = replicate 4 0;
+  repeats = r;
+}
 
 -- P10: "Places beyond a plan's counts are ignored"
 abbrev pub added_words : Plan → List ℕ

@@ -5,90 +5,55 @@ ghost use Rattle.plan.specs.Plan.{combines_to};
 ghost use Rattle.contrasts.specs.Limits.{is_repeats};
 ghost use Rattle.plan.specs.Check.{bad_levels, bad_factors, bad_counts, bad_word, bad_sign, factor_word, loses_factor, bad_repeats};
 
-use words::{combine, count_letters, has_beyond, is_among};
+use super::combinations::some_combination;
+use words::{count_letters, has_beyond, is_among};
 
 // Refusal 2.
+#[tactic(auto, unfolding(crate::specs::Check::bad_levels))]
 pub fn bad_levels(levels: u8) -> bool
     ensures { result ≡ bad_levels levels }
 {
-    if levels == 2 {
-        return false;
-    }
-    levels != 3
+    levels != 2 && levels != 3
 }
 
 // Refusal 3.
+#[tactic(auto, unfolding(crate::specs::Check::bad_factors, contrasts::specs::Limits::most_two, contrasts::specs::Limits::most_three))]
 pub fn bad_factors(levels: u8, k: u8) -> bool
     ensures { result ≡ bad_factors levels k }
 {
-    if k == 0 {
-        return true;
-    }
-    if levels == 2 { 10 < k } else { 6 < k }
+    let most = if levels == 2 { 10 } else { 6 };
+    k == 0 || most < k
 }
 
 // Refusal 4.
+#[tactic(auto, unfolding(crate::specs::Check::bad_counts))]
 pub fn bad_counts(levels: u8, added: u8, blocks: u8) -> bool
     ensures { result ≡ bad_counts levels added blocks }
 {
-    if 6 < added {
-        return true;
-    }
-    if 4 < blocks {
-        return true;
-    }
-    if levels == 3 {
-        if 0 < added {
-            return true;
-        }
-        return 1 < blocks;
-    }
-    false
+    6 < added || 4 < blocks || (levels == 3 && (0 < added || 1 < blocks))
 }
 
 // Whether the word has a letter beyond k, or too few letters.
+#[tactic(auto, unfolding(crate::specs::Check::bad_word))]
 fn bad_word(word: u16, k: usize, least: u32) -> bool
     ensures { result ≡ bad_word k least word }
 {
-    if has_beyond(word, k) {
-        return true;
-    }
-    count_letters(word) < least
+    has_beyond(word, k) || count_letters(word) < least
 }
 
+#[tactic(auto, unfolding(words::specs::Words::any))]
 pub fn any_bad_word(words: &[u16], k: usize, least: u32) -> bool
     ensures { result ≡ any (bad_word k least) words.now }
 {
-    let mut i = 0;
-    while i < words.len() {
-        if bad_word(words[i], k, least) {
-            return true;
-        }
-        i += 1;
-    }
-    false
+    words.iter().any(|word| bad_word(*word, k, least))
 }
 
 // Whether a sign is neither 0 nor 1.
+#[tactic(auto, unfolding(words::specs::Words::any, crate::specs::Check::bad_sign))]
 pub fn any_bad_sign(signs: &[u8]) -> bool
     ensures { result ≡ any bad_sign signs.now }
 {
-    let mut i = 0;
-    while i < signs.len() {
-        if 1 < signs[i] {
-            return true;
-        }
-        i += 1;
-    }
-    false
-}
-
-// How many ways there are to choose none, some or all of n words.
-fn choices(n: usize) -> u16
-    requires { n ≤ 4 }
-    ensures { (result ≡ 2 ^ n) × (result ≤ 16) }
-{
-    1u16 << n
+    signs.iter().any(|sign| 1 < *sign)
 }
 
 // Whether one or more of the words combine to the given one.
@@ -96,25 +61,15 @@ pub fn combines_to(word: u16, words: &[u16]) -> bool
     requires { length words.now ≤ 4 }
     ensures { result ≡ combines_to word words.now }
 {
-    let n = choices(words.len());
-    let mut choice = 1;
-    while choice < n {
-        if combine(0, choice, words) == word {
-            return true;
-        }
-        choice += 1;
-    }
-    false
+    some_combination(words, |other| other == word)
 }
 
 // Whether the word is a factor's: one letter, or an added factor's word.
+#[tactic(auto, unfolding(crate::specs::Check::factor_word))]
 fn is_factor(word: u16, added: &[u16]) -> bool
     ensures { result ≡ factor_word word added.now }
 {
-    if count_letters(word) == 1 {
-        return true;
-    }
-    is_among(word, added)
+    count_letters(word) == 1 || is_among(word, added)
 }
 
 // Whether one or more of the block words combine to the word of a factor, whose effect would be lost.
@@ -122,31 +77,15 @@ pub fn loses_factor(added: &[u16], blocks: &[u16]) -> bool
     requires { length blocks.now ≤ 4 }
     ensures { result ≡ loses_factor added.now blocks.now }
 {
-    let n = choices(blocks.len());
-    let mut chosen = 1;
-    while chosen < n {
-        if is_factor(combine(0, chosen, blocks), added) {
-            return true;
-        }
-        chosen += 1;
-    }
-    false
+    some_combination(blocks, |word| is_factor(word, added))
 }
 
 // Whether a run may be made so often.
+#[tactic(auto, unfolding(contrasts::specs::Limits::is_repeats))]
 fn is_repeats(repeats: u8) -> bool
     ensures { result ≡ is_repeats repeats }
 {
-    if repeats == 1 {
-        return true;
-    }
-    if repeats == 2 {
-        return true;
-    }
-    if repeats == 4 {
-        return true;
-    }
-    repeats == 8
+    matches!(repeats, 1 | 2 | 4 | 8)
 }
 
 // How many readings so many runs have, each made so often.
@@ -158,12 +97,10 @@ pub fn times(runs: usize, repeats: u8) -> usize
 }
 
 // Refusal 16, of a plan of so many runs.
+#[tactic(auto, unfolding(crate::specs::Check::bad_repeats, contrasts::specs::Limits::most_readings))]
 pub fn bad_repeats(runs: usize, repeats: u8) -> bool
     requires { runs ≤ 1024 }
     ensures { result ≡ bad_repeats runs repeats }
 {
-    if is_repeats(repeats) {
-        return 1024 < times(runs, repeats);
-    }
-    true
+    !is_repeats(repeats) || 1024 < times(runs, repeats)
 }

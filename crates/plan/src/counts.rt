@@ -10,13 +10,7 @@ pub fn to_the_power(base: usize, k: usize) -> usize
     requires { (base ≤ 3) × (k ≤ 10) }
     ensures { result ≡ base ^ k }
 {
-    let mut n = 1;
-    let mut i = 0;
-    while i < k {
-        n *= base;
-        i += 1;
-    }
-    n
+    base.pow(k as u32)
 }
 
 // How many runs there are, and 0 where the levels or the number of factors are refused.

@@ -21,11 +21,9 @@ fn used_digits(word: u16, k: usize) -> usize
 {
     let mut used = 0;
     let mut rest = word;
-    let mut i = 0;
-    while i < k {
+    for _i in 0..k {
         used += in_use(rest);
         rest /= 3;
-        i += 1;
     }
     used
 }
@@ -35,43 +33,30 @@ fn lowest_digit(word: u16, k: usize) -> u16
     ensures { result ≡ lowest_digit k word }
 {
     let mut rest = word;
-    let mut i = 0;
-    while i < k {
+    for _i in 0..k {
         if rest % 3 != 0 {
             return rest % 3;
         }
         rest /= 3;
-        i += 1;
     }
     0
 }
 
 // Whether a word breaks the digit rule.
+#[tactic(auto, unfolding(crate::specs::Check::bad_digits))]
 fn bad_digits(word: u16, k: usize) -> bool
     requires { k ≤ 10 }
     ensures { result ≡ bad_digits k word }
 {
-    if to_the_power(3, k) <= (word as usize) {
-        return true;
-    }
-    if used_digits(word, k) < 2 {
-        return true;
-    }
-    lowest_digit(word, k) != 1
+    to_the_power(3, k) <= (word as usize) || used_digits(word, k) < 2 || lowest_digit(word, k) != 1
 }
 
+#[tactic(auto, unfolding(words::specs::Words::any))]
 pub fn any_bad_digits(words: &[u16], k: usize) -> bool
     requires { k ≤ 10 }
     ensures { result ≡ any (bad_digits k) words.now }
 {
-    let mut i = 0;
-    while i < words.len() {
-        if bad_digits(words[i], k) {
-            return true;
-        }
-        i += 1;
-    }
-    false
+    words.iter().any(|word| bad_digits(*word, k))
 }
 
 // The row of the letters that a word uses: those whose digit is not zero.
@@ -82,12 +67,10 @@ pub fn row_of_digits(word: u16, k: usize) -> usize
     let mut row = 0;
     let mut letter = 1;
     let mut rest = word;
-    let mut i = 0;
-    while i < k {
+    for _i in 0..k {
         row += letter * in_use(rest);
         letter *= 2;
         rest /= 3;
-        i += 1;
     }
     row
 }
@@ -99,12 +82,10 @@ pub fn three_block(k: u8, word: u16, run: usize) -> u8
     let mut sum: usize = 0;
     let mut digits = word as usize;
     let mut levels = run;
-    let mut i = 0;
-    while i < k {
+    for _i in 0..k {
         sum += (digits % 3) * (levels % 3);
         digits /= 3;
         levels /= 3;
-        i += 1;
     }
     (sum % 3) as u8
 }

@@ -1,13 +1,15 @@
 // The lines of all rows.
 ghost use Rattle.std.specs.Prelude.{◌≡◌, length};
-ghost use Rattle.text.specs.Text.{Wrote};
+ghost use Rattle.rows.specs.Kinds.{code_of};
+ghost use Rattle.text.specs.Text.{Writes};
 ghost use Rattle.printing.specs.Inner.Ready.{RowsReady};
 ghost use Rattle.printing.specs.Printed.{row_lines};
 ghost use Rattle.printing.specs.Inner.Written.{degrees_by, degrees_left};
 
 use lines::row_line;
 use plan::{Plan, word_row};
-use rows::kinds;
+use rows::{Kind, kinds};
+use text::Text;
 use words::count_letters;
 
 // 1 at two levels, and at three 2 for each letter multiplied.
@@ -32,20 +34,23 @@ fn degrees_left(levels: u8, used: usize, row: u16) -> u64
     if (row as usize) == used { all - 2 } else { all }
 }
 
-pub fn row_lines(text: &mut [u8], at: usize, p: Plan, marks: &[u8], rows: &[u64]) -> usize
+// The number of a kind.
+fn number(kind: Kind) -> u8
+    ensures { result ≡ code_of kind }
+{
+    kind as u8
+}
+
+pub fn row_lines(text: &mut Text<'_>, p: Plan, marks: &[u8], rows: &[u64])
     requires { RowsReady p rows.now }
-    ensures { Wrote text.old at (row_lines p marks.now rows.now (length rows.now)) text.new result }
+    ensures { Writes text.old (row_lines p marks.now rows.now (length rows.now)) text.new }
 {
     let levels = p.levels;
     let used = word_row(p);
     let kinds = kinds(p, marks);
-    let mut next = at;
-    let mut i = 0;
-    while i < rows.len() {
+    for (i, numerator) in rows.iter().enumerate() {
         let row = i as u16;
         let left = degrees_left(levels, used, row);
-        next = row_line(text, next, row, left, rows[i], kinds[i]);
-        i += 1;
+        row_line(text, row, left, *numerator, number(kinds[i]));
     }
-    next
 }

@@ -6,10 +6,10 @@
 --   lengths, few             an accepted plan and columns of N places; at most 1,024
 --   judgeable                the column that is lent besides
 --   narrow                   where there are readings they fit the column for them
---   refused-14, done         the answer of the call in both cases
+--   stopped_by, done         the answer of the call in both cases
 use mathlib.Core.Path.{◌≡◌, refl, sym, ◌∙◌}
 use mathlib.Core.Logic.{◌⊎◌, inl, inr}
-use mathlib.Core.Bool.{Bool, true, false}
+use mathlib.Core.Bool.{Bool, false, cond}
 use mathlib.Core.List.{List}
 use Prim.Native.Nat.{ℕ, ◌*◌, ◌^◌, ◌<◌, ◌≤◌}
 use native.Mathlib.Nat.{mul-le-mul_right, pow-le-pow_right, le_trans}
@@ -34,7 +34,9 @@ use Rattle.plan.specs.Limits.{run_limit}
 use Rattle.plan.specs.Outcome.{given, refused}
 use Rattle.plan.specs.Plan.{factors_of, runs_of}
 use Rattle.plan.proofs.Laws.Accepted.{accepted}
-use Rattle.plan.proofs.Laws.Answers.{stopped, completed}
+use Rattle.plan.specs.declared.refusals.Refusal.{Refusal}
+use Rattle.plan.specs.Refusals.{number}
+use Rattle.plan.proofs.Laws.Answers.{stops, completed}
 use Rattle.plan.proofs.Laws.Limits.{run-admitted}
 use Rattle.plan.proofs.Laws.Sizes.{factors-two, factors-three, as-power, plan-kind, runs-few}
 use Rattle.recovery.specs.Calls.{recover_refused, recover_column}
@@ -120,9 +122,10 @@ module _ {p : Plan} {ts ys : List ℤ} (l : Lent p ts ys) where
         let r = completed tt (readings_back (factors_of p) ts) _ z d in
         record { answer = r.0; column = r.1 }
 
-pub refused-14 : {p : Plan} {ts ys : List ℤ} → Lengths p ts ys → no_readings (factors_of p) (run_limit p) ts ≡ true → Answered p ts ys ys (refused 14)
+-- a refusal is that there are no readings
+pub stopped_by : {p : Plan} {ts ys : List ℤ} → Lengths p ts ys → (r : Refusal) → number r ≡ cond (no_readings (factors_of p) (run_limit p) ts) 14 0
+    → Answered p ts ys ys (refused (number r))
 unfolding recover_column
-refused-14 {p} {ts} {ys} l e =
-    let z : 14 ≡ recover_refused p ts ys = sym (by-readings l ∙ rw e refl) in
-    let r = stopped tt (readings_back (factors_of p) ts) _ z (λ d. absurd (omega (arith, d))) in
-    record { answer = r.0; column = r.1 }
+stopped_by {p} {ts} {ys} l r e =
+    let s = stops r tt (readings_back (factors_of p) ts) ys (e ∙ sym (by-readings l)) in
+    record { answer = s.0; column = s.1 }

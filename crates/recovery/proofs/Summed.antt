@@ -4,7 +4,7 @@
 --   summing-none                         before the first stretch
 --   next-stretch, summing-more           what is lent on is a stretch, and what comes back makes one more
 --   kind-gentle                          the factors of a plan pass the test `gentle`
---   AllSummed l k ts d s f ys            ys are the totals ts with the factors from f on summed, d is the denominator of these, and s the spacing
+--   AllSummed l k ts d s i ys            ys are the totals ts with the last i factors summed, d is the denominator of these, and s the spacing
 --   all_none, all-ready, all_more, all_done    before the last factor, before each, after each, after the first
 --   all-long, next-apart, next_fits      its length; the next spacing; the next denominator fits
 use mathlib.Core.Path.{◌≡◌, refl, sym, ◌∙◌, ap}
@@ -12,6 +12,7 @@ use mathlib.Core.Bool.{Bool, true, false, cond}
 use mathlib.Core.List.{List, ◌++◌}
 use Prim.Native.Nat.{ℕ, suc, ◌+◌, ◌-◌, ◌*◌, ◌/◌, ◌^◌, ◌<◌, ◌≤◌}
 use native.Mathlib.Nat.{mul-le-mul_right, pow-suc, pow-zero, pow-le-pow_right, mul-div_left, le_trans}
+use native.Mathlib.Numerals.{add-one}
 use native.Mathlib.Omega.{arith}
 use lib.Dec.{T, eqb}
 use lib.IntN.{ℤ}
@@ -74,73 +75,66 @@ kind-gentle l = by (eqb l 2)
     by true = two-gentle
     by false = three-gentle
 
-pub record AllSummed (l k : ℕ) (ts : List ℤ) (d s f : ℕ) (ys : List ℤ) : Type 0 where
-  pub some : f ≤ k
-  pub apart : s ≡ l ^ f
-  pub over : d ≡ (of_levels l).common ^ (k - f)
-  pub so : ys ≡ sums_from (l ^ f) (replicate (k - f) (of_levels l)) ts
+pub record AllSummed (l k : ℕ) (ts : List ℤ) (d s i : ℕ) (ys : List ℤ) : Type 0 where
+  pub upto : i ≤ k
+  pub apart : s ≡ l ^ (k - i)
+  pub over : d ≡ (of_levels l).common ^ i
+  pub so : ys ≡ sums_from (l ^ (k - i)) (replicate i (of_levels l)) ts
 
 module _ {l k : ℕ} {ts : List ℤ} (pre : Summable l k ts) where
-  pub all_none : AllSummed l k ts 1 (length ts) k ts
+  pub all_none : AllSummed l k ts 1 (length ts) 0 ts
   unfolding sums_from
   all_none =
-      let n : k - k ≡ 0 = omega arith in
-      record {
-        some = omega arith;
-        apart = pre.whole;
-        over = rw n (sym (pow-zero (of_levels l).common));
-        so = rw n refl;
-      }
+      let all : k - 0 ≡ k = omega arith in
+      record { upto = omega arith; apart = rw all pre.whole; over = sym (pow-zero (of_levels l).common); so = refl }
 
-  module _ {d s f : ℕ} {ys : List ℤ} (w : AllSummed l k ts d s f ys) where
+  module _ {d s i : ℕ} {ys : List ℤ} (w : AllSummed l k ts d s i ys) where
     pub all-long : length ys ≡ length ts
-    all-long = rw w.so (length_from (l ^ f) (replicate (k - f) (of_levels l)) ts)
+    all-long = rw w.so (length_from (l ^ (k - i)) (replicate i (of_levels l)) ts)
 
     -- each denominator on the way is no larger than the last
     mild : AllWithin mild_limit ys
-    mild i =
+    mild j =
         le_trans
-        (rw w.so (all-within (l ^ f) (replicate (k - f) (of_levels l)) value_limit ts (gentle-alike (k - f) (of_levels l) (kind-gentle l)) pre.within i))
-        (le_trans (mul-le-mul_right {m = denominator (replicate (k - f) (of_levels l))} {n = (of_levels l).common ^ k} value_limit (rw (denominator-alike (k - f) (of_levels l)) (pow-le-pow_right (of_levels l).some-common (omega arith)))) pre.roomy)
+        (rw w.so (all-within (l ^ (k - i)) (replicate i (of_levels l)) value_limit ts (gentle-alike i (of_levels l) (kind-gentle l)) pre.within j))
+        (le_trans (mul-le-mul_right {m = denominator (replicate i (of_levels l))} {n = (of_levels l).common ^ k} value_limit (rw (denominator-alike i (of_levels l)) (pow-le-pow_right (of_levels l).some-common w.upto))) pre.roomy)
 
-    pub all_done : f ≤ 0 → (d ≡ denominator (replicate k (of_levels l))) × (ys ≡ sums_from 1 (replicate k (of_levels l)) ts)
+    pub all_done : k ≤ i → (d ≡ denominator (replicate k (of_levels l))) × (ys ≡ sums_from 1 (replicate k (of_levels l)) ts)
     all_done h =
-        let e : f ≡ 0 = omega arith in
-        let n : k - 0 ≡ k = omega arith in
-        (w.over ∙ rw (e, n) (sym (denominator-alike k (of_levels l))), w.so ∙ rw (e, pow-zero l, n) refl)
+        let e : i ≡ k = omega (arith, w.upto) in
+        let n : k - k ≡ 0 = omega arith in
+        (w.over ∙ rw e (sym (denominator-alike k (of_levels l))), w.so ∙ rw (e, n, pow-zero l) refl)
 
-    module _ (more : 0 < f) where
-      pub next-apart : s / l ≡ l ^ (f - 1)
-      next-apart =
-          let e : f ≡ suc (f - 1) = omega arith in
-          rw (w.apart ∙ ap (λ n. l ^ n) e ∙ pow-suc l (f - 1)) (mul-div_left (l ^ (f - 1)) (some-levels l pre.kind))
+    module _ (more : i < k) where
+      left : k - i ≡ suc (k - (i + 1))
+      left = omega arith
+
+      pub next-apart : s / l ≡ l ^ (k - (i + 1))
+      next-apart = rw (w.apart ∙ ap (λ n. l ^ n) left ∙ pow-suc l (k - (i + 1))) (mul-div_left (l ^ (k - (i + 1))) (some-levels l pre.kind))
 
       pub all-ready : Stretches l (s / l) ys
-      all-ready = in-stretches l (f - 1) k (s / l) ys pre.kind (omega (arith, w.some)) next-apart (all-long ∙ pre.whole) mild
+      all-ready = in-stretches l (k - (i + 1)) k (s / l) ys pre.kind (omega arith) next-apart (all-long ∙ pre.whole) mild
 
-      count : k - (f - 1) ≡ suc (k - f)
-      count = omega (arith, w.some)
-
-      next-over : d * (of_levels l).common ≡ (of_levels l).common ^ (k - (f - 1))
-      next-over = rw (w.over, count) (sym (pow-suc (of_levels l).common (k - f)))
+      next-over : d * (of_levels l).common ≡ (of_levels l).common ^ (i + 1)
+      next-over = rw (w.over, add-one i) (sym (pow-suc (of_levels l).common i))
 
       pub next_fits : d * (of_levels l).common < 2 ^ 32
       unfolding value_limit mild_limit
       next_fits =
-          let le : (of_levels l).common ^ (k - (f - 1)) ≤ (of_levels l).common ^ k = pow-le-pow_right (of_levels l).some-common (omega arith) in
+          let le : (of_levels l).common ^ (i + 1) ≤ (of_levels l).common ^ k = pow-le-pow_right (of_levels l).some-common (omega arith) in
           rw next-over (omega (arith, le, pre.roomy))
 
-      pub all_more : {zs : List ℤ} → zs ≡ sums_over (s / l) (of_levels l) ys → AllSummed l k ts (d * (of_levels l).common) (s / l) (f - 1) zs
+      pub all_more : {zs : List ℤ} → zs ≡ sums_over (s / l) (of_levels l) ys → AllSummed l k ts (d * (of_levels l).common) (s / l) (i + 1) zs
       unfolding sums_from
       all_more e =
           record {
-            some = omega (arith, w.some);
+            upto = omega arith;
             apart = next-apart;
             over = next-over;
             so = e ∙ rw (next-apart, w.so) (sym (
-                ap (λ n. sums_from (l ^ (f - 1)) (replicate n (of_levels l)) ts) count
-                ∙ ap (λ n. sums_over (l ^ (f - 1)) (of_levels l) (sums_from n (replicate (k - f) (of_levels l)) ts)) place));
+                ap (λ n. sums_from (l ^ (k - (i + 1))) (replicate n (of_levels l)) ts) (add-one i)
+                ∙ ap (λ n. sums_over (l ^ (k - (i + 1))) (of_levels l) (sums_from n (replicate i (of_levels l)) ts)) place));
           }
         where
-          place : l ^ (f - 1) * (of_levels l).levels ≡ l ^ f
-          place = rw (pre.kind, ← (pow-suc l (f - 1))) (ap (λ n. l ^ n) (omega arith))
+          place : l ^ (k - (i + 1)) * (of_levels l).levels ≡ l ^ (k - i)
+          place = rw (pre.kind, ← (pow-suc l (k - (i + 1)))) (ap (λ n. l ^ n) (sym left))

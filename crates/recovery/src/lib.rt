@@ -1,7 +1,6 @@
 // Readings back from totals, for authors who archive only the totals.
 //
 //   recover(p, totals, readings)   the readings that have these totals; where runs are made more than once, the sums of runs
-//   Answer                         done, or the number of the refusal: of the crate `columns`
 #![tactic(auto)]
 
 mod calls;
@@ -9,4 +8,3 @@ mod quotients;
 mod sums;
 
 pub use calls::recover;
-pub use columns::Answer;

@@ -6,36 +6,23 @@ ghost use Rattle.recovery.specs.Inner.Lent.{Sums, Narrow};
 
 use sizes::is_beyond;
 
-// How large a sum is, either way.
-fn size(sum: i64) -> u64
-    ensures { result ≡ nat_abs sum }
-{
-    if sum < 0 {
-        (-1 - sum) as u64 + 1
-    } else {
-        sum as u64
-    }
-}
-
 // A sum over the denominator, cut off: the quotient of its size, with its sign. The division of an i64 is compiled with a jump that goes by its
 // sign, which cannot be foreseen; here both signs take one way.
 fn quotient(sum: i64, denominator: u32) -> i64
     requires { (0 < denominator) × (nat_abs sum < 2 ^ 63) }
     ensures { result ≡ quot_z sum (pos denominator) }
 {
-    let whole = (size(sum) / denominator as u64) as i64;
+    let whole = (sum.unsigned_abs() / u64::from(denominator)) as i64;
     if sum < 0 { -whole } else { whole }
 }
 
 // Whether a sum is not the denominator times the reading, or the reading is beyond the limit.
+#[tactic(auto, unfolding(plan::specs::Limits::is_beyond))]
 fn is_missed(sum: i64, reading: i64, denominator: u32, limit: u32) -> bool
     requires { nat_abs (pos denominator *ℤ reading) < 2 ^ 63 }
     ensures { result ≡ missed denominator limit sum reading }
 {
-    if denominator as i64 * reading != sum {
-        return true;
-    }
-    is_beyond(reading, limit)
+    i64::from(denominator) * reading != sum || is_beyond(reading, limit)
 }
 
 // Each sum becomes its quotient, also after one that is missed. The answer says whether any is.
@@ -45,13 +32,10 @@ pub fn divide(column: &mut [i64], denominator: u32, limit: u32) -> bool
     ensures column_after { column.new ≡ quotients denominator column.old }
 {
     let mut any = false;
-    let mut i = 0;
-    while i < column.len() {
-        let sum = column[i];
-        let reading = quotient(sum, denominator);
-        any = any | is_missed(sum, reading, denominator, limit);
-        column[i] = reading;
-        i += 1;
+    for sum in column.iter_mut() {
+        let reading = quotient(*sum, denominator);
+        any |= is_missed(*sum, reading, denominator, limit);
+        *sum = reading;
     }
     any
 }
@@ -61,9 +45,7 @@ pub fn put(column: &[i64], readings: &mut [i32])
     requires { Narrow column.now readings.old }
     ensures { readings.new ≡ column.now }
 {
-    let mut i = 0;
-    while i < column.len() {
-        readings[i] = column[i] as i32;
-        i += 1;
+    for (i, value) in column.iter().enumerate() {
+        readings[i] = *value as i32;
     }
 }

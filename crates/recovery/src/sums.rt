@@ -15,8 +15,7 @@ fn sum_triples(part: &mut [i64], spacing: usize)
     requires { Stretch 3 spacing part.old }
     ensures { part.new ≡ sums_over spacing three part.old }
 {
-    let mut i = 0;
-    while i < spacing {
+    for i in 0..spacing {
         let j = i + spacing;
         let k = i + 2 * spacing;
         let first = part[i];
@@ -25,7 +24,6 @@ fn sum_triples(part: &mut [i64], spacing: usize)
         part[i] = 2 * first + 3 * middle + third;
         part[j] = 2 * first - 2 * third;
         part[k] = 2 * first - 3 * middle + third;
-        i += 1;
     }
 }
 
@@ -43,20 +41,20 @@ fn sum_stretch(part: &mut [i64], spacing: usize)
     }
 }
 
-// All stretches of a column at three levels, in which the values of the factor lie the given distance apart.
+// All stretches of a column at three levels, in which the values of the factor lie the given distance apart; each is named by its places, as in
+// `passes`.
 fn sums_three(spacing: usize, column: &mut [i64])
     requires { Stretches 3 spacing column.old }
     ensures { column.new ≡ sums_over spacing three column.old }
 {
     let width = 3 * spacing;
-    let mut start = 0;
-    while start < column.len() {
+    for start in (0..column.len()).step_by(width) {
         sum_stretch(&mut column[start..start + width], spacing);
-        start += width;
     }
 }
 
 // The sums of one factor, by the number of levels.
+// (A trait with the one method that differs, and `pass_over` as the other, is no plainer.)
 fn sums_over(levels: usize, spacing: usize, column: &mut [i64])
     requires { Stretches levels spacing column.old }
     ensures { column.new ≡ sums_over spacing (of_levels levels) column.old }
@@ -84,9 +82,7 @@ pub fn sum_back(levels: usize, k: usize, column: &mut [i64]) -> u32
     let own = common(levels);
     let mut spacing = column.len();
     let mut denominator = 1;
-    let mut f = k;
-    while 0 < f {
-        f -= 1;
+    for _i in 0..k {
         spacing /= levels;
         sums_over(levels, spacing, column);
         denominator *= own;

@@ -1,7 +1,6 @@
 -- The sums of runs, put into a column one after the other.
 --
 --   Putting r xs old i ys                     ys has the sums of the first i runs
---   putting-long                              its length
 --   putting-none, putting-more, putting-all   before the first run, after one more, after the last
 --   run-there                                 the readings of the next run are there
 use mathlib.Core.Path.{◌≡◌, refl}
@@ -11,7 +10,7 @@ use native.Mathlib.Nat.{mul-le-mul_right}
 use native.Mathlib.Omega.{arith}
 use lib.IntN.{ℤ, pos}
 use lib.ListN.{length, set}
-use Rattle.algebra.specs.Laws.Fill.{Filled, filled_none, filled-long, filled_more, filled-all}
+use Rattle.algebra.specs.Laws.Fill.{Filled, filled_none, filled_more, filled-all}
 use Rattle.contrasts.specs.Columns.{read, run_sums_in}
 use Rattle.contrasts.specs.Repeats.{run_sums}
 use Rattle.repeats.specs.Ready.{RunOf, AllRuns}
@@ -23,19 +22,13 @@ pub putting-none : (r : ℕ) (xs old : List ℤ) → Putting r xs old 0 old
 putting-none r xs old = record { so = filled_none (pos 0) (length old) (run_sums r (read xs)) (read old) old refl (λ j h. refl) }
 
 module _ {r : ℕ} {xs old : List ℤ} {i : ℕ} {ys : List ℤ} (w : Putting r xs old i ys) where
-  pub putting-long : length ys ≡ length old
-  putting-long = filled-long (pos 0) w.so
+  pub putting-more : i < length old → {v : ℤ} → v ≡ run_sums r (read xs) i → Putting r xs old (i + 1) (set ys i v)
+  putting-more h e = record { so = filled_more (pos 0) w.so h e }
 
-  pub putting-more : i < length ys → {v : ℤ} → v ≡ run_sums r (read xs) i → Putting r xs old (i + 1) (set ys i v)
-  putting-more h e = record { so = filled_more (pos 0) w.so (omega (arith, putting-long)) e }
-
-  pub putting-all : length ys ≤ i → ys ≡ run_sums_in (length old) r xs
+  pub putting-all : length old ≤ i → ys ≡ run_sums_in (length old) r xs
   unfolding run_sums_in
-  putting-all h = filled-all (pos 0) w.so (omega (arith, putting-long))
+  putting-all h = filled-all (pos 0) w.so h
 
-  pub run-there : AllRuns r xs old → i < length ys → RunOf r i xs
-  run-there pre h =
-      record {
-        few = pre.few;
-        there = omega (arith, pre.whole, putting-long, mul-le-mul_right {m = suc i} {n = length old} r (omega (arith, h, putting-long)));
-      }
+pub run-there : {r : ℕ} {xs old : List ℤ} {i : ℕ} → AllRuns r xs old → i < length old → RunOf r i xs
+run-there {r} {old = old} {i = i} pre h =
+    record { few = pre.few; there = omega (arith, pre.whole, mul-le-mul_right {m = suc i} {n = length old} r (omega arith)) }

@@ -12,11 +12,9 @@ pub fn run_sum(readings: &[i32], repeats: usize, run: usize) -> i64
     ensures { result ≡ run_sums repeats (read readings.now) run }
 {
     let start = run * repeats;
-    let mut sum: i64 = 0;
-    let mut j = 0;
-    while j < repeats {
-        sum += readings[start + j] as i64;
-        j += 1;
+    let mut sum = 0;
+    for reading in &readings[start..start + repeats] {
+        sum += i64::from(*reading);
     }
     sum
 }
@@ -26,10 +24,8 @@ fn put_sums(readings: &[i32], repeats: usize, column: &mut [i64])
     requires { AllRuns repeats readings.now column.old }
     ensures { column.new ≡ run_sums_in (length column.old) repeats readings.now }
 {
-    let mut i = 0;
-    while i < column.len() {
-        column[i] = run_sum(readings, repeats, i);
-        i += 1;
+    for (run, sum) in column.iter_mut().enumerate() {
+        *sum = run_sum(readings, repeats, run);
     }
 }
 

@@ -2,6 +2,7 @@
 --
 --   over-bad, mean-bad    each makes the marks bad
 --   blocks-or-none        where neither applies, the combinations decide
+--   judged                so the three decide
 use mathlib.Core.Path.{◌≡◌, refl, sym, ◌∙◌, ap}
 use mathlib.Core.Bool.{Bool, true, false, ◌&&◌, ◌||◌, or-true, and-false, true≢false}
 use mathlib.Core.List.{List}
@@ -30,7 +31,7 @@ there marks w e = by (dec_lt w (length marks))
         absurd (true≢false (sym e ∙ rw (get_d_past 0 marks w (omega arith)) refl))
 
 module _ (p : Plan) (marks : List ℕ) where
-  pub over-bad : any_over marks ≡ true → true ≡ bad_marks p marks
+  over-bad : any_over marks ≡ true → true ≡ bad_marks p marks
   unfolding any_over bad_marks bad_mark
   over-bad e =
       let s = some_at (length marks) (λ w. ltb 1 (get_or marks w 0)) e in
@@ -42,7 +43,7 @@ module _ (p : Plan) (marks : List ℕ) where
   bare-bad w e d =
       sym (some-true (length marks) (λ w. bad_mark p w (get_or marks w 0)) w (there marks w e) (rw (e, d) (or-true (ltb 1 (get_or marks w 0)))))
 
-  pub mean-bad : marked marks 0 ≡ true → true ≡ bad_marks p marks
+  mean-bad : marked marks 0 ≡ true → true ≡ bad_marks p marks
   mean-bad e = bare-bad 0 e refl
 
   blocks-bad : some_combination (block_words p) (marked marks) ≡ true → true ≡ bad_marks p marks
@@ -80,9 +81,17 @@ module _ (p : Plan) (marks : List ℕ) where
     unfolding bad_marks
     none-bad = sym (some-false (length marks) (λ w. bad_mark p w (get_or marks w 0)) each)
 
-  pub blocks-or-none : any_over marks ≡ false → marked marks 0 ≡ false → some_combination (block_words p) (marked marks) ≡ bad_marks p marks
+  blocks-or-none : any_over marks ≡ false → marked marks 0 ≡ false → some_combination (block_words p) (marked marks) ≡ bad_marks p marks
   blocks-or-none over mean = by (some_combination (block_words p) (marked marks)) refl
     where
       by : (b : Bool) → some_combination (block_words p) (marked marks) ≡ b → some_combination (block_words p) (marked marks) ≡ bad_marks p marks
       by true e = e ∙ blocks-bad e
       by false e = e ∙ none-bad over mean e
+
+  pub judged : bad_marks p marks ≡ (any_over marks || (marked marks 0 || some_combination (block_words p) (marked marks)))
+  judged = by (any_over marks) (marked marks 0) refl refl
+    where
+      by : (a b : Bool) → any_over marks ≡ a → marked marks 0 ≡ b → bad_marks p marks ≡ (a || (b || some_combination (block_words p) (marked marks)))
+      by true b over mean = sym (over-bad over)
+      by false true over mean = sym (mean-bad mean)
+      by false false over mean = sym (blocks-or-none over mean)

@@ -2,12 +2,12 @@
 --
 --   rows_in p, row_count p       how many rows there are; for any plan, 0 where k is beyond every plan's
 --   wrong_rows p n               refusal 11: rows or marks are not R
---   Kind                         the four kinds of rows
+--   Kind                         the four kinds of rows, the code's own type
 --   marked marks w               row w has mark 1
 --   kind_by_mark, kind_of         what a row is, by its mark alone and in a plan
---   code_of, kind_in              the number by which code holds a kind, and the kind that a number stands for
+--   code_of, kind_in              the number of a kind, and the kind that a number stands for
 --   same c d                     two kinds are one
---   kinds_of p marks             the kinds of as many rows as the largest plan has, as code holds them
+--   kinds_of p marks             the kinds of as many rows as the largest plan has
 --   bad_mark, bad_marks          refusal 13, of one row and of all
 use Rattle.std.specs.Prelude.{Bool, not, cond, ◌&&◌, ◌||◌, List, ℕ, ◌^◌, eqb, ltb, length, get_or}
 use Rattle.algebra.specs.Search.{some}
@@ -15,6 +15,8 @@ use Rattle.algebra.specs.Tab.{tab}
 use Rattle.contrasts.specs.Limits.{most_two}
 use Rattle.plan.specs.declared.types.Plan.{Plan}
 use Rattle.plan.specs.Plan.{confounded_in}
+use Rattle.rows.specs.declared.kind.Kind.{Kind as RowKind}
+use Rattle.rows.specs.declared.kind.Kind.TheVariants.{Mean, Blocks, Error, Kept}
 
 -- V1: "There are R rows, 2 to the power k, numbered by their set of base letters."
 abbrev pub rows_in : Plan → ℕ
@@ -29,12 +31,21 @@ wrong_rows p n = not (eqb n (rows_in p))
 
 -- ---- kinds
 
--- V6 to V9: "Row 0 is the mean. Confounded rows are blocks. Rows with mark 1 are error; mark 0 keeps any other row."
-pub data Kind : Type 0 where
-  mean_row : Kind
-  blocks_row : Kind
-  error_row : Kind
-  kept_row : Kind
+-- V6 to V9: "Row 0 is the mean. Confounded rows are blocks. Rows with mark 1 are error; mark 0 keeps any other row." The code's own type
+abbrev pub Kind : Type 0
+Kind = RowKind
+
+pattern abbrev pub mean_row : Kind
+mean_row = Mean
+
+pattern abbrev pub blocks_row : Kind
+blocks_row = Blocks
+
+pattern abbrev pub error_row : Kind
+error_row = Error
+
+pattern abbrev pub kept_row : Kind
+kept_row = Kept
 
 -- V8: "Rows with mark 1 are error"; past the end of the marks there is none
 abbrev pub marked : List ℕ → ℕ → Bool
@@ -48,7 +59,7 @@ kind_by_mark m = cond (eqb m 1) error_row kept_row
 unfoldable pub kind_of : Plan → List ℕ → ℕ → Kind
 kind_of p marks w = cond (eqb w 0) mean_row (cond (confounded_in p w) blocks_row (kind_by_mark (get_or marks w 0)))
 
--- the numbers that code has for kinds; those of kept and error are the marks
+-- the numbers that the type has for kinds; those of kept and error are the marks
 abbrev pub code_of : Kind → ℕ
 code_of kept_row = 0
 code_of error_row = 1
@@ -63,8 +74,8 @@ kind_in n = cond (eqb n 1) error_row (cond (eqb n 2) mean_row (cond (eqb n 3) bl
 abbrev pub same : Kind → Kind → Bool
 same c d = eqb (code_of c) (code_of d)
 
-unfoldable pub kinds_of : Plan → List ℕ → List ℕ
-kinds_of p marks = tab 1024 (λ w. code_of (kind_of p marks w))
+unfoldable pub kinds_of : Plan → List ℕ → List Kind
+kinds_of p marks = tab 1024 (kind_of p marks)
 
 -- ---- refusal 13
 

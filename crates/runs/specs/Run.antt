@@ -8,13 +8,14 @@
 --   run_refusals p r               the refusals of the call besides those of the plan
 --   run_refused p r                the first number that applies, 0 where the run is given
 --   run_outcome                    the cases of the call's answer
-use Rattle.std.specs.Prelude.{Bool, not, cond, List, [], ◌∷◌, ℕ, ◌+◌, ◌-◌, eqb, ltb, leb, length, get_or}
+use Rattle.std.specs.Prelude.{Result, Bool, not, cond, List, [], ◌∷◌, ℕ, ◌+◌, ◌-◌, eqb, ltb, leb, length, get_or}
 use Rattle.contrasts.specs.Blocks.{block_of}
 use Rattle.words.specs.Words.{has, word_of, odd_in}
 use Rattle.plan.specs.declared.types.Plan.{Plan}
 use Rattle.runs.specs.declared.types.Run.{Run}
-use Rattle.runs.specs.declared.types.Run.TheVariants.{Treatment, Refused}
-use Rattle.plan.specs.Outcome.{Refusal, refusal, Outcome, given, refused}
+use Rattle.plan.specs.declared.refusals.Refusal as refusals
+use Rattle.plan.specs.Refusals.{outcome_by}
+use Rattle.plan.specs.Outcome.{Refusal, refusal, Outcome}
 use Rattle.plan.specs.Plan.{added_words, added_signs, block_words, three_word, factors_of, runs_of}
 use Rattle.plan.specs.Check.{with_plan}
 
@@ -52,6 +53,5 @@ unfoldable pub run_refused : Plan → ℕ → ℕ
 run_refused p r = with_plan p (run_refusals p r)
 
 -- F12
-abbrev pub run_outcome : Run → Outcome (ℕ × ℕ)
-run_outcome (Treatment high block) = given (high, block)
-run_outcome (Refused n) = refused n
+abbrev pub run_outcome : Result Run refusals.Refusal → Outcome (ℕ × ℕ)
+run_outcome answer = outcome_by (λ (run : Run). (run.high, run.block)) answer

@@ -1,7 +1,7 @@
 // Runs of plans.
 //
 //   run(p, number)   the letters that are high in a run, added factors included, and its block; at three levels no letters, and the block
-//   Run              its answer
+//   Run              both
 #![tactic(auto)]
 
 mod powers;

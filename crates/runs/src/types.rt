@@ -1,8 +1,8 @@
 // What the run call answers.
 
-// A run's letters that are high, as a set, and the number of its block.
-#[derive(Clone, Copy)]
-pub enum Run {
-    Treatment { high: u16, block: u8 },
-    Refused(u8),
+// The letters that are high in a run, as a set, and the number of its block.
+#[derive(Clone, Copy, PartialEq, Eq)]
+pub struct Run {
+    pub high: u16,
+    pub block: u8,
 }

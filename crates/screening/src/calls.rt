@@ -4,9 +4,9 @@ ghost use Rattle.anova.specs.Table.{table_figures, table_outcome};
 ghost use Rattle.plan.specs.Outcome.{outcome};
 ghost use Rattle.screening.specs.Screening.{screen_refused, screen_totals, screen_rows};
 
-use super::refusals::screen_refused;
-use anova::{Table, table};
-use plan::Plan;
+use super::refusals::check_screen;
+use anova::{Figures, table};
+use plan::{Plan, Refusal};
 
 // The table of a plan's readings, as the table call makes it, where the profile admits the plan and no main effect is marked as error.
 pub fn screen(
@@ -15,16 +15,13 @@ pub fn screen(
     marks: &[u8],
     totals: &mut [i64],
     rows: &mut [u64],
-) -> Table
+) -> Result<Figures, Refusal>
     ensures result_value { table_outcome result ≡ outcome
         (screen_refused p readings.now marks.now totals.old rows.old)
         (table_figures p readings.now marks.now) }
     ensures totals_after { totals.new ≡ screen_totals p readings.now marks.now totals.old rows.old }
     ensures rows_after { rows.new ≡ screen_rows p readings.now marks.now totals.old rows.old }
 {
-    let n = screen_refused(p, readings, marks, totals, rows);
-    if n != 0 {
-        return Table::Refused(n);
-    }
+    check_screen(p, readings, marks, totals, rows)?;
     table(p, readings, marks, totals, rows)
 }

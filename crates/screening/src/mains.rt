@@ -15,26 +15,15 @@ fn main_word(i: usize, k: usize, words: &[u16]) -> u16
     words[i - k]
 }
 
-// The base words of the main effects of all factors, at the first places.
-fn main_words(k: usize, words: &[u16]) -> [u16; 16]
+// The base words of the main effects of all factors, at the first places; k base factors, and the words of the added ones.
+pub fn main_words(k: usize, words: &[u16]) -> [u16; 16]
     requires { (k ≤ 10) × (length words.now ≤ 6) }
     ensures { take (k + length words.now) result
         ≡ tab (k + length words.now) (λ i. base_word k words.now (2 ^ i)) }
 {
-    let factors = k + words.len();
     let mut mains = [0u16; 16];
-    let mut i = 0;
-    while i < factors {
+    for i in 0..k + words.len() {
         mains[i] = main_word(i, k, words);
-        i += 1;
     }
     mains
-}
-
-// The same from a plan's own array, as far as its count reaches.
-pub fn factor_words(k: usize, added: usize, words: [u16; 6]) -> [u16; 16]
-    requires { (k ≤ 10) × (added ≤ 6) }
-    ensures { take (k + added) result ≡ tab (k + length (take added words)) (λ i. base_word k (take added words) (2 ^ i)) }
-{
-    main_words(k, &words[..added])
 }

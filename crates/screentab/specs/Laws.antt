@@ -5,8 +5,10 @@
 --   Lent      the columns that are lent to the screening call
 --   Sheets    the text of a sheet, as code writes it
 --   Inputs    the text of what the program has read of its input
+--   Places    the line of a refusal, by a buffer and a place
 pub mod Texts
 pub mod Numbers
 pub mod Lent
 pub mod Sheets
 pub mod Inputs
+pub mod Places

@@ -5,33 +5,23 @@
 
 mod texts;
 
-ghost use Rattle.std.specs.Prelude.{◌≡◌, List, ℕ, IfSome, IfErr, OnOk};
+ghost use Rattle.std.specs.Prelude.{◌≡◌, IfSome, IfErr, OnOk};
 ghost use Rattle.std.specs.Io.KnownBytes.{Appends, Keeps};
-ghost use Rattle.printing.specs.Input.{Holds};
 ghost use Rattle.screentab.specs.Screened.{screened_text};
 
-use input::{Input, read_input};
+use input::{Failure, Printer};
 use printing::{INPUT, TEXT};
 use std::io::{Read, Write};
 use texts::screened_input;
 
-// Why there is no text, or not all of it.
-#[derive(Clone, Copy)]
-enum Failure {
-    Read,
-    Write,
-}
+// The text of a sheet that screentab prints.
+struct Screened;
 
-// Writes the text of a sheet of which the first `count` bytes of the buffer are as much as there is room for.
-fn print_text<W: Write>(out: &mut W, input: &[u8; INPUT], count: usize) -> Result<(), Failure>
-    ensures text { (sheet : List ℕ) → Holds sheet input.now count → OnOk result (Appends (W.contents out.old) (W.contents out.new) (screened_text sheet)) }
-    ensures failure { IfErr result (λ why. why ≡ Failure.Write) }
-{
-    let mut text = [0u8; TEXT];
-    let n = screened_input(input, count, &mut text);
-    match out.write_all(&text[..n]) {
-        Ok(()) => Ok(()),
-        Err(_) => Err(Failure::Write),
+impl Printer for Screened {
+    ghost text_of = { screened_text };
+
+    fn print(&self, input: &[u8; INPUT], count: usize, text: &mut [u8; TEXT]) -> usize {
+        screened_input(input, count, text)
     }
 }
 
@@ -40,22 +30,12 @@ fn print_read<R: Read, W: Write>(reader: &mut R, out: &mut W) -> Result<(), Fail
     ensures text { OnOk result (IfSome (R.remaining reader.old) (λ sheet. Appends (W.contents out.old) (W.contents out.new) (screened_text sheet))) }
     ensures unread { IfErr result (λ why. why ≡ Failure.Read → Keeps (W.contents out.old) (W.contents out.new)) }
 {
-    let mut buffer = [0u8; INPUT];
-    match read_input(reader, &mut buffer) {
-        Input::Full(n) => print_text(out, &buffer, n),
-        Input::Ended(n) => print_text(out, &buffer, n),
-        Input::Failed => Err(Failure::Read),
-    }
+    input::print_read(&Screened, reader, out)
 }
 
+// (Each program says its own name.)
 fn main(rt: HostRuntime) {
-    match print_read(&mut rt.stdin(), &mut rt.stdout()) {
-        Ok(()) => {}
-        Err(Failure::Read) => {
-            let _ = rt.eprintln("screentab: the input cannot be read");
-        }
-        Err(Failure::Write) => {
-            let _ = rt.eprintln("screentab: the text cannot be written");
-        }
+    if let Err(failure) = print_read(&mut rt.stdin(), &mut rt.stdout()) {
+        let _ = eprintln!(rt; "screentab: {failure}");
     }
 }

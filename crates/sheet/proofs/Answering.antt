@@ -18,7 +18,9 @@ use Rattle.plan.specs.declared.types.Plan.{Plan}
 use Rattle.plan.specs.Check.{reading_count}
 use Rattle.plan.specs.Outcome.{Outcome, given, refused, outcome}
 use Rattle.plan.specs.Plan.{factors_of, all_readings}
-use Rattle.plan.proofs.Laws.Answers.{stopped, completed, unwritten, written_new}
+use Rattle.plan.specs.declared.refusals.Refusal.{Refusal}
+use Rattle.plan.specs.Refusals.{number}
+use Rattle.plan.proofs.Laws.Answers.{stops, number_some, completed, unwritten, written_new}
 use Rattle.plan.proofs.Laws.Sizes.{reading-count}
 use Rattle.columns.specs.Laws.Admitted.{all-readings}
 use Rattle.fields.specs.Fields.{fields_of, body_at}
@@ -54,11 +56,11 @@ module _ (sheet : List ℕ) (column : List ℤ) where
       (answer ≡ outcome (read_refused sheet (length column)) tt)
       × ((plan ≡ read_plan sheet (length column)) × (after ≡ read_column sheet column))
 
-  pub read-stopped : {n : ℕ} → n ≡ read_refused sheet (length column) → (n ≡ 0 → ⊥) → {plan : Plan} → plan ≡ no_plan → Told (refused n) plan column
+  pub read-stopped : (r : Refusal) → number r ≡ read_refused sheet (length column) → Told (refused (number r)) no_plan column
   unfolding read_plan read_column
-  read-stopped {n} e h q =
-      let s = stopped tt (readings_in (fields_of sheet) ++ drop (length (readings_in (fields_of sheet))) column) column e h in
-      (s.0, (q ∙ unwritten (read_refused sheet (length column)) (plan_in (fields_of sheet)) no_plan (λ d. h (e ∙ d)), s.1))
+  read-stopped r e =
+      let s = stops r tt (readings_in (fields_of sheet) ++ drop (length (readings_in (fields_of sheet))) column) column e in
+      (s.0, (unwritten (read_refused sheet (length column)) (plan_in (fields_of sheet)) no_plan (λ d. number_some r (e ∙ d)), s.1))
 
   module _ (z : read_refused sheet (length column) ≡ 0) where
     module _ {body : List ℕ} (is : body ≡ body_at 4 0 (fields_of sheet)) where
@@ -84,11 +86,11 @@ module _ (sheet : List ℕ) (column : List ℤ) where
 
 -- ---- the marks call
 
-module _ (sheet : List ℕ) {n : ℕ} (e : n ≡ marks_refused sheet) where
-  pub marks-stopped : (n ≡ 0 → ⊥) → [] ≡ marks_of sheet
+module _ (sheet : List ℕ) where
+  pub marks-stopped : (r : Refusal) → number r ≡ marks_refused sheet → [] ≡ marks_of sheet
   unfolding marks_of
-  marks-stopped h = unwritten (marks_refused sheet) (marks_in (fields_of sheet)) [] (λ d. h (e ∙ d))
+  marks-stopped r e = unwritten (marks_refused sheet) (marks_in (fields_of sheet)) [] (λ d. number_some r (e ∙ d))
 
-  pub marks-given : n ≡ 0 → {part : List ℕ} → part ≡ body_at 5 0 (fields_of sheet) → part ≡ marks_of sheet
+  pub marks-given : 0 ≡ marks_refused sheet → {part : List ℕ} → part ≡ body_at 5 0 (fields_of sheet) → part ≡ marks_of sheet
   unfolding marks_of
-  marks-given z q = q ∙ written_new (marks_refused sheet) (marks_in (fields_of sheet)) [] (sym e ∙ z)
+  marks-given e q = q ∙ written_new (marks_refused sheet) (marks_in (fields_of sheet)) [] (sym e)

@@ -6,12 +6,15 @@
 --   no_plan                                the plan of all zeros
 --   read_refused, read_plan, read_column   the reader
 --   marks_refused, marks_of                the marks call
-use Rattle.std.specs.Prelude.{Bool, false, cond, ◌||◌, List, [], ◌∷◌, ◌++◌, ℕ, ltb, ℤ, length, drop, replicate}
+--   sheet_outcome, plan_of                 the cases of the reader's answer, and its plan
+use Rattle.std.specs.Prelude.{Result, Ok, Err, Bool, false, cond, ◌||◌, List, [], ◌∷◌, ◌++◌, ℕ, ltb, ℤ, length, drop, replicate}
 use Rattle.contrasts.specs.Limits.{most_added, most_blocks}
 use Rattle.plan.specs.declared.types.Plan.{Plan}
 use Rattle.plan.specs.Check.{with_plan}
 use Rattle.plan.specs.Limits.{reading_limit}
-use Rattle.plan.specs.Outcome.{Refusal, refusal, written}
+use Rattle.plan.specs.declared.refusals.Refusal as refusals
+use Rattle.plan.specs.Refusals.{outcome_by}
+use Rattle.plan.specs.Outcome.{Outcome, Refusal, refusal, written}
 use Rattle.plan.specs.Plan.{all_readings}
 use Rattle.columns.specs.Refusals.{wrong_readings, any_beyond}
 use Rattle.rows.specs.Kinds.{wrong_rows, bad_marks}
@@ -82,3 +85,14 @@ marks_refused sheet = sheet_refused (fields_of sheet) false
 -- not where they lie (docs/DECISIONS.md 76)
 unfoldable pub marks_of : List ℕ → List ℕ
 marks_of sheet = written (marks_refused sheet) (marks_in (fields_of sheet)) []
+
+-- ---- the reader's answer
+
+-- F12: the plan stands by itself (`plan_of`)
+abbrev pub sheet_outcome : Result Plan refusals.Refusal → Outcome Unit
+sheet_outcome answer = outcome_by (λ p. tt) answer
+
+-- the plan, and where the sheet is refused that of all zeros
+abbrev pub plan_of : Result Plan refusals.Refusal → Plan
+plan_of (Ok p) = p
+plan_of (Err r) = no_plan

@@ -1,18 +1,20 @@
 // What is refused of a sheet.
 ghost use Rattle.std.specs.Prelude.{◌≡◌, ◌||◌};
 ghost use Rattle.plan.specs.Check.{plan_refused};
+ghost use Rattle.plan.specs.Refusals.{number_of};
 ghost use Rattle.columns.specs.Refusals.{wrong_readings};
 ghost use Rattle.rows.specs.Kinds.{wrong_rows};
 ghost use Rattle.fields.specs.Fields.{fields_of};
 ghost use Rattle.sheet.specs.Sheet.{refused_with};
 
 use contents::{any_beyond, needless_repeats};
-use fields::{bad_fields, body};
-use plan::{Plan, lowest};
+use fields::{Tag, bad_fields, body};
+use plan::{Plan, Refusal, check};
 use rows::{bad_marks, row_count};
 use sizes::reading_count;
 
 // Refusal 11, of an accepted plan; `narrow` says that the column has too few places.
+// (A type for accepted plans would be made for three private functions alone: no plainer.)
 fn wrong_lengths(p: Plan, narrow: bool, readings: usize, marks: usize) -> bool
     requires { plan_refused p ≡ 0 }
     ensures { result ≡ (narrow || (wrong_readings p readings || wrong_rows p marks)) }
@@ -26,32 +28,29 @@ fn wrong_lengths(p: Plan, narrow: bool, readings: usize, marks: usize) -> bool
     marks != row_count(p)
 }
 
-// The first number that applies to a sheet with such a plan, and 0 where none does.
-pub fn sheet_refused(sheet: &[u8], p: Plan, narrow: bool) -> u8
-    ensures { result ≡ refused_with (fields_of sheet.now) p narrow }
+// The first refusal that applies to a sheet with such a plan.
+pub fn check_sheet(sheet: &[u8], p: Plan, narrow: bool) -> Result<(), Refusal>
+    ensures { number_of result ≡ refused_with (fields_of sheet.now) p narrow }
 {
     if bad_fields(sheet) {
-        return 1;
+        return Err(Refusal::Sheet);
     }
-    let n = lowest(p);
-    if n != 0 {
-        return n;
-    }
-    let readings = body(sheet, 4, 0);
-    let marks = body(sheet, 5, 0);
+    check(p)?;
+    let readings = body(sheet, Tag::Readings as u8, 0);
+    let marks = body(sheet, Tag::Marks as u8, 0);
     let needless = needless_repeats(sheet);
     let wrong = wrong_lengths(p, narrow, readings.len() / 4, marks.len());
     if needless {
-        return 16;
+        return Err(Refusal::Repeats);
     }
     if wrong {
-        return 11;
+        return Err(Refusal::Length);
     }
     if any_beyond(p, readings) {
-        return 12;
+        return Err(Refusal::Beyond);
     }
     if bad_marks(p, marks) {
-        return 13;
+        return Err(Refusal::Marks);
     }
-    0
+    Ok(())
 }

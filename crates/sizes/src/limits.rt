@@ -9,6 +9,7 @@ const TWO_READING_LIMIT: u32 = 1_000_000;
 const THREE_READING_LIMIT: u32 = 100_000;
 
 // The limit of a reading either way, by the levels.
+#[tactic(auto, unfolding(plan::specs::Limits::reading_limit, contrasts::specs::Limits::two_reading_limit, contrasts::specs::Limits::three_reading_limit))]
 pub fn reading_limit(p: Plan) -> u32
     ensures { result ≡ reading_limit p }
 {
@@ -23,16 +24,13 @@ pub fn reading_limit(p: Plan) -> u32
 pub fn run_limit(p: Plan) -> u32
     ensures { result ≡ run_limit p }
 {
-    p.repeats as u32 * reading_limit(p)
+    u32::from(p.repeats) * reading_limit(p)
 }
 
 // Whether a number is beyond a limit either way.
+#[tactic(auto, unfolding(plan::specs::Limits::is_beyond))]
 pub fn is_beyond(x: i64, limit: u32) -> bool
     ensures { result ≡ is_beyond limit x }
 {
-    let most = limit as i64;
-    if most < x {
-        return true;
-    }
-    x < -most
+    x.unsigned_abs() > u64::from(limit)
 }

@@ -1,29 +1,26 @@
 -- A table of a sheet.
 --
---   slices-not, slices-by    whether totals and rows have other lengths, as the code compares
 --   sheet-number             the number of the call, as the code forms it
 --   room_for                 the readings of an accepted sheet have room in a column of 1,024
 --   sheet-made               the table call on what the sheet holds
 --   filled-long              a column whose first places were filled with readings has so many
 --   filled-readings          and these are its first
 use mathlib.Core.Path.{◌≡◌, refl, sym, ap, ◌∙◌}
-use mathlib.Core.Bool.{Bool, true, not}
+use mathlib.Core.Bool.{Bool}
 use mathlib.Core.List.{List, ◌++◌}
 use Prim.Native.Nat.{ℕ, ◌/◌, ◌≤◌}
 use native.Mathlib.Omega.{arith}
-use borrow.Author.Tests.{eq-eqb, ne_eqb}
-use lib.Dec.{eqb}
 use lib.IntN.{ℤ}
 use lib.ListN.{length, take, length-append}
 use lib.Seq.{take_at}
 use Rattle.algebra.specs.Laws.Tests.{neither}
 use Rattle.plan.specs.declared.types.Plan.{Plan}
-use Rattle.plan.specs.Check.{plan_refused, run_count}
+use Rattle.plan.specs.Check.{plan_refused}
 use Rattle.plan.specs.Plan.{factors_of, all_readings}
 use Rattle.plan.proofs.Laws.Sizes.{run-count, readings-few}
 use Rattle.columns.specs.Refusals.{wrong_length}
 use Rattle.columns.specs.Laws.Admitted.{all-readings, as_long}
-use Rattle.rows.specs.Kinds.{row_count, wrong_rows}
+use Rattle.rows.specs.Kinds.{wrong_rows}
 use Rattle.rows.proofs.Laws.Rows.{row-count, rows-as-long}
 use Rattle.fields.specs.Fields.{fields_of, body_at}
 use Rattle.contents.specs.Contents.{plan_in, readings_of, readings_in, marks_in}
@@ -39,17 +36,6 @@ use Rattle.figures.specs.Numbers.{TableLeft}
 use Rattle.tables.specs.Sheets.{wrong_slices, sheet_table_refused}
 use Rattle.tables.specs.Inner.Slices.{other_slices}
 use Rattle.figures.specs.Laws.Roomed.{same-call}
-
--- ---- the lengths
-
-module _ (p : Plan) (totals rows : ℕ) {n : ℕ} (count : n ≡ run_count p) where
-  pub slices-not : (totals ≡ n → ⊥) → true ≡ other_slices p totals rows
-  unfolding other_slices
-  slices-not h = rw (ne_eqb totals (run_count p) (λ d. h (d ∙ sym count))) refl
-
-  pub slices-by : totals ≡ n → {m : ℕ} → m ≡ row_count p → not (eqb rows m) ≡ other_slices p totals rows
-  unfolding other_slices
-  slices-by h own = rw (eq-eqb totals (run_count p) (h ∙ count), own) refl
 
 -- ---- the number
 

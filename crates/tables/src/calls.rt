@@ -4,18 +4,19 @@ ghost use Rattle.fields.specs.Fields.{fields_of};
 ghost use Rattle.contents.specs.Contents.{plan_in, readings_in, marks_in};
 ghost use Rattle.anova.specs.Table.{table_refused};
 ghost use Rattle.screening.specs.Screening.{screen_refused};
+ghost use Rattle.plan.specs.Refusals.{number_of};
 ghost use Rattle.heads.specs.Heads.{head_plan, called};
 ghost use Rattle.figures.specs.Numbers.{TableLeft};
 ghost use Rattle.tables.specs.Sheets.{sheet_table_refused};
 ghost use Rattle.tables.specs.Inner.Slices.{other_slices};
 
 use contents::{plan_in, put_readings};
-use fields::body;
+use fields::{Tag, body};
 use figures::{screened, tabulate};
-use heads::refused;
-use plan::Plan;
+use heads::read_head;
+use plan::{Plan, Refusal};
 use rows::row_count;
-use sheet::sheet_refused;
+use sheet::check_sheet;
 use sizes::runs;
 
 // The most readings of a plan.
@@ -30,22 +31,19 @@ pub fn table(
     rows: &mut [u64],
     figures: &mut [u64; 11],
     checks: &mut [i64; 2],
-) -> u8
+) -> Result<(), Refusal>
     ensures { TableLeft
         (called head.now (λ p. table_refused p readings.now marks.now totals.old rows.old))
         (head_plan head.now) readings.now marks.now
         totals.old rows.old figures.old checks.old
-        result totals.new rows.new figures.new checks.new }
+        (number_of result) totals.new rows.new figures.new checks.new }
 {
-    let n = refused(head);
-    if n != 0 {
-        return n;
-    }
-    let p = plan_in(head);
+    let p = read_head(head)?;
     tabulate(p, readings, marks, totals, rows, figures, checks)
 }
 
-// The same by the screening profile.
+// The same by the screening profile. One function for both would take the call as a closure over the slices, with a contract on what it leaves
+// there: no plainer than these two lines.
 pub fn screen(
     head: &[u8],
     readings: &[i32],
@@ -54,29 +52,23 @@ pub fn screen(
     rows: &mut [u64],
     figures: &mut [u64; 11],
     checks: &mut [i64; 2],
-) -> u8
+) -> Result<(), Refusal>
     ensures { TableLeft
         (called head.now (λ p. screen_refused p readings.now marks.now totals.old rows.old))
         (head_plan head.now) readings.now marks.now
         totals.old rows.old figures.old checks.old
-        result totals.new rows.new figures.new checks.new }
+        (number_of result) totals.new rows.new figures.new checks.new }
 {
-    let n = refused(head);
-    if n != 0 {
-        return n;
-    }
-    let p = plan_in(head);
+    let p = read_head(head)?;
     screened(p, readings, marks, totals, rows, figures, checks)
 }
 
 // Whether totals and rows have other lengths than the plan's.
+#[tactic(auto, unfolding(crate::specs::Inner::Slices::other_slices))]
 fn other_slices(p: Plan, totals: usize, own: usize) -> bool
     ensures { result ≡ other_slices p totals own }
 {
-    if totals != runs(p) {
-        return true;
-    }
-    own != row_count(p)
+    totals != runs(p) || own != row_count(p)
 }
 
 // The table of a sheet.
@@ -86,21 +78,18 @@ pub fn sheet_table(
     rows: &mut [u64],
     figures: &mut [u64; 11],
     checks: &mut [i64; 2],
-) -> u8
+) -> Result<(), Refusal>
     ensures { TableLeft
         (sheet_table_refused sheet.now (length totals.old) (length rows.old))
         (plan_in (fields_of sheet.now)) (readings_in (fields_of sheet.now)) (marks_in (fields_of sheet.now))
         totals.old rows.old figures.old checks.old
-        result totals.new rows.new figures.new checks.new }
+        (number_of result) totals.new rows.new figures.new checks.new }
 {
     let p = plan_in(sheet);
     let other = other_slices(p, totals.len(), rows.len());
-    let n = sheet_refused(sheet, p, other);
-    if n != 0 {
-        return n;
-    }
-    let readings = body(sheet, 4, 0);
-    let marks = body(sheet, 5, 0);
+    check_sheet(sheet, p, other)?;
+    let readings = body(sheet, Tag::Readings as u8, 0);
+    let marks = body(sheet, Tag::Marks as u8, 0);
     let count = readings.len() / 4;
     let mut column = [0i32; MOST];
     put_readings(readings, &mut column[..count]);

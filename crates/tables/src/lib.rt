@@ -5,7 +5,7 @@
 //   screen(the same)                                               the same by the screening profile
 //   sheet_table(sheet, totals, rows, figures, checks)              the table of a sheet
 //
-// Each gives 0 where it is done and the number of the refusal where it is not, and then no place that it was lent has changed.
+// Each answers the refusal where it is not done, and then no place that it was lent has changed.
 #![tactic(auto)]
 
 mod calls;

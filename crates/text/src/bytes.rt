@@ -1,51 +1,64 @@
-// Bytes, parts and letters.
-ghost use Rattle.std.specs.Prelude.{[], ◌∷◌, ◌<◌};
-ghost use Rattle.text.specs.Text.{Wrote};
-ghost use Rattle.text.specs.Spelled.{letter_of, letters_of};
+// Texts: bytes, parts and letters.
+ghost use Rattle.std.specs.Prelude.{◌≡◌, [], ◌∷◌, ◌≤◌, length, take};
+ghost use Rattle.text.specs.Text.{Writes};
+ghost use Rattle.text.specs.Spelled.{letters_of};
 
 use words::has_letter;
 
-pub fn put(text: &mut [u8], at: usize, byte: u8) -> usize
-    ensures { Wrote text.old at (byte ∷ []) text.new result }
-{
-    if at < text.len() {
-        text[at] = byte;
-        return at + 1;
-    }
-    at
+// The bytes of the buffer before the place `at`.
+#[derive(Drop)]
+pub struct Text<'a> {
+    pub buffer: &'a mut [u8],
+    pub at: usize,
 }
 
-pub fn copy(text: &mut [u8], at: usize, part: &[u8]) -> usize
-    ensures { Wrote text.old at part.now text.new result }
-{
-    let mut next = at;
-    let mut i = 0;
-    while i < part.len() {
-        next = put(text, next, part[i]);
-        i += 1;
+impl<'a> Text<'a> {
+    pub fn new(buffer: &'a mut [u8]) -> Text<'a>
+        ensures lent { result.buffer.ghost_name ≡ buffer.entry.ghost_name }
+        ensures bytes { result.buffer.now ≡ buffer.old }
+        ensures empty { result.at ≡ 0 }
+    {
+        Text { buffer, at: 0 }
     }
-    next
-}
 
-// Letter i of a word, A for 0, if the word has it.
-fn put_letter(text: &mut [u8], at: usize, word: u16, i: u8) -> usize
-    requires { i < 16 }
-    ensures { Wrote text.old at (letter_of word i) text.new result }
-{
-    if has_letter(word, i as usize) {
-        return put(text, at, b'A' + i);
+    pub fn len(&self) -> usize
+        ensures { result ≡ self.now.at }
+    {
+        self.at
     }
-    at
-}
 
-pub fn letters(text: &mut [u8], at: usize, word: u16) -> usize
-    ensures { Wrote text.old at (letters_of word) text.new result }
-{
-    let mut next = at;
-    let mut i: u8 = 0;
-    while i < 16 {
-        next = put_letter(text, next, word, i);
-        i += 1;
+    // Its bytes.
+    pub fn bytes(&self) -> &[u8]
+        requires { self.now.at ≤ length self.now.buffer.now }
+        ensures { result.now ≡ take self.now.at self.now.buffer.now }
+    {
+        &self.buffer[..self.at]
     }
-    next
+
+    pub fn put(&mut self, byte: u8)
+        ensures { Writes self.old (byte ∷ []) self.new }
+    {
+        if self.at < self.buffer.len() {
+            self.buffer[self.at] = byte;
+            self.at += 1;
+        }
+    }
+
+    pub fn copy(&mut self, part: &[u8])
+        ensures { Writes self.old part.now self.new }
+    {
+        for byte in part {
+            self.put(*byte);
+        }
+    }
+
+    pub fn letters(&mut self, word: u16)
+        ensures { Writes self.old (letters_of word) self.new }
+    {
+        for i in 0..16 {
+            if has_letter(word, i as usize) {
+                self.put(b'A' + i);
+            }
+        }
+    }
 }

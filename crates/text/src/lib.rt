@@ -1,14 +1,16 @@
-// Text in a lent buffer. Each call writes from a place on, as far as the buffer has places, and gives the place after what it wrote.
+// A text in a lent buffer. Each call writes from the text's end on, as far as the buffer has places.
 //
-//   put(text, at, byte)       a byte
-//   copy(text, at, part)      the bytes of a part
-//   letters(text, at, word)   the letters of a word, A first
-//   number(text, at, n)       a number in decimal
-//   value(text, at, x)        the same of a value that may be below 0
+//   Text::new(buffer)    an empty text at the buffer's start
+//   text.put(byte)       a byte
+//   text.copy(part)      the bytes of a part
+//   text.letters(word)   the letters of a word, A first
+//   text.number(n)       a number in decimal
+//   text.value(x)        the same of a value that may be below 0
+//   text.len()           how many bytes it has
+//   text.bytes()         those bytes
 #![tactic(auto)]
 
 mod bytes;
 mod numbers;
 
-pub use bytes::{copy, letters, put};
-pub use numbers::{number, value};
+pub use bytes::Text;

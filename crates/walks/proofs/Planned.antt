@@ -17,7 +17,7 @@ use Rattle.plan.specs.declared.types.Plan.{Plan}
 use Rattle.plan.proofs.Laws.Accepted.{accepted}
 use Rattle.plan.proofs.Laws.Sizes.{runs-few, runs-two}
 use Rattle.plan.specs.Plan.{factors_of, runs_of}
-use Rattle.rows.specs.Kinds.{rows_in, kinds_of}
+use Rattle.rows.specs.Kinds.{rows_in, Kind, kinds_of}
 use Rattle.rows.proofs.Laws.Rows.{rows_few}
 use Rattle.walks.specs.declared.types.Sums.{Sums}
 use Rattle.walks.specs.After.{kind_at, numerator_at, rows_after, sums_after}
@@ -45,7 +45,7 @@ module _ {p : Plan} {ts : List ℤ} {rows : List ℕ} (pre : PlanWalkable p ts r
   unfolding rows_after
   all_made w = (w.sums-are, w.rows_are)
 
-  module _ {kinds : List ℕ} (kinds-are : kinds ≡ kinds_of p marks) where
+  module _ {kinds : List Kind} (kinds-are : kinds ≡ kinds_of p marks) where
     kinds-count : length kinds ≡ 1024
     unfolding kinds_of
     kinds-count = rw kinds-are (length-tab 1024 _)

@@ -1,16 +1,15 @@
 -- The loops over the totals.
 --
---   Clearing xs i ys                               the first i rows are 0
---   clearing-none, clearing-more, clearing-all     before the first row, after one more, after the last
+--   cleared                                        rows of 0
 --   square-kept, numerator-kept                    a total squared, and times its weight, of a total as code holds it
 --   product-fits, product_is                       a numerator
 --   pairs-none, pairs-more, pairs-all              the loop at two levels before the first total, after two more, after the last
 --   second-there                                   a turn is two effects
---   brings-two, between                            what an effect brings fits; what the loop holds between the two
+--   brings-two                                     what an effect brings fits
 --   threes-none, threes-more, threes-all           the loop at three levels
 --   brings-three                                   what an effect brings fits
 --   gatherable, check-fits                         and so do the sums
-use mathlib.Core.Path.{◌≡◌, refl, sym, ◌∙◌, ap}
+use mathlib.Core.Path.{◌≡◌, refl, sym, ◌∙◌}
 use mathlib.Core.List.{List}
 use Prim.Native.Nat.{ℕ, suc, ◌+◌, ◌*◌, ◌%◌, ◌^◌, ◌<◌, ◌≤◌}
 use native.Mathlib.Nat.{mod-lt, mul-mod_right, add-mul-mod_self_left}
@@ -21,37 +20,26 @@ use lib.Signed.{mag}
 use lib.IntN.{ℤ, pos, nat_abs, ◌+ℤ◌}
 use lib.ListN.{length, get_or, set, replicate}
 use mir.Syntax.{w64}
-use mir.Val.{SFits, to_z, of_z}
+use mir.Val.{SFits}
 use mir.Facts.{to_z-of_z}
-use Rattle.algebra.specs.Laws.Fill.{Filled, filled_none, filled-long, filled_more, filled-all}
+use Rattle.std.proofs.lemmas.List.{length-replicate, get_or-replicate}
+use Rattle.algebra.specs.Laws.Tab.{is-tab}
 use Rattle.algebra.specs.Laws.Machine.{fits, wrap}
 use Rattle.algebra.proofs.Laws.Machine.{back, kept}
 use Rattle.algebra.specs.Sum.{Σ}
 use Rattle.contrasts.specs.Columns.{read}
 use Rattle.contrasts.specs.Totals.{Column}
-use Rattle.walks.specs.State.{place_of, plus_at, brought, held_in, zeros, Held, Holding, course_two, course_three, RunningTwo, RunningThree}
+use Rattle.rows.specs.Kinds.{Kind, kept_row}
+use Rattle.walks.specs.State.{code_at, place_of, plus_at, brought, held_in, zeros, Held, Holding, course_two, course_three, RunningTwo, RunningThree}
 use Rattle.walks.specs.Inner.Ready.{Weighable, Gatherable, BringsTwo, BringsThree, Walkable, WalkableTwo, WalkableThree}
 use Rattle.walks.specs.Inner.Walk.{Walking, WalkingTwo, WalkingThree, Walked, WalkedTwo, WalkedThree}
 use Rattle.walks.proofs.Laws.Walking.{sum-small, total-small, numerator-small, rows_long, sums-within, row_fits, addable, sums-held, two-walks, three-walks}
 
 -- ---- rows of 0
 
-pub record Clearing (xs : List ℕ) (i : ℕ) (ys : List ℕ) : Type 0 where
-  pub so : Filled (length xs) (λ w. 0) (λ w. get_or xs w 0) i ys
-
-pub clearing-none : (xs : List ℕ) → Clearing xs 0 xs
-clearing-none xs = record { so = filled_none 0 (length xs) (λ w. 0) (λ w. get_or xs w 0) xs refl (λ j h. refl) }
-
-module _ {xs : List ℕ} {i : ℕ} {ys : List ℕ} (w : Clearing xs i ys) where
-  pub clearing-long : length ys ≡ length xs
-  clearing-long = filled-long 0 w.so
-
-  pub clearing-more : i < length ys → Clearing xs (i + 1) (set ys i 0)
-  clearing-more h = record { so = filled_more 0 w.so (omega (arith, clearing-long)) refl }
-
-  pub clearing-all : length ys ≤ i → ys ≡ zeros (length xs)
-  unfolding zeros
-  clearing-all h = filled-all 0 w.so (omega (arith, clearing-long))
+pub cleared : (n : ℕ) {rows : List ℕ} → rows ≡ replicate n 0 → rows ≡ zeros n
+unfolding zeros
+cleared n e = e ∙ is-tab 0 (replicate n 0) n (λ w. 0) (length-replicate n 0) (λ w h. get_or-replicate n w 0 0 h)
 
 -- ---- a numerator
 
@@ -111,7 +99,7 @@ module _ {row num kind : ℕ → ℕ} {t : Column} {n r : ℕ} (pre : Walkable r
 
 -- ---- two levels
 
-module _ {ts : List ℤ} {kinds rows₀ : List ℕ} (pre : WalkableTwo ts kinds rows₀) where
+module _ {ts : List ℤ} {kinds : List Kind} {rows₀ : List ℕ} (pre : WalkableTwo ts kinds rows₀) where
   pub pairs-none : RunningTwo ts kinds (length rows₀) 0 rows₀ (replicate 16 0) (pos 0)
   unfolding course_two
   pairs-none =
@@ -136,7 +124,7 @@ module _ {ts : List ℤ} {kinds rows₀ : List ℕ} (pre : WalkableTwo ts kinds 
     pub two_fits : SFits w64 (s +ℤ wrap (read ts e))
     two_fits = check-fits pre.walkable walk held low
 
-    pub brings-two : (half : ℕ) → half < 2 → BringsTwo e (wrap (read ts e)) (get_or kinds e 0) half rows parts
+    pub brings-two : (half : ℕ) → half < 2 → BringsTwo e (wrap (read ts e)) (get_or kinds e kept_row) half rows parts
     brings-two half b =
         rw own-total
         (record {
@@ -149,7 +137,7 @@ module _ {ts : List ℤ} {kinds rows₀ : List ℕ} (pre : WalkableTwo ts kinds 
     -- what the loop holds after one more effect
     pub two-more : (half : ℕ) → half ≡ e % 2 → {rows' parts' : List ℕ}
         → (rows' ≡ set rows e (nat_abs (wrap (read ts e)) * nat_abs (wrap (read ts e))))
-        × (parts' ≡ brought parts (place_of (get_or kinds e 0) half) (nat_abs (wrap (read ts e)) * nat_abs (wrap (read ts e))))
+        × (parts' ≡ brought parts (place_of (code_at kinds e) half) (nat_abs (wrap (read ts e)) * nat_abs (wrap (read ts e))))
         → Holding (course_two ts kinds (length rows₀) (e + 1)) rows' parts' (wrap (s +ℤ wrap (read ts e)))
     unfolding course_two
     two-more half b h =
@@ -182,14 +170,14 @@ module _ {ts : List ℤ} {kinds rows₀ : List ℕ} (pre : WalkableTwo ts kinds 
     pub second-half : 1 ≡ (e + 1) % 2
     second-half = let z : e + 1 ≡ 1 + 2 * w.pairs = omega (arith, w.in_pairs) in sym (rw z (add-mul-mod_self_left 1 2 w.pairs))
 
-    pub pairs-more : e < length ts → {rows' parts' : List ℕ} {s' : ℤ} → Holding (course_two ts kinds (length rows₀) (e + 1 + 1)) rows' parts' s'
-        → RunningTwo ts kinds (length rows₀) (e + 1 + 1) rows' parts' s'
-    pairs-more low h =
-        record { upto = omega (arith, second-there low); pairs = w.pairs + 1; in_pairs = omega (arith, w.in_pairs); holding = h }
+    pub pairs-more : e < length ts → {m : ℕ} → m ≡ e + 1 + 1 → {rows' parts' : List ℕ} {s' : ℤ}
+        → Holding (course_two ts kinds (length rows₀) (e + 1 + 1)) rows' parts' s' → RunningTwo ts kinds (length rows₀) m rows' parts' s'
+    pairs-more low d h =
+        rw d (record { upto = omega (arith, second-there low); pairs = w.pairs + 1; in_pairs = omega (arith, w.in_pairs); holding = h })
 
 -- ---- three levels
 
-module _ {ts : List ℤ} {effects weights kinds rows₀ : List ℕ} (pre : WalkableThree ts effects weights kinds rows₀) where
+module _ {ts : List ℤ} {effects weights : List ℕ} {kinds : List Kind} {rows₀ : List ℕ} (pre : WalkableThree ts effects weights kinds rows₀) where
   pub threes-none : RunningThree ts effects weights kinds (length rows₀) 0 rows₀ (replicate 16 0) (pos 0)
   unfolding course_three
   threes-none = record { upto = omega arith; holding = record { rows_are = pre.cleared; parts_are = refl; sum_is = refl } }
@@ -221,7 +209,7 @@ module _ {ts : List ℤ} {effects weights kinds rows₀ : List ℕ} (pre : Walka
       own-half : e % 2 < 2
       own-half = mod-lt e (lit< tt)
 
-      pub brings-three : BringsThree (get_or effects e 0) (wrap (read ts e)) (get_or weights e 0) (get_or kinds (get_or effects e 0) 0) (e % 2) rows parts
+      pub brings-three : BringsThree (get_or effects e 0) (wrap (read ts e)) (get_or weights e 0) (get_or kinds (get_or effects e 0) kept_row) (e % 2) rows parts
       brings-three =
           rw own-total₃
           (record {
@@ -237,7 +225,7 @@ module _ {ts : List ℤ} {effects weights kinds rows₀ : List ℕ} (pre : Walka
 
       pub threes-more : {rows' parts' : List ℕ}
           → (rows' ≡ plus_at rows (get_or effects e 0) (nat_abs (wrap (read ts e)) * nat_abs (wrap (read ts e)) * get_or weights e 0))
-          × (parts' ≡ brought parts (place_of (get_or kinds (get_or effects e 0) 0) (e % 2)) (nat_abs (wrap (read ts e)) * nat_abs (wrap (read ts e)) * get_or weights e 0))
+          × (parts' ≡ brought parts (place_of (code_at kinds (get_or effects e 0)) (e % 2)) (nat_abs (wrap (read ts e)) * nat_abs (wrap (read ts e)) * get_or weights e 0))
           → RunningThree ts effects weights kinds (length rows₀) (e + 1) rows' parts' (wrap (s +ℤ wrap (read ts e)))
       unfolding course_three
       threes-more h =

@@ -1,16 +1,19 @@
 // The sums of the four kinds while the walk goes on. Each sum is held in two parts, to which successive effects are added in turn: an addition
 // then waits for the last but one before it, and not for the last. A part's degrees stand beside its numerators, so that both are added at once.
+// They are one list of 16 numbers, and no structs, since `held_in` and the courses of specs/State, of which the claim `OneWalk` speaks, are of such a list.
 ghost use Rattle.std.specs.Prelude.{◌≡◌, ◌<◌};
 ghost use Rattle.algebra.specs.Tab.{tab};
+ghost use Rattle.rows.specs.Kinds.{code_of};
 ghost use Rattle.walks.specs.State.{brought, held_in, place_of, sum_in, two_parts};
 ghost use Rattle.walks.specs.Inner.Ready.{Addable, Joinable, Gatherable};
 
 use super::types::Sums;
+use rows::Kind;
 
 // Where a part of a kind's sum stands: the first, 0, or the second, 1.
-pub fn place_of(kind: u8, half: usize) -> usize
+pub fn place_of(kind: Kind, half: usize) -> usize
     requires { half < 2 }
-    ensures { result ≡ place_of kind half }
+    ensures { result ≡ place_of (code_of kind) half }
 {
     4 * (kind as usize) + 2 * half
 }

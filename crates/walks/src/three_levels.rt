@@ -6,13 +6,14 @@ ghost use Rattle.walks.specs.Inner.Walk.{WalkedThree};
 use super::bringing::bring_three;
 use super::parts::gather;
 use super::types::Sums;
+use rows::Kind;
 
 // Each effect has a row and a weight. The parts of the sums take turns.
 pub fn walk_three(
     totals: &[i64],
     effects: &[u16],
     weights: &[u32],
-    kinds: &[u8],
+    kinds: &[Kind],
     rows: &mut [u64],
 ) -> Sums
     requires { WalkableThree totals.now effects.now weights.now kinds.now rows.old }
@@ -20,13 +21,10 @@ pub fn walk_three(
 {
     let mut parts = [0u64; 16];
     let mut sum = 0;
-    let mut e = 0;
-    while e < totals.len() {
-        let total = totals[e];
+    for (e, total) in totals.iter().enumerate() {
         let row = effects[e] as usize;
-        bring_three(row, total, weights[e], kinds[row], e % 2, rows, &mut parts);
-        sum += total;
-        e += 1;
+        bring_three(row, *total, weights[e], kinds[row], e % 2, rows, &mut parts);
+        sum += *total;
     }
     gather(&parts, sum)
 }

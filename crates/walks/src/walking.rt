@@ -13,17 +13,16 @@ use effects::weights;
 use plan::Plan;
 use rows::kinds;
 
+// All rows are 0.
+#[tactic(auto, using(crate::proofs::Walked::cleared))]
 fn clear(rows: &mut [u64])
     ensures { rows.new ≡ zeros (length rows.old) }
 {
-    let mut row = 0;
-    while row < rows.len() {
-        rows[row] = 0;
-        row += 1;
-    }
+    rows.fill(0);
 }
 
 // All totals of a plan: each brings its numerator to its row and to the sum of its row's kind, and a degree with it.
+// The arms take different lists, and each is a loop of its own for speed: no trait would be plainer.
 pub fn walk(p: Plan, totals: &[i64], marks: &[u8], rows: &mut [u64]) -> Sums
     requires { PlanWalkable p totals.now rows.old }
     ensures value { result ≡ sums_after p (read totals.now) marks.now (runs_of p) }

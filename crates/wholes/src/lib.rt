@@ -6,7 +6,7 @@
 //   recover(levels, k, repeats, totals, readings)   the readings that have these totals; of runs that are made more than once, the run sums
 //   table(levels, k, repeats, readings, marks, totals, rows, figures, checks)   the analysis of variance
 //
-// Each gives 0 where it is done and the number of the refusal where it is not, and then no place that it was lent has changed.
+// Each answers the refusal where it is not done, and then no place that it was lent has changed.
 #![tactic(auto)]
 
 mod calls;

@@ -10,6 +10,7 @@
 --   times, combined          how often a letter occurs in some words, and the word that they combine to
 --   any f ws                 f holds of one of the words
 --   among w ws, repeated     w is one of them, and one word is there twice
+use Rattle.std.specs.List.{list_any}
 use Rattle.std.specs.Prelude.{Bool, not, ◌&&◌, List, ℕ, ◌+◌, ◌*◌, ◌-◌, ◌%◌, eqb, leb, length, get_or, take}
 use Rattle.algebra.specs.Naturals.{Σℕ}
 use Rattle.algebra.specs.Bits.{bit, bits, is_set}
@@ -66,7 +67,7 @@ unfoldable pub combined : ℕ → ℕ → List ℕ → ℕ
 combined w choice ws = word_of 16 (λ i. odd (times w choice ws i))
 
 unfoldable pub any : (ℕ → Bool) → List ℕ → Bool
-any f ws = some (length ws) (λ j. f (get_or ws j 0))
+any f ws = list_any f ws
 
 unfoldable pub among : ℕ → List ℕ → Bool
 among w ws = any (λ v. eqb v w) ws

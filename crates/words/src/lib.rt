@@ -8,10 +8,11 @@
 //   is_among(word, words)            whether the word is one of the words
 //   is_repeated(words)               whether one of them is there twice
 //   combine(first, chosen, words)    the first word combined with those of the words that are chosen
+//   choices(words)                   how many ways there are to choose some of so many words
 #![tactic(auto)]
 
 mod letters;
 mod lists;
 
 pub use letters::{count_letters, has_beyond, has_letter, is_odd, is_odd_word};
-pub use lists::{combine, is_among, is_repeated};
+pub use lists::{choices, combine, is_among, is_repeated};

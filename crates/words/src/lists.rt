@@ -1,34 +1,26 @@
 // Several words: whether one is among them, and what they combine to.
-ghost use Rattle.std.specs.Prelude.{◌≡◌, cond};
+ghost use Rattle.std.specs.Prelude.{◌≡◌, ◌^◌, ◌≤◌, cond};
 ghost use Rattle.std.specs.Int.Bits.{bit_xor};
 ghost use Rattle.words.specs.Words.{among, repeated, combined};
 
 use super::letters::has_letter;
 
 // Whether the word is one of the words.
+#[tactic(auto, unfolding(crate::specs::Words::among, crate::specs::Words::any))]
 pub fn is_among(word: u16, words: &[u16]) -> bool
     ensures { result ≡ among word words.now }
 {
-    let mut i = 0;
-    while i < words.len() {
-        if words[i] == word {
-            return true;
-        }
-        i += 1;
-    }
-    false
+    words.iter().any(|other| *other == word)
 }
 
 // Whether a word occurs twice: it is among those before it.
 pub fn is_repeated(words: &[u16]) -> bool
     ensures { result ≡ repeated words.now }
 {
-    let mut i = 0;
-    while i < words.len() {
-        if is_among(words[i], &words[..i]) {
+    for (i, word) in words.iter().enumerate() {
+        if is_among(*word, &words[..i]) {
             return true;
         }
-        i += 1;
     }
     false
 }
@@ -45,10 +37,16 @@ pub fn combine(first: u16, chosen: u16, words: &[u16]) -> u16
     ensures { result ≡ combined first chosen words.now }
 {
     let mut word = first;
-    let mut j = 0;
-    while j < words.len() {
-        word = combine_if(has_letter(chosen, j), word, words[j]);
-        j += 1;
+    for (j, other) in words.iter().enumerate() {
+        word = combine_if(has_letter(chosen, j), word, *other);
     }
     word
+}
+
+// How many ways there are to choose none, some or all of so many words.
+pub fn choices(words: usize) -> u16
+    requires { words ≤ 4 }
+    ensures { (result ≡ 2 ^ words) × (result ≤ 16) }
+{
+    1u16 << words
 }

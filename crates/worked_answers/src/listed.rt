@@ -1,11 +1,9 @@
 // The blocking call: the words that it writes, and the places that keep their numbers.
-ghost use Rattle.std.specs.Prelude.{◌≤◌};
-
-use super::text::{print, print_number, print_refusal};
-use blockings::{Blockings, blockings};
+use blockings::blockings;
 use numerals::{byte, pair};
-use std::io;
 use std::io::Stdout;
+use std::{array, io};
+use worked::{checksum, kept, print_refusal, print_values};
 
 // As many places as the most words take, and three more.
 const MOST: usize = 3363;
@@ -18,82 +16,23 @@ fn before(place: usize) -> u16 {
     (65535 - place % 65536) as u16
 }
 
-// A column before the call.
-fn fresh_column() -> [u16; MOST] {
-    let mut column = [0; MOST];
-    for place in 0..MOST {
-        column[place] = before(place);
-    }
-    column
-}
-
-// 1 where a place holds what it held before the call.
-fn one_if_kept(number: u16, place: usize) -> usize
-    ensures { result ≤ 1 }
-{
-    if number == before(place) { 1 } else { 0 }
-}
-
-// How many places do.
-fn kept(column: &[u16]) -> usize {
-    let mut n = 0;
-    for (place, number) in column.iter().enumerate() {
-        n += one_if_kept(*number, place);
-    }
-    n
-}
-
-// What a checksum becomes with the number at the next place.
-fn summed(sum: u64, number: u16) -> u64 {
-    (sum % 65521 * 17 + number as u64) % 65521
-}
-
-// The checksum of all places, which tells their order.
-fn checksum(column: &[u16]) -> u64 {
-    let mut sum = 0;
-    for number in column {
-        sum = summed(sum, *number);
-    }
-    sum
-}
-
-fn print_place(out: Stdout, number: u16) -> io::Result<()> {
-    print_number(out, number as u64)
-}
-
-fn print_column(out: Stdout, column: &[u16]) -> io::Result<()> {
-    print(out, b", column")?;
-    for number in column {
-        print_place(out, *number)?;
-    }
-    Ok(())
-}
-
-fn print_answer(out: Stdout, answer: Blockings) -> io::Result<()> {
-    match answer {
-        Blockings::Written(lists) => {
-            print(out, b" written")?;
-            print_number(out, lists as u64)?;
-        }
-        Blockings::Refused(refused) => print_refusal(out, refused)?,
-    }
-    Ok(())
-}
-
-fn print_places(out: Stdout, column: &[u16]) -> io::Result<()> {
-    print(out, b", kept")?;
-    print_number(out, kept(column) as u64)?;
-    print(out, b", checksum")?;
-    print_number(out, checksum(column))?;
+fn print_places(mut out: Stdout, column: &[u16]) -> io::Result<()> {
+    let kept = kept(column, before);
+    let checksum = checksum(column, 17, 65521);
+    print!(out; ", kept {kept}, checksum {checksum}")?;
     if column.len() <= FEW {
-        print_column(out, column)?;
+        print!(out; ", column")?;
+        print_values(&mut out, column)?;
     }
-    print(out, b"\n")
+    println!(out)
 }
 
 // The call and the column after it.
-fn lend(out: Stdout, k: u8, words: u8, column: &mut [u16]) -> io::Result<()> {
-    print_answer(out, blockings(k, words, column))?;
+fn lend(mut out: Stdout, k: u8, words: u8, column: &mut [u16]) -> io::Result<()> {
+    match blockings(k, words, column) {
+        Ok(lists) => print!(out; " written {lists}")?,
+        Err(refusal) => print_refusal(&mut out, refusal)?,
+    }
     print_places(out, column)
 }
 
@@ -103,6 +42,6 @@ pub fn try_blocking(out: Stdout, rest: &[u8]) -> io::Result<()> {
     if places > MOST {
         return Ok(());
     }
-    let mut column = fresh_column();
+    let mut column: [u16; MOST] = array::from_fn(before);
     lend(out, byte(rest, 1), byte(rest, 2), &mut column[..places])
 }

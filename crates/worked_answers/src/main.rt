@@ -7,10 +7,8 @@
 mod estimated;
 mod listed;
 mod placed;
-mod reads;
 mod reduced;
 mod tabled;
-mod text;
 mod weighed;
 
 use contents::plan_in;
@@ -19,61 +17,50 @@ use fields::body;
 use listed::try_blocking;
 use numerals::byte;
 use placed::try_run;
-use reads::read_full;
 use reduced::try_alias;
 use std::io;
-use std::io::Stdout;
+use std::io::{Read, Stdout};
 use tabled::try_table;
-use text::{print, print_decimal};
 use weighed::try_effects;
+use worked::read_whole;
 
 // The most bytes of the input.
-const MOST_INPUT: usize = 65536;
+const MOST_INPUT: u64 = 65536;
+
+// The most bytes of a record.
+const MOST_RECORD: usize = 255;
 
 // Field 9 is the call, a byte, and what else it takes: 1 is the table, 2 the estimate, 3 the alias, 4 the effects, 5 the run, 6 the blocking, 7 the
 // screening call, which is tried as the table is.
-fn work(out: Stdout, number: u64, record: &[u8]) -> io::Result<()> {
-    print_decimal(out, number)?;
-    print(out, b":")?;
+fn work(out: Stdout, record: &[u8]) -> io::Result<()> {
     let p = plan_in(record);
     let rest = body(record, 9, 0);
-    let call = byte(rest, 0);
-    if call == 1 || call == 7 {
-        try_table(out, p, record, rest)
-    } else if call == 2 {
-        try_estimate(out, p, rest)
-    } else if call == 3 {
-        try_alias(out, p, rest)
-    } else if call == 4 {
-        try_effects(out, p)
-    } else if call == 5 {
-        try_run(out, p, rest)
-    } else {
-        try_blocking(out, rest)
+    match byte(rest, 0) {
+        1 | 7 => try_table(out, p, record, rest),
+        2 => try_estimate(out, p, rest),
+        3 => try_alias(out, p, rest),
+        4 => try_effects(out, p),
+        5 => try_run(out, p, rest),
+        _ => try_blocking(out, rest),
     }
 }
 
 // A record is its length, a byte, and so many bytes.
-fn work_records(out: Stdout, text: &[u8]) -> io::Result<()> {
-    let mut number = 0;
-    let mut at = 0;
-    while at < text.len() {
-        let length = text[at] as usize;
-        let start = at + 1;
-        if text.len() - start < length {
-            return Ok(());
-        }
-        let end = start + length;
-        number += 1;
-        work(out, number, &text[start..end])?;
-        at = end;
-    }
-    Ok(())
-}
-
 fn main(rt: HostRuntime) -> io::Result<()> {
     let out = rt.stdout();
-    let mut space = [0u8; MOST_INPUT];
-    let n = read_full(rt.stdin(), &mut space)?;
-    work_records(out, &space[..n])
+    let mut from = rt.stdin().take(MOST_INPUT);
+    let mut space = [0; MOST_RECORD];
+    for number in 1..=MOST_INPUT {
+        let mut head = [0; 1];
+        if !read_whole(&mut from, &mut head)? {
+            break;
+        }
+        let record = &mut space[..head[0] as usize];
+        if !read_whole(&mut from, record)? {
+            break;
+        }
+        print!(out; "{number}:")?;
+        work(out, record)?;
+    }
+    Ok(())
 }

@@ -1,15 +1,15 @@
 // The table call and the screening call: where one is refused, nothing that it is lent may change.
 ghost use Rattle.std.specs.Prelude.{◌≤◌};
 
-use super::text::{print, print_number, print_refusal};
-use anova::{Table, table};
+use anova::{Figures, table};
 use contents::put_readings;
-use fields::body;
+use fields::{Tag, body};
 use numerals::byte;
-use plan::Plan;
+use plan::{Plan, Refusal};
 use screening::screen;
 use std::io;
 use std::io::Stdout;
+use worked::{print_refusal, print_values};
 
 // The screening call among the calls of field 9.
 const SCREENING: u8 = 7;
@@ -22,36 +22,17 @@ const TOTAL_BEFORE: i64 = -123456789;
 
 const ROW_BEFORE: u64 = 987654321;
 
-fn is_kept(totals: &[i64; MOST], rows: &[u64; MOST]) -> bool {
-    for i in 0..MOST {
-        if totals[i] != TOTAL_BEFORE || rows[i] != ROW_BEFORE {
-            return false;
-        }
-    }
-    true
-}
-
-// The first r rows.
-fn print_rows(out: Stdout, rows: &[u64; MOST], r: usize) -> io::Result<()> {
-    print(out, b" made, rows")?;
-    for row in rows.iter().take(r) {
-        print_number(out, *row)?;
-    }
-    Ok(())
-}
-
 // The rows and the error of a table, or the number of its refusal.
-fn print_answer(out: Stdout, answer: Table, rows: &[u64; MOST], r: usize) -> io::Result<()> {
+fn print_answer(mut out: Stdout, answer: Result<Figures, Refusal>, rows: &[u64]) -> io::Result<()> {
     match answer {
-        Table::Made(figures) => {
-            print_rows(out, rows, r)?;
-            print(out, b", error")?;
-            print_number(out, figures.error.degrees)?;
-            print_number(out, figures.error.numerator)?;
+        Ok(figures) => {
+            print!(out; " made, rows")?;
+            print_values(&mut out, rows)?;
+            let error = figures.error;
+            print!(out; ", error {} {}", error.degrees, error.numerator)
         }
-        Table::Refused(refused) => print_refusal(out, refused)?,
+        Err(refusal) => print_refusal(&mut out, refusal),
     }
-    Ok(())
 }
 
 fn answer_of(
@@ -61,11 +42,12 @@ fn answer_of(
     marks: &[u8],
     totals: &mut [i64],
     rows: &mut [u64],
-) -> Table {
+) -> Result<Figures, Refusal> {
     if call == SCREENING {
-        return screen(p, readings, marks, totals, rows);
+        screen(p, readings, marks, totals, rows)
+    } else {
+        table(p, readings, marks, totals, rows)
     }
-    table(p, readings, marks, totals, rows)
 }
 
 // Lends the readings, and so many totals and rows.
@@ -73,43 +55,36 @@ fn try_lent(
     out: Stdout,
     call: u8,
     p: Plan,
-    body: &[u8],
-    readings: &mut [i32],
+    readings: &[i32],
     marks: &[u8],
     n: usize,
     r: usize,
 ) -> io::Result<()>
     requires { (n ≤ 32) × (r ≤ 32) }
 {
-    put_readings(body, readings);
     let mut totals = [TOTAL_BEFORE; MOST];
     let mut rows = [ROW_BEFORE; MOST];
     let answer = answer_of(call, p, readings, marks, &mut totals[..n], &mut rows[..r]);
-    print_answer(out, answer, &rows, r)?;
-    if is_kept(&totals, &rows) {
-        print(out, b", unchanged\n")
+    print_answer(out, answer, &rows[..r])?;
+    if totals == [TOTAL_BEFORE; MOST] && rows == [ROW_BEFORE; MOST] {
+        println!(out; ", unchanged")
     } else {
-        print(out, b", changed\n")
+        println!(out; ", changed")
     }
 }
 
 // The rest is the call, and how many totals and rows are lent, a byte each; readings and marks are those of the record.
 pub fn try_table(out: Stdout, p: Plan, record: &[u8], rest: &[u8]) -> io::Result<()> {
-    let readings = body(record, 4, 0);
-    let count = readings.len() / 4;
+    let body_of_readings = body(record, Tag::Readings as u8, 0);
+    let count = body_of_readings.len() / 4;
     if count > MOST {
         return Ok(());
     }
-    let mut column = [0i32; MOST];
-    let marks = body(record, 5, 0);
-    try_lent(
-        out,
-        byte(rest, 0),
-        p,
-        readings,
-        &mut column[..count],
-        marks,
-        (byte(rest, 1) % 33) as usize,
-        (byte(rest, 2) % 33) as usize,
-    )
+    let mut column = [0; MOST];
+    let readings = &mut column[..count];
+    put_readings(body_of_readings, readings);
+    let marks = body(record, Tag::Marks as u8, 0);
+    let n = (byte(rest, 1) % 33) as usize;
+    let r = (byte(rest, 2) % 33) as usize;
+    try_lent(out, byte(rest, 0), p, readings, marks, n, r)
 }

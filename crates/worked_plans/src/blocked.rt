@@ -1,44 +1,40 @@
 // Plans of Table 12-3: the confounded effects, and the runs of each block, the blocks in the order of their first runs.
-use super::text::{print, print_decimal, print_effect, print_treatment};
-use plan::{Plan, confounded};
-use runs::{Run, run};
+ghost use Rattle.std.specs.Prelude.{◌≤◌, length};
+
+use super::text::{print_effect, print_treatment};
+use blockings::blocked_plan;
+use plan::{Plan, confounded, runs};
+use runs::run;
 use std::io;
 use std::io::Stdout;
 
-fn block_of(p: Plan, number: usize) -> u8 {
-    match run(p, number) {
-        Run::Treatment { high: _, block } => block,
-        Run::Refused(_) => 255,
-    }
+// The block of a run, where the plan has that run.
+fn block_of(p: Plan, number: usize) -> Option<u8> {
+    run(p, number).ok().map(|run| run.block)
 }
 
 // Whether no run before has the block of this one.
 fn is_first(p: Plan, number: usize) -> bool {
     let block = block_of(p, number);
-    for i in 0..number {
-        if block_of(p, i) == block {
-            return false;
-        }
-    }
-    true
+    (0..number).all(|i| block_of(p, i) != block)
 }
 
 // The runs of a block, of which the first is given.
 fn print_block(out: Stdout, p: Plan, first: usize) -> io::Result<()> {
     let block = block_of(p, first);
     print_treatment(out, p, first)?;
-    let n = sizes::runs(p);
+    let n = runs(p);
     for i in first..n {
         if i != first && block_of(p, i) == block {
-            print(out, b" ")?;
+            print!(out; " ")?;
             print_treatment(out, p, i)?;
         }
     }
-    print(out, b"\n")
+    println!(out)
 }
 
 fn print_blocks(out: Stdout, p: Plan) -> io::Result<()> {
-    let n = sizes::runs(p);
+    let n = runs(p);
     for i in 0..n {
         if is_first(p, i) {
             print_block(out, p, i)?;
@@ -49,50 +45,22 @@ fn print_blocks(out: Stdout, p: Plan) -> io::Result<()> {
 
 // All confounded effects: none has more letters than the ten that a plan may have.
 fn print_confounded(out: Stdout, p: Plan) -> io::Result<()> {
-    print(out, b"confounded")?;
+    print!(out; "confounded")?;
     for word in 0..1024 {
         if confounded(p, word) {
-            print(out, b" ")?;
+            print!(out; " ")?;
             print_effect(out, word)?;
         }
     }
-    print(out, b"\n")
+    println!(out)
 }
 
-// The number of a plan, 1 to 4, as the table has it.
-fn print_roman(out: Stdout, number: u8) -> io::Result<()> {
-    if number == 1 {
-        print(out, b"(i)\n")
-    } else if number == 2 {
-        print(out, b"(ii)\n")
-    } else if number == 3 {
-        print(out, b"(iii)\n")
-    } else {
-        print(out, b"(iv)\n")
-    }
-}
-
-pub fn print_blocked(
-    out: Stdout,
-    k: u8,
-    number: u8,
-    blocks: u8,
-    blockwords: [u16; 4],
-) -> io::Result<()> {
-    print(out, b"table 12-3, ")?;
-    print_decimal(out, k as u64)?;
-    print(out, b" factors ")?;
-    print_roman(out, number)?;
-    let p = Plan {
-        levels: 2,
-        k,
-        added: 0,
-        words: [0; 6],
-        signs: [0; 6],
-        blocks,
-        blockwords,
-        repeats: 1,
-    };
+// A plan by its factors, its number among those of as many factors, as the table has it, and its block words.
+pub fn print_blocked(out: Stdout, k: u8, number: &str, words: &[u16]) -> io::Result<()>
+    requires { length words.now ≤ 4 }
+{
+    println!(out; "table 12-3, {k} factors ({number})")?;
+    let p = blocked_plan(k, words);
     print_confounded(out, p)?;
     print_blocks(out, p)
 }

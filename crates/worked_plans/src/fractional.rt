@@ -1,37 +1,27 @@
 // Plans of Table 12-4: the treatment combination of each run, and the effects of one or two letters that reduce to the run's word.
-use super::text::{print, print_decimal, print_effect, print_treatment};
-use aliases::{Alias, alias};
+ghost use Rattle.std.specs.Prelude.{◌≤◌, length};
+
+use super::text::{print_effect, print_treatment};
+use aliases::alias;
 use plan::Plan;
 use std::io;
 use std::io::Stdout;
 use words::count_letters;
 
-// The sign of an effect beside the word that it reduces to: minus where the alias call turns it.
-fn print_sign(out: Stdout, turned: bool) -> io::Result<()> {
-    if turned {
-        print(out, b" -")
-    } else {
-        print(out, b" +")
-    }
-}
-
-// Prints the effect where it reduces to the word, and says whether it does.
+// Prints the effect where it reduces to the word, with a minus sign where the alias call turns it, and says whether it does. An effect with a
+// letter that the plan does not have is refused, and so does not reduce.
 fn print_alias(out: Stdout, p: Plan, effect: u16, word: u16) -> io::Result<bool> {
     match alias(p, effect) {
-        Alias::Reduced { word: base, turned } => {
-            if base != word {
-                return Ok(false);
-            }
-            print_sign(out, turned)?;
+        Ok(base) if base.word == word => {
+            print!(out; "{}", if base.turned { " -" } else { " +" })?;
             print_effect(out, effect)?;
             Ok(true)
         }
-        Alias::Refused(_) => Ok(false),
+        _ => Ok(false),
     }
 }
 
-// The effects of one or two letters that reduce to the word; T is the mean, and * stands where there is none. An effect with a letter that
-// the plan does not have is refused, and so not printed.
+// The effects of one or two letters that reduce to the word; T is the mean, and * stands where there is none.
 fn print_aliases(out: Stdout, p: Plan, word: u16) -> io::Result<()> {
     let mut none = word != 0;
     for effect in 1..1024u16 {
@@ -40,66 +30,55 @@ fn print_aliases(out: Stdout, p: Plan, word: u16) -> io::Result<()> {
         }
     }
     if word == 0 {
-        print(out, b" T")?;
+        print!(out; " T")?;
     }
     if none {
-        print(out, b" *")?;
+        print!(out; " *")?;
     }
-    print(out, b"\n")
-}
-
-fn print_row(out: Stdout, p: Plan, number: u16) -> io::Result<()> {
-    print_treatment(out, p, number as usize)?;
-    print_aliases(out, p, number)
+    println!(out)
 }
 
 // One row for each of the runs.
-fn print_rows(out: Stdout, p: Plan, runs: u16) -> io::Result<()> {
-    for i in 0..runs {
-        print_row(out, p, i)?;
+fn print_rows(out: Stdout, p: Plan) -> io::Result<()> {
+    for number in 0..1u16.wrapping_shl(p.k as u32) {
+        print_treatment(out, p, number as usize)?;
+        print_aliases(out, p, number)?;
     }
     Ok(())
 }
 
-// The added factors, each with its word.
-fn print_added(out: Stdout, first: u16, words: &[u16]) -> io::Result<()> {
-    let mut letter = first;
-    for j in 0..words.len() {
+// The added factors, each with its word; their letters follow those of the base factors.
+fn print_added(out: Stdout, p: Plan) -> io::Result<()> {
+    for (j, word) in p.added_words().iter().enumerate() {
         if j != 0 {
-            print(out, b", ")?;
+            print!(out; ", ")?;
         }
-        print_effect(out, letter)?;
-        print(out, b" = ")?;
-        print_effect(out, words[j])?;
-        letter = letter % 32768 * 2;
+        print_effect(out, 1u16.wrapping_shl(p.k as u32 + j as u32))?;
+        print!(out; " = ")?;
+        print_effect(out, *word)?;
     }
-    print(out, b"\n")
+    println!(out)
 }
 
-pub fn print_fractional(
-    out: Stdout,
-    number: u8,
-    k: u8,
-    runs: u16,
-    added: u8,
-    words: [u16; 6],
-) -> io::Result<()> {
-    print(out, b"table 12-4, plan ")?;
-    print_decimal(out, number as u64)?;
-    print(out, b"\n")?;
-    let n = added as usize;
-    if n <= 6 {
-        print_added(out, runs, &words[..n])?;
-    }
-    let p = Plan {
-        levels: 2,
-        k,
-        added,
+// The plan of two levels with these words of added factors, without signs, and each run made once.
+fn added_plan(k: u8, list: &[u16]) -> Plan
+    requires { length list.now ≤ 6 }
+{
+    let mut words = [0; 6];
+    words[..list.len()].copy_from_slice(list);
+    Plan {
+        added: list.len() as u8,
         words,
-        signs: [0; 6],
-        blocks: 0,
-        blockwords: [0; 4],
-        repeats: 1,
-    };
-    print_rows(out, p, runs)
+        ..Plan::whole(2, k, 1)
+    }
+}
+
+// A plan by its number in the table, its base factors, and the words of the added factors.
+pub fn print_fractional(out: Stdout, number: u8, k: u8, words: &[u16]) -> io::Result<()>
+    requires { length words.now ≤ 6 }
+{
+    println!(out; "table 12-4, plan {number}")?;
+    let p = added_plan(k, words);
+    print_added(out, p)?;
+    print_rows(out, p)
 }

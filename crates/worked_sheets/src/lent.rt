@@ -1,9 +1,12 @@
 // The column that is lent: what it holds before the call, and what of it is written.
 ghost use Rattle.std.specs.Prelude.{◌≤◌, length};
 
-use super::text::{print, print_number, print_value, size};
-use std::io;
 use std::io::Stdout;
+use std::{array, io};
+use worked::{checksum, kept, print_values};
+
+// The most places that are lent.
+pub const MOST: usize = 1100;
 
 // Of more readings than this one number is printed.
 const MOST_SHOWN: usize = 40;
@@ -15,10 +18,9 @@ fn before(place: usize) -> i32 {
     (2_000_000 + place % 2048) as i32
 }
 
-pub fn fill(column: &mut [i32]) {
-    for (i, place) in column.iter_mut().enumerate() {
-        *place = before(i);
-    }
+// A column before the call.
+pub fn fresh_column() -> [i32; MOST] {
+    array::from_fn(before)
 }
 
 // How many places stand before the first that kept its number.
@@ -33,52 +35,14 @@ fn count_written(column: &[i32]) -> usize
     column.len()
 }
 
-// How many places kept their numbers.
-fn count_kept(column: &[i32]) -> usize {
-    let mut kept = 0;
-    for (i, place) in column.iter().enumerate() {
-        if *place == before(i) {
-            kept += 1;
-        }
-    }
-    kept
-}
-
-// 31 times a number, and the value, modulo a prime.
-fn counted(number: u64, value: i64) -> u64 {
-    let rest = size(value) % MODULUS;
-    if value < 0 {
-        return (number % MODULUS * 31 + MODULUS - rest) % MODULUS;
-    }
-    (number % MODULUS * 31 + rest) % MODULUS
-}
-
-// A number by which every value counts.
-fn count_values(values: &[i32]) -> u64 {
-    let mut number = 0;
-    for value in values {
-        number = counted(number, *value as i64);
-    }
-    number
-}
-
-fn print_values(out: Stdout, values: &[i32]) -> io::Result<()> {
-    for value in values {
-        print_value(out, *value as i64)?;
-    }
-    Ok(())
-}
-
 // The readings that are written, and how many places kept their numbers.
-pub fn print_column(out: Stdout, column: &[i32]) -> io::Result<()> {
+pub fn print_column(mut out: Stdout, column: &[i32]) -> io::Result<()> {
     let n = count_written(column);
-    print(out, b", readings")?;
-    print_number(out, n as u64)?;
+    print!(out; ", readings {n}")?;
     if n > MOST_SHOWN {
-        print_number(out, count_values(&column[..n]))?;
+        print!(out; " {}", checksum(&column[..n], 31, MODULUS))?;
     } else {
-        print_values(out, &column[..n])?;
+        print_values(&mut out, &column[..n])?;
     }
-    print(out, b", kept")?;
-    print_number(out, count_kept(column) as u64)
+    print!(out; ", kept {}", kept(column, before))
 }

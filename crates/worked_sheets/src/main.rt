@@ -4,69 +4,56 @@
 
 mod lent;
 mod parts;
-mod reads;
-mod text;
 
-use lent::{fill, print_column};
-use parts::{print_answer, print_marks, print_plan};
-use reads::read_full;
+use lent::{MOST, fresh_column, print_column};
+use parts::{print_marks, print_plan};
+use plan::{Plan, Refusal};
 use std::io;
-use std::io::Stdout;
-use text::{print, print_decimal};
+use std::io::{Read, Stdout};
+use worked::{MOST_RECORD, print_refusal, read_record, read_whole};
 
-// The most places that are lent, and the most bytes of the input.
-const MOST: usize = 1100;
+// The most bytes of the input.
+const MOST_INPUT: u64 = 262144;
 
-const MOST_INPUT: usize = 262144;
-
-fn work(out: Stdout, bytes: &[u8], column: &mut [i32]) -> io::Result<()> {
-    fill(column);
-    let read = sheet::read(bytes, column);
-    let answer = read.answer;
-    print_answer(out, answer)?;
-    let p = read.plan;
-    print_plan(out, p)?;
-    print_column(out, column)?;
-    print_marks(out, sheet::marks(bytes))?;
-    print(out, b"\n")
-}
-
-// The sheet of a record, with a column of so many places lent.
-fn work_record(out: Stdout, number: u64, bytes: &[u8], room: usize) -> io::Result<()> {
-    print_decimal(out, number)?;
-    print(out, b":")?;
-    let mut column = [0i32; MOST];
-    let n = room % (MOST + 1);
-    work(out, bytes, &mut column[..n])
-}
-
-// The number of two bytes.
-fn number_of(high: u8, low: u8) -> usize {
-    high as usize * 256 + low as usize
-}
-
-// A record is room and length, two bytes each, and so many bytes of a sheet.
-fn work_records(out: Stdout, text: &[u8]) -> io::Result<()> {
-    let mut number = 0;
-    let mut at = 0;
-    while text.len() - at >= 4 {
-        let room = number_of(text[at], text[at + 1]);
-        let length = number_of(text[at + 2], text[at + 3]);
-        let start = at + 4;
-        if text.len() - start < length {
-            return Ok(());
+// The reader's answer. Of a sheet that is refused there is no plan, and 0 is printed for each of its numbers.
+fn print_answer(mut out: Stdout, answer: Result<Plan, Refusal>) -> io::Result<()> {
+    match answer {
+        Ok(p) => {
+            print!(out; " done")?;
+            print_plan(out, p)
         }
-        let end = start + length;
-        number += 1;
-        work_record(out, number, &text[start..end], room)?;
-        at = end;
+        Err(refusal) => {
+            print_refusal(&mut out, refusal)?;
+            print_plan(out, Plan::whole(0, 0, 0))
+        }
     }
-    Ok(())
 }
 
+// Both calls on a sheet, with a column of so many places lent.
+fn work(out: Stdout, sheet: &[u8], room: usize) -> io::Result<()> {
+    let mut space = fresh_column();
+    let column = &mut space[..room % (MOST + 1)];
+    print_answer(out, sheet::read(sheet, column))?;
+    print_column(out, column)?;
+    print_marks(out, sheet::marks(sheet))?;
+    println!(out)
+}
+
+// A record is how much room is lent, two bytes, and a sheet.
 fn main(rt: HostRuntime) -> io::Result<()> {
     let out = rt.stdout();
-    let mut space = [0u8; MOST_INPUT];
-    let n = read_full(rt.stdin(), &mut space)?;
-    work_records(out, &space[..n])
+    let mut from = rt.stdin().take(MOST_INPUT);
+    let mut space = [0; MOST_RECORD];
+    for number in 1..=MOST_INPUT {
+        let mut room = [0; 2];
+        if !read_whole(&mut from, &mut room)? {
+            break;
+        }
+        let Some(sheet) = read_record(&mut from, &mut space)? else {
+            break;
+        };
+        print!(out; "{number}:")?;
+        work(out, sheet, u16::from_be_bytes(room) as usize)?;
+    }
+    Ok(())
 }

@@ -1,9 +1,13 @@
 // One example: the column after each step, the totals, and the passes in rising and falling orders that start with each factor. Steps and
 // passes start from the run sums, which are the readings where every run is made once.
-use super::calls::{pass, step, totals};
-use super::text::{print, print_column, print_number};
+ghost use Rattle.std.specs.Prelude.{◌≡◌, length};
+
+use super::readings::Example;
+use super::text::print_column;
+use plan::{Plan, number_of};
 use std::io;
 use std::io::Stdout;
+use yates::{pass, step, totals};
 
 // The most runs of an example.
 const MOST: usize = 81;
@@ -15,57 +19,24 @@ fn fill(sums: &[i32], column: &mut [i64]) {
     }
 }
 
-// The values of one column to another.
-fn copy(from: &[i64], to: &mut [i64]) {
-    for (value, other) in to.iter_mut().zip(from) {
-        *value = *other;
-    }
-}
-
-fn print_heading(out: Stdout, number: u64, levels: u8, k: u8, repeats: u8) -> io::Result<()> {
-    print(out, b"example")?;
-    print_number(out, number)?;
-    print(out, b":")?;
-    print_number(out, levels as u64)?;
-    print(out, b" levels,")?;
-    print_number(out, k as u64)?;
-    print(out, b" factors,")?;
-    print_number(out, repeats as u64)?;
-    print(out, b" repeats\n")
-}
-
 // The column after each of the k steps.
-fn print_steps(
-    out: Stdout,
-    levels: u8,
-    k: u8,
-    repeats: u8,
-    column: &mut [i64],
-    next: &mut [i64],
-) -> io::Result<()> {
-    for j in 0..k {
-        print(out, b"step")?;
-        print_number(out, j as u64 + 1)?;
-        step(levels, k, repeats, column, next);
+fn print_steps(out: Stdout, p: Plan, column: &mut [i64], next: &mut [i64]) -> io::Result<()>
+    requires { length next.old ≡ length column.old }
+{
+    for j in 0..p.k {
+        print!(out; "step {}", j as u16 + 1)?;
+        let _ = step(p, column, next);
         print_column(out, next)?;
-        copy(next, column);
+        column.copy_from_slice(next);
     }
     Ok(())
 }
 
 // The column holds the run sums before the call, so that a call that is refused shows in what is printed.
-fn print_totals(
-    out: Stdout,
-    levels: u8,
-    k: u8,
-    repeats: u8,
-    sums: &[i32],
-    readings: &[i32],
-    column: &mut [i64],
-) -> io::Result<()> {
-    fill(sums, column);
-    totals(levels, k, repeats, readings, column);
-    print(out, b"totals")?;
+fn print_totals(out: Stdout, p: Plan, example: &Example, column: &mut [i64]) -> io::Result<()> {
+    fill(example.sums, column);
+    let _ = totals(p, example.readings, column);
+    print!(out; "totals")?;
     print_column(out, column)
 }
 
@@ -73,19 +44,17 @@ fn print_totals(
 fn after(factor: u8, k: u8, rising: bool) -> u8 {
     if rising {
         if factor < k { factor + 1 } else { 0 }
-    } else if factor == 0 {
-        k
     } else {
-        factor - 1
+        factor.checked_sub(1).unwrap_or(k)
     }
 }
 
 // The numbers of k + 1 calls: those of the k factors, and k, which is refused.
 fn print_calls(out: Stdout, k: u8, first: u8, rising: bool) -> io::Result<()> {
-    print(out, b"calls")?;
+    print!(out; "calls")?;
     let mut factor = first;
-    for _ in 0..k as usize + 1 {
-        print_number(out, factor as u64)?;
+    for _ in 0..=k {
+        print!(out; " {factor}")?;
         factor = after(factor, k, rising);
     }
     Ok(())
@@ -94,18 +63,16 @@ fn print_calls(out: Stdout, k: u8, first: u8, rising: bool) -> io::Result<()> {
 // What the same calls answer, and the column that they leave.
 fn print_answers(
     out: Stdout,
-    levels: u8,
-    k: u8,
-    repeats: u8,
+    p: Plan,
     first: u8,
     rising: bool,
     column: &mut [i64],
 ) -> io::Result<()> {
-    print(out, b", answers")?;
+    print!(out; ", answers")?;
     let mut factor = first;
-    for _ in 0..k as usize + 1 {
-        print_number(out, pass(levels, k, repeats, factor, column) as u64)?;
-        factor = after(factor, k, rising);
+    for _ in 0..=p.k {
+        print!(out; " {}", number_of(pass(p, factor as usize, column)))?;
+        factor = after(factor, p.k, rising);
     }
     print_column(out, column)
 }
@@ -113,70 +80,51 @@ fn print_answers(
 // A line for each number that the calls may start with. Each line starts from the run sums.
 fn print_rotations(
     out: Stdout,
-    levels: u8,
-    k: u8,
-    repeats: u8,
-    rising: bool,
+    p: Plan,
     sums: &[i32],
+    rising: bool,
     column: &mut [i64],
 ) -> io::Result<()> {
-    let mut first = 0;
-    for _ in 0..k as usize + 1 {
+    for first in 0..=p.k {
         fill(sums, column);
-        print_calls(out, k, first, rising)?;
-        print_answers(out, levels, k, repeats, first, rising, column)?;
-        first = after(first, k, true);
+        print_calls(out, p.k, first, rising)?;
+        print_answers(out, p, first, rising, column)?;
     }
     Ok(())
 }
 
 fn print_work(
     out: Stdout,
-    levels: u8,
-    k: u8,
-    repeats: u8,
-    sums: &[i32],
-    readings: &[i32],
+    p: Plan,
+    example: &Example,
     column: &mut [i64],
     next: &mut [i64],
-) -> io::Result<()> {
-    fill(sums, column);
-    print_steps(out, levels, k, repeats, column, next)?;
-    print_totals(out, levels, k, repeats, sums, readings, column)?;
-    print_rotations(out, levels, k, repeats, true, sums, column)?;
-    print_rotations(out, levels, k, repeats, false, sums, column)
+) -> io::Result<()>
+    requires { length next.old ≡ length column.old }
+{
+    fill(example.sums, column);
+    print_steps(out, p, column, next)?;
+    print_totals(out, p, example, column)?;
+    print_rotations(out, p, example.sums, true, column)?;
+    print_rotations(out, p, example.sums, false, column)
 }
 
-// An example whose runs are made so often: the sums of its runs, and all readings.
-pub fn work_repeated(
-    out: Stdout,
-    number: u64,
-    levels: u8,
-    k: u8,
-    repeats: u8,
-    sums: &[i32],
-    readings: &[i32],
-) -> io::Result<()> {
-    let runs = sums.len();
-    if runs > MOST {
-        return Ok(());
-    }
-    print_heading(out, number, levels, k, repeats)?;
-    let mut column = [0i64; MOST];
-    let mut next = [0i64; MOST];
-    print_work(
-        out,
+// An example with its number.
+pub fn work(out: Stdout, number: usize, example: &Example) -> io::Result<()> {
+    let Example {
         levels,
         k,
         repeats,
         sums,
-        readings,
-        &mut column[..runs],
-        &mut next[..runs],
-    )
-}
-
-// An example whose runs are made once.
-pub fn work(out: Stdout, number: u64, levels: u8, k: u8, readings: &[i32]) -> io::Result<()> {
-    work_repeated(out, number, levels, k, 1, readings, readings)
+        readings: _,
+    } = *example;
+    if sums.len() > MOST {
+        return Ok(());
+    }
+    println!(out; "example {number}: {levels} levels, {k} factors, {repeats} repeats")?;
+    let p = Plan::whole(levels, k, repeats);
+    let mut column = [0; MOST];
+    let mut next = [0; MOST];
+    let runs = sums.len();
+    print_work(out, p, example, &mut column[..runs], &mut next[..runs])
 }

@@ -3,11 +3,9 @@
 //   pass(p, factor, column)       the pass of one factor, in place
 //   step(p, from, to)             the report's own step, from one column to another: of the crate `steps`
 //   totals(p, readings, totals)   the totals of all effects
-//   Answer                        what they answer: of the crate `columns`
 #![tactic(auto)]
 
 mod calls;
 
 pub use calls::{pass, totals};
-pub use columns::Answer;
 pub use steps::step;

@@ -3,7 +3,10 @@
 --   some-true, some-false    `some n f` is true where f holds of a number below n, and false where it holds of none
 --   some_at, none-at         where it is true there is such a number, and where it is false f fails at each
 --   some-cong                tests that are the same below n hold of some number or of none alike
-use Rattle.std.specs.Prelude.{◌≡◌, refl, Bool, true, false, ◌||◌, ℕ, zero, suc, ◌<◌}
+--   some-first               the first number apart from the others
+--   some_listed              `some` over the places of a list is whether the test holds of an entry
+use Rattle.std.specs.Prelude.{◌≡◌, refl, Bool, true, false, ◌||◌, List, [], ◌∷◌, ℕ, zero, suc, ◌<◌, length, get_or}
+use Rattle.std.specs.List.{list_any}
 use Rattle.std.proofs.Math.Bool.{or-true}
 use Rattle.std.proofs.Math.Decide.{ℕ_discrete}
 use Rattle.std.proofs.Common.{arith}
@@ -43,3 +46,21 @@ pub some-cong : (n : ℕ) {f g : ℕ → Bool} → ((i : ℕ) → i < n → f i 
 unfolding some
 some-cong zero h = refl
 some-cong (suc n) h = rw (some-cong n (λ i l. h i (omega arith)), h n (omega arith)) refl
+
+pub some-first : (n : ℕ) (f : ℕ → Bool) → some (suc n) f ≡ (f 0 || some n (λ i. f (suc i)))
+unfolding some
+some-first zero f = by (f 0)
+  where
+    by : (b : Bool) → b ≡ (b || false)
+    by true = refl
+    by false = refl
+some-first (suc n) f = rw (some-first n f) (by (f 0) (some n (λ i. f (suc i))) (f (suc n)))
+  where
+    by : (a b c : Bool) → ((a || b) || c) ≡ (a || (b || c))
+    by true b c = refl
+    by false b c = refl
+
+pub some_listed : {A : Type 0} (f : A → Bool) (d : A) (xs : List A) → some (length xs) (λ i. f (get_or xs i d)) ≡ list_any f xs
+unfolding some
+some_listed f d [] = refl
+some_listed f d (x ∷ xs) = rw (some-first (length xs) (λ i. f (get_or (x ∷ xs) i d)), ← (some_listed f d xs)) refl

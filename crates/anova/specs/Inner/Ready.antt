@@ -1,6 +1,5 @@
 -- What the inner functions ask of what they are handed.
 --
---   SquaresFit xs                           the sum of the squares of a column fits
 --   RunSquares r s readings column          readings of runs made r times, the sum s of their squares, and a column for the run sums
 --   Sets n xs                               n sets of three that a round turns
 --   Rounds k xs                             the run sums of k three-level factors, within a limit that leaves room for the rounds
@@ -21,9 +20,6 @@ use Rattle.walks.specs.declared.types.Sums.{Sums}
 use Rattle.anova.specs.declared.types.Figures.{Figures}
 use Rattle.anova.specs.declared.types.Source.{Source}
 use Rattle.anova.specs.Inner.Figures.{line_in}
-
-pub record SquaresFit (xs : List ℤ) : Type 0 where
-  pub sum_fits : squares_of xs < 2 ^ 63
 
 pub record RunSquares (r s : ℕ) (readings column : List ℤ) : Type 0 where
   pub few : r ≤ 8

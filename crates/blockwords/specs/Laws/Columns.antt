@@ -4,7 +4,7 @@
 --   list-words      list i, as a part of the column
 --   list-ready      its words are block words
 --   column-ready    a column that the blocking call has written
-use Rattle.std.specs.Prelude.{◌≡◌, List, [], ◌++◌, ℕ, ◌+◌, ◌*◌, ◌-◌, ◌<◌, ◌≤◌, ltb, length, take, get_or}
+use Rattle.std.specs.Prelude.{Result, Ok, ◌≡◌, List, [], ◌++◌, ℕ, ◌+◌, ◌*◌, ◌-◌, ◌<◌, ◌≤◌, ltb, length, take, get_or}
 use Rattle.std.proofs.Math.Path.{refl, sym, ap}
 use Rattle.std.proofs.Common.{◌∙◌, suc-mul, mul-le-mul_right, arith, length-take, take-append-drop}
 use borrow.Author.Tests.{ltb-false}
@@ -13,10 +13,9 @@ use Rattle.std.proofs.Math.Seq.{take_at}
 use Rattle.algebra.specs.Laws.Among.{in-at}
 use Rattle.algebra.specs.Laws.Joined.{flat-part}
 use Rattle.algebra.specs.Laws.Tests.{neither}
+use Rattle.plan.specs.declared.refusals.Refusal.{Refusal}
 use Rattle.plan.specs.Outcome.{outcome}
 use Rattle.plan.proofs.Laws.Answers.{passed, given_is, written_new}
-use Rattle.blockings.specs.declared.types.Blockings.{Blockings}
-use Rattle.blockings.specs.declared.types.Blockings.TheVariants.{Written}
 use Rattle.blockings.specs.Blockings.{blockings_of, blocking_words, bad_factor_count, blockings_refused, blockings_column, blockings_outcome}
 use Rattle.blockings.proofs.Laws.Members.{only, wide, word-count}
 use Rattle.blockwords.specs.Inner.Ready.{Blocked, ListsIn}
@@ -56,8 +55,8 @@ module _ {k b n : ℕ} {column : List ℕ} (c : ListsIn k b n column) where
 
 -- ---- what the blocking call leaves
 
-module _ (k b : ℕ) (old : List ℕ) {answer : Blockings}
-    (told : blockings_outcome answer ≡ outcome (blockings_refused k b (length old)) (length (blockings_of k b))) {n : ℕ} (is : answer ≡ Written n) where
+module _ (k b : ℕ) (old : List ℕ) {answer : Result ℕ Refusal}
+    (told : blockings_outcome answer ≡ outcome (blockings_refused k b (length old)) (length (blockings_of k b))) {n : ℕ} (is : answer ≡ Ok n) where
   done : (blockings_refused k b (length old) ≡ 0) × (n ≡ length (blockings_of k b))
   done = given_is (blockings_refused k b (length old)) (length (blockings_of k b)) (ap blockings_outcome (sym is) ∙ told)
 

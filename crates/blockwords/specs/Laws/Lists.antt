@@ -4,7 +4,7 @@
 --   effect-put, effect-passed                 an effect: one that is confounded, and one that is not
 --   no-effects, effect-more, all-effects      the confounded effects: none yet, one word more, all
 --   line_made                                 the line
---   whole-line                                a buffer of 1,024 bytes has room for it
+--   list-long                                 how long it is at the most
 --   ends-within                               a text from the first place on ends in the buffer
 use Rattle.std.specs.Prelude.{◌≡◌, refl, Bool, true, false, cond, List, [], ◌∷◌, ◌++◌, map, ℕ, suc, ◌+◌, ◌*◌, ◌^◌, ◌<◌, ◌≤◌, length, take, get_or}
 use Rattle.std.proofs.Common.{sym, ap, ◌∙◌, append_assoc, append-nil, add-one, arith, length-append, pow_mono, take-suc, take_all}
@@ -13,7 +13,8 @@ use Rattle.algebra.specs.Those.{those}
 use Rattle.algebra.specs.Laws.Tab.{length-tab}
 use Rattle.algebra.specs.Laws.Those.{those-pass, those-skip}
 use Rattle.plan.specs.Plan.{confounded_in}
-use Rattle.text.specs.Text.{ascii, Wrote}
+use Rattle.text.specs.declared.bytes.Text.{Text}
+use Rattle.text.specs.Text.{ascii, Writes}
 use Rattle.text.specs.Spelled.{letters_of}
 use Rattle.text.specs.Laws.Writing.{nothing, then, retext, same_size, letters-long}
 use Rattle.lines.specs.Lines.{space, newline, line_of}
@@ -28,19 +29,19 @@ unfolding space_after
 after_last [] w = refl
 after_last (v ∷ ws) w = rw (after_last ws w, append_assoc) refl
 
-pub no_words : (a : List ℕ) (at : ℕ) → Wrote a at (space_after []) a at
+pub no_words : (a : Text) → Writes a (space_after []) a
 unfolding space_after
-no_words a at = nothing a at
+no_words a = nothing a
 
-pub word_more : {a b c d : List ℕ} {at p q r : ℕ} (ws : List ℕ) (i : ℕ) → i < length ws → Wrote a at (space_after (take i ws)) b p
-    → Wrote b p (letters_of (get_or ws i 0)) c q → Wrote c q (space ∷ []) d r → Wrote a at (space_after (take (i + 1) ws)) d r
+pub word_more : {a b c d : Text} (ws : List ℕ) (i : ℕ) → i < length ws → Writes a (space_after (take i ws)) b
+    → Writes b (letters_of (get_or ws i 0)) c → Writes c (space ∷ []) d → Writes a (space_after (take (i + 1) ws)) d
 word_more ws i h f g s =
     retext
     (sym (ap (λ n. space_after (take n ws)) (add-one i) ∙ ap space_after (take-suc ws i 0 h) ∙ after_last (take i ws) (get_or ws i 0)))
     (then f (then g s))
 
-pub all_words : {a b : List ℕ} {at next : ℕ} (ws : List ℕ) (i : ℕ) → length ws ≤ i → Wrote a at (space_after (take i ws)) b next
-    → Wrote a at (space_after ws) b next
+pub all_words : {a b : Text} (ws : List ℕ) (i : ℕ) → length ws ≤ i → Writes a (space_after (take i ws)) b
+    → Writes a (space_after ws) b
 all_words ws i h f = retext (ap space_after (take_all i ws h)) f
 
 -- ---- the confounded effects
@@ -50,14 +51,14 @@ unfolding space_before
 before-joined [] ws = refl
 before-joined (v ∷ vs) ws = rw (before-joined vs ws, append_assoc) refl
 
-module _ {a b c : List ℕ} {at p q : ℕ} (w : ℕ) {lost : Bool} where
-  pub effect-put : lost ≡ true → Wrote a at (space ∷ []) b p → Wrote b p (letters_of w) c q → Wrote a at (space_before (cond lost (w ∷ []) [])) c q
+module _ {a b c : Text} (w : ℕ) {lost : Bool} where
+  pub effect-put : lost ≡ true → Writes a (space ∷ []) b → Writes b (letters_of w) c → Writes a (space_before (cond lost (w ∷ []) [])) c
   unfolding space_before
   effect-put e f g = rw (e, append-nil) (then f g)
 
-pub effect-passed : (a : List ℕ) (at w : ℕ) {lost : Bool} → lost ≡ false → Wrote a at (space_before (cond lost (w ∷ []) [])) a at
+pub effect-passed : (a : Text) (w : ℕ) {lost : Bool} → lost ≡ false → Writes a (space_before (cond lost (w ∷ []) [])) a
 unfolding space_before
-effect-passed a at w e = rw e (nothing a at)
+effect-passed a w e = rw e (nothing a)
 
 module _ (test : ℕ → Bool) where
   one_more : (w : ℕ) → those test (tab (w + 1) (λ v. v)) ≡ those test (tab w (λ v. v)) ++ cond (test w) (w ∷ []) []
@@ -67,20 +68,20 @@ module _ (test : ℕ → Bool) where
       by true e = those-pass test (λ v. v) w e
       by false e = those-skip test (λ v. v) w e ∙ sym (append-nil (those test (tab w (λ v. v))))
 
-  pub no-effects : (a : List ℕ) (at : ℕ) → Wrote a at (space_before (those test (tab 0 (λ v. v)))) a at
+  pub no-effects : (a : Text) → Writes a (space_before (those test (tab 0 (λ v. v)))) a
   unfolding space_before those tab_from
-  no-effects a at = nothing a at
+  no-effects a = nothing a
 
-  pub effect-more : {a b c : List ℕ} {at p q : ℕ} (w : ℕ) {lost : Bool} → lost ≡ test w
-      → Wrote a at (space_before (those test (tab w (λ v. v)))) b p → Wrote b p (space_before (cond lost (w ∷ []) [])) c q
-      → Wrote a at (space_before (those test (tab (w + 1) (λ v. v)))) c q
+  pub effect-more : {a b c : Text} (w : ℕ) {lost : Bool} → lost ≡ test w
+      → Writes a (space_before (those test (tab w (λ v. v)))) b → Writes b (space_before (cond lost (w ∷ []) [])) c
+      → Writes a (space_before (those test (tab (w + 1) (λ v. v)))) c
   effect-more w e f g =
       retext (sym (ap space_before (one_more w) ∙ before-joined (those test (tab w (λ v. v))) (cond (test w) (w ∷ []) [])))
       (then f (retext (ap (λ t. space_before (cond t (w ∷ []) [])) e) g))
 
-pub all-effects : (k : ℕ) (ws : List ℕ) {a b : List ℕ} {at next w all : ℕ} → all ≡ 2 ^ k → w ≡ all
-    → Wrote a at (space_before (those (confounded_in (blocked_plan k ws)) (tab w (λ v. v)))) b next
-    → Wrote a at (space_before (confounded_of k ws)) b next
+pub all-effects : (k : ℕ) (ws : List ℕ) {a b : Text} {w all : ℕ} → all ≡ 2 ^ k → w ≡ all
+    → Writes a (space_before (those (confounded_in (blocked_plan k ws)) (tab w (λ v. v)))) b
+    → Writes a (space_before (confounded_of k ws)) b
 unfolding confounded_of
 all-effects k ws e f g = retext (ap (λ n. space_before (those (confounded_in (blocked_plan k ws)) (tab n (λ v. v)))) (f ∙ e)) g
 
@@ -106,8 +107,8 @@ the-line k ws =
     line-of-words ws (ascii ":") (map letters_of (confounded_of k ws))
     ∙ ap (λ t. space_after ws ++ t) (line-of-effects (ascii ":") (confounded_of k ws))
 
-pub line_made : {a b c d e : List ℕ} {at p q r s : ℕ} (k : ℕ) (ws : List ℕ) → Wrote a at (space_after ws) b p → Wrote b p (58 ∷ []) c q
-    → Wrote c q (space_before (confounded_of k ws)) d r → Wrote d r (newline ∷ []) e s → Wrote a at (list_line k ws) e s
+pub line_made : {a b c d e : Text} (k : ℕ) (ws : List ℕ) → Writes a (space_after ws) b → Writes b (58 ∷ []) c
+    → Writes c (space_before (confounded_of k ws)) d → Writes d (newline ∷ []) e → Writes a (list_line k ws) e
 line_made k ws w x y z = retext (sym (the-line k ws)) (then w (then x (then y z)))
 
 -- ---- how long it is
@@ -135,14 +136,10 @@ few-effects : (k : ℕ) (ws : List ℕ) → k ≤ 5 → length (confounded_of k 
 unfolding confounded_of
 few-effects k ws h = omega (arith, not_more (confounded_in (blocked_plan k ws)) (tab (2 ^ k) (λ v. v)), length-tab (2 ^ k) (λ v. v), pow_mono h)
 
-list-long : (k : ℕ) (ws : List ℕ) → k ≤ 5 → length ws ≤ 4 → length (list_line k ws) ≤ 614
+pub list-long : (k : ℕ) (ws : List ℕ) → k ≤ 5 → length ws ≤ 4 → length (list_line k ws) ≤ 614
 list-long k ws h l =
     rw (the-line k ws, length-append (space_after ws), length-append (ascii ":"), length-append (space_before (confounded_of k ws)))
     (omega (arith, after-long ws, before-long (confounded_of k ws), few-effects k ws h))
 
-pub whole-line : (k : ℕ) (ws : List ℕ) {a b : List ℕ} {n : ℕ} → Wrote a 0 (list_line k ws) b n → length a ≡ 1024 → k ≤ 5 → length ws ≤ 4
-    → n ≡ length (list_line k ws)
-whole-line k ws w e h l = omega (arith, w.ends, e, list-long k ws h l)
-
-pub ends-within : {a t b : List ℕ} {n : ℕ} → Wrote a 0 t b n → n ≤ length b
-ends-within w = omega (arith, w.ends, same_size w)
+pub ends-within : {a b : Text} {t : List ℕ} → a.at ≡ 0 → Writes a t b → b.at ≤ length b.buffer.now
+ends-within s w = omega (arith, s, w.wrote.ends, same_size w)

@@ -1,61 +1,20 @@
 -- The plan that has a list as its block words.
 --
---   Placed ws i ys                            a loop has put the first i words of the list into the places ys
---   placed-none, placed-more, placed-all      before the first, with one more, after the last
---   few_words                                 a list that is accepted has at most four words
---   lost-is                                   whether it confounds an effect
-use Rattle.std.specs.Prelude.{◌≡◌, refl, Bool, List, ◌++◌, ℕ, suc, ◌+◌, ◌-◌, ◌<◌, ◌≤◌, length, take, get_or, set, replicate}
-use Rattle.std.proofs.Common.{◌∙◌, add-one, arith, length-take-le, take_all, take-suc}
-use Rattle.std.proofs.Math.Seq.{append_snoc}
-use Rattle.std.proofs.lemmas.List.{set_at}
+--   few_words    a list that is accepted has at most four words
+--   lost-is      whether it confounds an effect
+use Rattle.std.specs.Prelude.{◌≡◌, refl, Bool, List, ℕ, ◌≤◌, length}
+use Rattle.std.proofs.Common.{◌∙◌}
+use Rattle.plan.specs.declared.types.Plan.{Plan}
 use Rattle.plan.specs.Check.{confounded_accepted}
 use Rattle.plan.specs.Plan.{confounded_in}
 use Rattle.plan.proofs.Laws.Accepted.{sizes}
 use Rattle.blockings.specs.Blockings.{blocked_plan}
 use Rattle.blockwords.specs.Inner.Ready.{Blocked}
 
--- ---- its places for block words
-
-pub record Placed (ws : List ℕ) (i : ℕ) (ys : List ℕ) : Type 0 where
-  pub within : i ≤ length ws
-  pub so : ys ≡ take i ws ++ replicate (4 - i) 0
-
-pub placed-none : (ws : List ℕ) → Placed ws 0 (replicate 4 0)
-placed-none ws = record { within = omega arith; so = refl }
-
-module _ {ws : List ℕ} {i : ℕ} {ys : List ℕ} (d : Placed ws i ys) where
-  pub placed-more : i < length ws → length ws ≤ 4 → Placed ws (i + 1) (set ys i (get_or ws i 0))
-  placed-more h few =
-      let m = 4 - suc i in
-      let places : 4 - i ≡ suc m = omega arith in
-      record {
-        within = omega arith;
-        so =
-            rw (d.so, places, add-one i, take-suc ws i 0 h, append_snoc)
-            (set_at (take i ws) 0 (replicate m 0) (get_or ws i 0) i (length-take-le i ws (omega arith)));
-      }
-
-  pub placed-all : length ws ≤ i → ys ≡ ws ++ replicate (4 - length ws) 0
-  placed-all h =
-      let e : i ≡ length ws = omega (arith, d.within) in
-      d.so ∙ rw (take_all i ws h, e) refl
-
--- ---- the plan
-
 pub few_words : {k : ℕ} {ws : List ℕ} → Blocked k ws → length ws ≤ 4
 few_words {k} {ws} b = (sizes (blocked_plan k ws) b.accepted).2
 
-pub lost-is : (k : ℕ) (ws : List ℕ) → Blocked k ws → {places : List ℕ} → places ≡ ws ++ replicate (4 - length ws) 0 → (w : ℕ) {lost : Bool}
-    → lost ≡ confounded_accepted (record {
-      levels = 2;
-      k = k;
-      added = 0;
-      words = replicate 6 0;
-      signs = replicate 6 0;
-      blocks = length ws;
-      blockwords = places;
-      repeats = 1;
-    }) w
+pub lost-is : {k : ℕ} {ws : List ℕ} {p : Plan} (w : ℕ) {lost : Bool} → Blocked k ws → p ≡ blocked_plan k ws → lost ≡ confounded_accepted p w
     → lost ≡ confounded_in (blocked_plan k ws) w
 unfolding confounded_accepted
-lost-is k ws b e w f = f ∙ rw (e, b.accepted) refl
+lost-is w b e f = f ∙ rw (e, b.accepted) refl

@@ -6,7 +6,7 @@ use Rattle.std.proofs.Common.{ap, ◌∙◌}
 use Rattle.plan.specs.declared.types.Plan.{Plan}
 use Rattle.plan.specs.Check.{plan_refusals, plan_refused, with_plan}
 use Rattle.plan.specs.Outcome.{Refusal, refusal, lowest, rank, rising, Lowest}
-use Rattle.plan.specs.Plan.{all_readings}
+use Rattle.plan.specs.Plan.{whole_plan, all_readings}
 use Rattle.plan.specs.Limits.{reading_limit}
 use Rattle.plan.proofs.Laws.Lowest.{is-lowest, with-plan, lowest-with-plan}
 use Rattle.columns.specs.Refusals.{any_beyond, columns_refused, readings_refused}
@@ -29,7 +29,6 @@ use Rattle.heads.specs.Heads.{bad_head, head_plan, head_refusals, head_refused, 
 use Rattle.facts.specs.Facts.{run_on_head, alias_on_head, estimate_on_head}
 use Rattle.figures.specs.Numbers.{wrong_room, room_refused, call_refused}
 use Rattle.tables.specs.Sheets.{wrong_slices, sheet_table_refused}
-use Rattle.wholes.specs.Whole.{whole_plan}
 use Rattle.claims.specs.LowestNumber.{on_plan, on_sheet, on_bytes, on_head, table_refusals_c, LowestNumber}
 
 -- each list has its numbers written out, so that they stand in the order of checks is computed

@@ -11,7 +11,7 @@ use Rattle.std.proofs.Math.Path.{refl, sym, ap}
 use Rattle.std.proofs.Common.{◌∙◌, subst, inl, inr, pow-suc, arith, pow_mono}
 use Rattle.std.proofs.Math.Bool.{true≢false}
 use Rattle.std.proofs.Math.Decide.{dec_lt}
-use borrow.Author.Tests.{le-ltb, eq-eqb, ne_eqb, eqb-true}
+use borrow.Author.Tests.{eq-eqb, ne_eqb, eqb-true}
 use Rattle.std.proofs.lemmas.List.{length-replicate, get_or-replicate}
 use Rattle.std.proofs.Math.Pow.{pow-lt}
 use Rattle.algebra.specs.Laws.Search.{some-false}
@@ -21,13 +21,13 @@ use Rattle.words.specs.Laws.Letters.{beyond-none}
 use Rattle.plan.specs.declared.types.Plan.{Plan}
 use Rattle.plan.specs.Check.{plan_refused}
 use Rattle.plan.specs.Outcome.{given, refused, outcome}
-use Rattle.plan.specs.Limits.{reading_limit, is_beyond}
+use Rattle.plan.specs.Limits.{reading_limit}
 use Rattle.plan.specs.Plan.{all_letters, runs_of, all_readings}
 use Rattle.plan.proofs.Laws.Accepted.{accepted, sizes}
 use Rattle.plan.proofs.Laws.Answers.{given-with, refused-with, given_is, refused-is, plan-first, plan-passed, unwritten}
 use Rattle.aliases.specs.Alias.{alias_refused, alias_values}
 use Rattle.aliases.specs.Laws.Counted.{alias-two}
-use Rattle.columns.specs.Refusals.{any_beyond}
+use Rattle.columns.specs.Laws.Admitted.{none-beyond}
 use Rattle.rows.specs.Kinds.{rows_in, bad_mark, bad_marks}
 use Rattle.anova.specs.declared.types.Figures.{Figures}
 use Rattle.anova.specs.Table.{table_refusals, table_refused, table_figures, table_totals, table_rows}
@@ -224,11 +224,11 @@ module _ (p : Plan) (s : Screens p) where
       by (no h) = get_d_past a (replicate n a) i (omega (arith, length-replicate n a))
 
   zeros-answered : table_refused p (replicate (all_readings p) (pos 0)) (replicate (rows_in p) 0) (replicate (runs_of p) (pos 0)) (replicate (rows_in p) 0) ≡ 0
-  unfolding any_beyond is_beyond bad_marks bad_mark
+  unfolding bad_marks bad_mark
   zeros-answered =
       table-admits p readings unmarked totals unmarked (ok-by p s.accepted) (length-replicate (all_readings p) (pos 0)) (length-replicate (runs_of p) (pos 0))
       (length-replicate (rows_in p) 0) (length-replicate (rows_in p) 0)
-      (some-false (length readings) _ (λ i h. rw (reads-zero (all_readings p) i (pos 0)) (le-ltb (reading_limit p) 0 (omega arith))))
+      (none-beyond (reading_limit p) readings (λ i. rw (reads-zero (all_readings p) i (pos 0)) (omega arith)))
       (some-false (length unmarked) _ (λ w h. rw (reads-zero {A = ℕ} (rows_in p) w 0) refl))
 
   none-marked : MarkedMain p (replicate (rows_in p) 0) → ⊥

@@ -1,15 +1,17 @@
 -- What is known of columns that are not refused, and that this is all that is asked of them.
 --
+--   any-placed                                a value is beyond a limit, by its place
 --   all-within, none-beyond                   no value is beyond a limit, as a bound and as a test
 --   as_long, not-wrong                        the length, as a number and as a test
 --   all-readings, not-wrong-readings          and the number of readings
 --   Columns, admitted, admits                 a column of N within a limit, and one of N to be written: from the number, and back
 --   Readings                                  readings of all runs within the limit, and a column of N to be written
 --   readings-admitted, readings-admits        from the number, and back
-use Rattle.std.specs.Prelude.{◌≡◌, refl, false, ◌||◌, List, ℕ, eqb, ℤ, nat_abs, length}
-use Rattle.std.proofs.Common.{◌∙◌, arith, eq-eqb, eqb-true, le-ltb, ltb-false}
+use Rattle.std.specs.Prelude.{◌≡◌, refl, false, ◌||◌, List, ℕ, eqb, ℤ, pos, nat_abs, length}
+use Rattle.std.proofs.Common.{sym, ◌∙◌, arith, eq-eqb, eqb-true, le-ltb, ltb-false}
 use Rattle.std.proofs.lemmas.Bool.{not-false}
-use Rattle.algebra.specs.Laws.Search.{some-false, none-at}
+use Rattle.algebra.specs.Search.{some}
+use Rattle.algebra.specs.Laws.Search.{some-false, none-at, some_listed}
 use Rattle.algebra.specs.Laws.Tests.{neither}
 use Rattle.contrasts.specs.Columns.{read, AllWithin}
 use Rattle.contrasts.proofs.Laws.Within.{within-upto}
@@ -20,13 +22,19 @@ use Rattle.plan.specs.Limits.{reading_limit, is_beyond}
 use Rattle.plan.proofs.Laws.Answers.{passed, plan-passed, after-plan}
 use Rattle.columns.specs.Refusals.{wrong_length, wrong_readings, any_beyond, columns_refused, readings_refused}
 
+-- a value beyond the limit, by the places
+pub any-placed : (limit : ℕ) (xs : List ℤ) → any_beyond limit xs ≡ some (length xs) (λ i. is_beyond limit (read xs i))
+unfolding any_beyond
+any-placed limit xs = sym (some_listed (is_beyond limit) (pos 0) xs)
+
 pub all-within : (limit : ℕ) (xs : List ℤ) → any_beyond limit xs ≡ false → AllWithin limit xs
-unfolding any_beyond is_beyond
-all-within limit xs e = within-upto limit xs (λ i h. ltb-false limit (nat_abs (read xs i)) (none-at (length xs) _ e i h))
+unfolding is_beyond
+all-within limit xs e =
+    within-upto limit xs (λ i h. ltb-false limit (nat_abs (read xs i)) (none-at (length xs) _ (sym (any-placed limit xs) ∙ e) i h))
 
 pub none-beyond : (limit : ℕ) (xs : List ℤ) → AllWithin limit xs → any_beyond limit xs ≡ false
-unfolding any_beyond is_beyond
-none-beyond limit xs w = some-false (length xs) _ (λ i h. le-ltb limit (nat_abs (read xs i)) (w i))
+unfolding is_beyond
+none-beyond limit xs w = any-placed limit xs ∙ some-false (length xs) _ (λ i h. le-ltb limit (nat_abs (read xs i)) (w i))
 
 pub as_long : (p : Plan) (n : ℕ) → wrong_length p n ≡ false → n ≡ runs_of p
 unfolding wrong_length

@@ -2,10 +2,13 @@
 --
 --   exponent-few       the exponent of r is at most 3
 --   repeats-power      2 to this power is r, where a run may be made r times
+--   zeros-are          and the exponent is how many zeros r ends with
 --   mean-power         of an accepted plan 2 to the power `power_of` is the divisor of the mean
 --   difference-power   and half of it that of a difference
 use Rattle.std.specs.Prelude.{◌≡◌, refl, Bool, true, false, cond, ◌||◌, ℕ, ◌+◌, ◌*◌, ◌-◌, ◌^◌, ◌≤◌, eqb}
-use Rattle.std.proofs.Common.{sym, ap, ◌∙◌, true≢false, arith, eqb-true, pow-add}
+use Rattle.std.proofs.Common.{sym, ap, ◌∙◌, true≢false, arith, eqb-true, pow-add, w8}
+use Rattle.std.specs.Int.{trailing_zeros}
+use Rattle.std.specs.Int.Count.{count_trailing_zeros}
 use Rattle.contrasts.specs.Limits.{is_repeats}
 use Rattle.plan.specs.declared.types.Plan.{Plan}
 use Rattle.plan.proofs.Laws.Accepted.{Accepted}
@@ -26,6 +29,17 @@ unfolding is_repeats exponent_of
 repeats-power r e = by (eqb r 1) (eqb r 2) (eqb r 4) (eqb r 8) refl refl refl refl e
   where
     by : (a b c d : Bool) → eqb r 1 ≡ a → eqb r 2 ≡ b → eqb r 4 ≡ c → eqb r 8 ≡ d → (a || (b || (c || d))) ≡ true → 2 ^ exponent_of r ≡ r
+    by true b c d h i j k t = let s = eqb-true r 1 h in rw s refl
+    by false true c d h i j k t = let s = eqb-true r 2 i in rw s refl
+    by false false true d h i j k t = let s = eqb-true r 4 j in rw s refl
+    by false false false true h i j k t = let s = eqb-true r 8 k in rw s refl
+    by false false false false h i j k t = absurd (true≢false (sym t))
+
+pub zeros-are : (r : ℕ) → is_repeats r ≡ true → trailing_zeros w8 r ≡ exponent_of r
+unfolding is_repeats exponent_of count_trailing_zeros
+zeros-are r e = by (eqb r 1) (eqb r 2) (eqb r 4) (eqb r 8) refl refl refl refl e
+  where
+    by : (a b c d : Bool) → eqb r 1 ≡ a → eqb r 2 ≡ b → eqb r 4 ≡ c → eqb r 8 ≡ d → (a || (b || (c || d))) ≡ true → trailing_zeros w8 r ≡ exponent_of r
     by true b c d h i j k t = let s = eqb-true r 1 h in rw s refl
     by false true c d h i j k t = let s = eqb-true r 2 i in rw s refl
     by false false true d h i j k t = let s = eqb-true r 4 j in rw s refl

@@ -4,12 +4,16 @@
 --   stops, keeps     the number of a head that is refused is that of the call, and what is lent to write stays as it was
 --   plan-is          else the plan that the code holds is that of the head
 --   goes, makes      and number and slices are those of the call on this plan
+--   called_off, left_off    the same where the head is refused by name
+--   called_as, left_as      and where the plan that it holds was read
 use Rattle.std.specs.Prelude.{◌≡◌, List, ℕ}
 use Rattle.std.proofs.Common.{sym, ◌∙◌, arith, eq-eqb, ne_eqb}
 use Rattle.std.proofs.Math.Path.{ap}
 use Rattle.plan.specs.declared.types.Plan.{Plan}
 use Rattle.plan.specs.Check.{plan_refused, with_plan}
-use Rattle.plan.proofs.Laws.Answers.{passed, plan-passed, unwritten, written_new}
+use Rattle.plan.specs.declared.refusals.Refusal as refusals
+use Rattle.plan.specs.Refusals.{number}
+use Rattle.plan.proofs.Laws.Answers.{number_some, passed, plan-passed, unwritten, written_new}
 use Rattle.fields.specs.Fields.{fields_of}
 use Rattle.contents.specs.Held.{held}
 use Rattle.contents.specs.Laws.Holding.{held_all}
@@ -45,3 +49,19 @@ module _ (head : List ℕ) {n : ℕ} (e : n ≡ head_refused head) where
     pub makes : {A : Type 0} (made : Plan → A) (old : A) {x : A} → x ≡ made p → x ≡ leaves head made old
     unfolding leaves
     makes made old d = d ∙ ap made plan-is ∙ written_new (head_refused head) (made (head_plan head)) old (sym e ∙ z)
+
+module _ (head : List ℕ) (r : refusals.Refusal) (e : number r ≡ head_refused head) where
+  pub called_off : (call : Plan → ℕ) → number r ≡ called head call
+  called_off call = stops head e (number_some r) call
+
+  pub left_off : {A : Type 0} (made : Plan → A) (old : A) → old ≡ leaves head made old
+  left_off made old = keeps head e (number_some r) made old
+
+module _ (head : List ℕ) (z : head_refused head ≡ 0) {p : Plan} (is : p ≡ head_plan head) where
+  pub called_as : (call : Plan → ℕ) {m : ℕ} → m ≡ call p → m ≡ called head call
+  unfolding called
+  called_as call d = d ∙ ap call is ∙ rw (eq-eqb (head_refused head) 0 z)
+
+  pub left_as : {A : Type 0} (made : Plan → A) (old : A) {x : A} → x ≡ made p → x ≡ leaves head made old
+  unfolding leaves
+  left_as made old d = d ∙ ap made is ∙ written_new (head_refused head) (made (head_plan head)) old z

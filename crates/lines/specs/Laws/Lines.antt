@@ -1,55 +1,27 @@
 -- Lines, from their parts as the code writes them one after the other.
 --
 --   next-value                                       a value after a space
---   mean-label, letters-label                        the label of a row
---   error-text, blocks-text, no_text                 what a row is marked as
 --   named-long, source-long, check-long, row-long    how long lines are at the most
 --   named-made, source-made, check-made, row_made    the lines
 use Rattle.std.specs.Prelude.{◌≡◌, refl, Bool, true, false, cond, List, [], ◌∷◌, ◌++◌, ℕ, ◌+◌, ◌≤◌, eqb, ℤ, length}
 use Rattle.std.proofs.Math.Path.{ap}
-use Rattle.std.proofs.Common.{◌∙◌, append_assoc, le_refl, arith, eq-eqb, ne_eqb, length-append, SFits}
+use Rattle.std.proofs.Common.{◌∙◌, append_assoc, le_refl, arith, length-append, SFits}
 use Rattle.std.specs.Int.{w64}
 use Rattle.algebra.specs.Laws.Machine.{wrap}
-use Rattle.text.specs.Text.{ascii, Wrote}
+use Rattle.text.specs.declared.bytes.Text.{Text}
+use Rattle.text.specs.Text.{ascii, Writes}
 use Rattle.text.specs.Spelled.{letters_of, decimal, signed}
 use Rattle.text.specs.Laws.Decimal.{signed-kept, decimal-long, signed-long}
-use Rattle.text.specs.Laws.Writing.{nothing, then, retext, letters-long}
-use Rattle.rows.specs.Kinds.{Kind, mean_row, blocks_row, error_row, kept_row, kind_in}
+use Rattle.text.specs.Laws.Writing.{then, retext, letters-long}
+use Rattle.rows.specs.Kinds.{Kind, mean_row, blocks_row, error_row, kept_row}
 use Rattle.lines.specs.Lines.{space, newline, line_of, label_of, kind_words, row_line, named_line, source_line, check_line}
 use Rattle.lines.specs.Inner.Written.{kind_text}
 
 -- ---- fields
 
-module _ {a b c : List ℕ} {at next last : ℕ} where
-  pub next-value : {z : ℤ} → SFits w64 z → Wrote a at (space ∷ []) b next → Wrote b next (signed (wrap z)) c last → Wrote a at (space ∷ signed z) c last
+module _ {a b c : Text} where
+  pub next-value : {z : ℤ} → SFits w64 z → Writes a (space ∷ []) b → Writes b (signed (wrap z)) c → Writes a (space ∷ signed z) c
   next-value f s w = then s (retext (signed-kept f) w)
-
-module _ {a b : List ℕ} {at next : ℕ} where
-  module _ (w : ℕ) where
-    pub mean-label : w ≡ 0 → Wrote a at (ascii "mean") b next → Wrote a at (label_of w) b next
-    unfolding label_of
-    mean-label e f = rw (eq-eqb w 0 e) f
-
-    pub letters-label : (w ≡ 0 → ⊥) → Wrote a at (letters_of w) b next → Wrote a at (label_of w) b next
-    unfolding label_of
-    letters-label h f = rw (ne_eqb w 0 h) f
-
-  module _ (c : ℕ) where
-    pub error-text : c ≡ 1 → Wrote a at (ascii " error") b next → Wrote a at (kind_text (kind_in c)) b next
-    unfolding kind_text kind_in
-    error-text e f = rw (eq-eqb c 1 e) f
-
-    pub blocks-text : c ≡ 3 → Wrote a at (ascii " blocks") b next → Wrote a at (kind_text (kind_in c)) b next
-    unfolding kind_text kind_in
-    blocks-text e f = rw e f
-
-pub no_text : (a : List ℕ) (at c : ℕ) → (c ≡ 1 → ⊥) → (c ≡ 3 → ⊥) → Wrote a at (kind_text (kind_in c)) a at
-unfolding kind_text kind_in
-no_text a at c h k = rw (ne_eqb c 1 h, ne_eqb c 3 k) (by (eqb c 2))
-  where
-    by : (m : Bool) → Wrote a at (kind_text (cond m mean_row kept_row)) a at
-    by true = nothing a at
-    by false = nothing a at
 
 -- ---- lines
 
@@ -61,28 +33,28 @@ ends_with blocks_row n = refl
 ends_with error_row n = refl
 ends_with kept_row n = refl
 
-module _ {a b c d : List ℕ} {at p q r : ℕ} where
-  pub named-made : {name : List ℕ} (n : ℕ) → Wrote a at name b p → Wrote b p (space ∷ decimal n) c q → Wrote c q (newline ∷ []) d r
-      → Wrote a at (named_line name n) d r
+module _ {a b c d : Text} where
+  pub named-made : {name : List ℕ} (n : ℕ) → Writes a name b → Writes b (space ∷ decimal n) c → Writes c (newline ∷ []) d
+      → Writes a (named_line name n) d
   unfolding named_line line_of
   named-made n w x y = then w (then x y)
 
-  pub source-made : {name : List ℕ} (m n : ℕ) → Wrote a at name b p → Wrote b p ((space ∷ decimal m) ++ (space ∷ decimal n)) c q
-      → Wrote c q (newline ∷ []) d r → Wrote a at (source_line name m n) d r
+  pub source-made : {name : List ℕ} (m n : ℕ) → Writes a name b → Writes b ((space ∷ decimal m) ++ (space ∷ decimal n)) c
+      → Writes c (newline ∷ []) d → Writes a (source_line name m n) d
   unfolding source_line line_of
   source-made {name} m n w x y =
       retext (ap (λ l. name ++ (space ∷ l)) (append_assoc (decimal m) (space ∷ decimal n) (newline ∷ []))) (then w (then x y))
 
-module _ {a b c d e : List ℕ} {at p q r s : ℕ} where
-  pub check-made : {x y : ℤ} → SFits w64 x → SFits w64 y → Wrote a at (ascii "check") b p
-      → Wrote b p (space ∷ signed (wrap x)) c q → Wrote c q (space ∷ signed (wrap y)) d r → Wrote d r (newline ∷ []) e s
-      → Wrote a at (check_line x y) e s
+module _ {a b c d e : Text} where
+  pub check-made : {x y : ℤ} → SFits w64 x → SFits w64 y → Writes a (ascii "check") b
+      → Writes b (space ∷ signed (wrap x)) c → Writes c (space ∷ signed (wrap y)) d → Writes d (newline ∷ []) e
+      → Writes a (check_line x y) e
   unfolding check_line line_of
   check-made f g w x y z =
       then w (then (retext (ap (λ t. space ∷ t) (signed-kept f)) x) (then (retext (ap (λ t. space ∷ t) (signed-kept g)) y) z))
 
-  pub row_made : (w m n : ℕ) (k : Kind) → Wrote a at (label_of w) b p → Wrote b p ((space ∷ decimal m) ++ (space ∷ decimal n)) c q
-      → Wrote c q (kind_text k) d r → Wrote d r (newline ∷ []) e s → Wrote a at (row_line w m n k) e s
+  pub row_made : (w m n : ℕ) (k : Kind) → Writes a (label_of w) b → Writes b ((space ∷ decimal m) ++ (space ∷ decimal n)) c
+      → Writes c (kind_text k) d → Writes d (newline ∷ []) e → Writes a (row_line w m n k) e
   unfolding row_line line_of
   row_made w m n k u v x y =
       retext

@@ -17,6 +17,7 @@ use Rattle.algebra.specs.Laws.Search.{none-at}
 use Rattle.algebra.specs.Laws.Tab.{get_d_past}
 use Rattle.contrasts.specs.Limits.{most_two, most_three, is_repeats, most_readings}
 use Rattle.plan.specs.declared.types.Plan.{Plan}
+use Rattle.words.specs.Laws.Any.{none_at}
 use Rattle.words.specs.Words.{letters, beyond, any, among, repeated, combined}
 use Rattle.plan.specs.Plan.{added_words, added_signs, block_words, three_words, combines_to, confounded_in, runs_of, all_readings}
 use Rattle.plan.specs.Outcome.{Refusal, refusal, lowest}
@@ -103,19 +104,18 @@ pub record Accepted (p : Plan) : Type 0 where
 
 words_of : (k least : ℕ) (ws : List ℕ) → any (bad_word k least) ws ≡ false
     → (j : ℕ) → j < length ws → (beyond k (get_or ws j 0) ≡ false) × (least ≤ letters (get_or ws j 0))
-unfolding any bad_word
+unfolding bad_word
 words_of k least ws e j h =
     let w = get_or ws j 0 in
-    let b = neither (beyond k w) (ltb (letters w) least) (none-at (length ws) (λ i. bad_word k least (get_or ws i 0)) e j h) in
+    let b = neither (beyond k w) (ltb (letters w) least) (none_at (bad_word k least) ws e j h) in
     (b.0, ltb-false (letters w) least b.1)
 
 signs_of : (ss : List ℕ) → any bad_sign ss ≡ false → (j : ℕ) → j < length ss → get_or ss j 0 ≤ 1
-unfolding any bad_sign
-signs_of ss e j h = ltb-false 1 (get_or ss j 0) (none-at (length ss) (λ i. bad_sign (get_or ss i 0)) e j h)
+unfolding bad_sign
+signs_of ss e j h = ltb-false 1 (get_or ss j 0) (none_at bad_sign ss e j h)
 
 digits_of : (k : ℕ) (ws : List ℕ) → any (bad_digits k) ws ≡ false → (j : ℕ) → j < length ws → bad_digits k (get_or ws j 0) ≡ false
-unfolding any
-digits_of k ws e = none-at (length ws) (λ i. bad_digits k (get_or ws i 0)) e
+digits_of k ws e = none_at (bad_digits k) ws e
 
 parts : (k : ℕ) (words signs blocks numbers : List ℕ) → bad_words k words signs blocks numbers ≡ false
     → (any (bad_word k 2) words ≡ false) × (any bad_sign signs ≡ false) × (any (bad_word k 1) blocks ≡ false) × (any (bad_digits k) numbers ≡ false)
@@ -127,13 +127,13 @@ parts k words signs blocks numbers e =
     (a.0, b.0, c.0, c.1)
 
 apart_of : (ws : List ℕ) → repeated ws ≡ false → (i j : ℕ) → i < j → j < length ws → get_or ws i 0 ≡ get_or ws j 0 → ⊥
-unfolding repeated among any
+unfolding repeated among
 apart_of ws e i j h l d =
     let n : length (take j ws) ≡ j = length-take-le j ws (omega arith) in
     let t : i < length (take j ws) = omega arith in
     let f = none-at (length ws) (λ m. among (get_or ws m 0) (take m ws)) e j l in
     eqb-false (get_or (take j ws) i 0) (get_or ws j 0)
-    (none-at (length (take j ws)) (λ m. eqb (get_or (take j ws) m 0) (get_or ws j 0)) f i t)
+    (none_at (λ v. eqb v (get_or ws j 0)) (take j ws) f i t)
     (get_or-take j ws i 0 h ∙ d)
 
 lost-of : (words blocks : List ℕ) → dependent blocks ≡ false → loses_factor words blocks ≡ false

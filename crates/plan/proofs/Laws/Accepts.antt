@@ -14,10 +14,11 @@ use borrow.Author.Tests.{eq-eqb, ne_eqb, le-ltb}
 use Rattle.algebra.specs.Laws.Tests.{none}
 use Rattle.algebra.specs.Laws.Search.{some-false}
 use Rattle.contrasts.specs.Limits.{most_two, most_three, is_repeats, most_readings}
-use Rattle.words.specs.Words.{letters, any, among, repeated, combined}
+use Rattle.words.specs.Laws.Any.{all_fail}
+use Rattle.words.specs.Words.{letters, among, repeated, combined}
 use Rattle.plan.specs.declared.types.Plan.{Plan}
 use Rattle.plan.specs.Plan.{added_words, added_signs, block_words, three_words, combines_to, factors_of, confounded_in, runs_of, all_readings}
-use Rattle.plan.specs.Check.{bad_levels, bad_factors, bad_counts, bad_word, bad_sign, bad_words, dependent, factor_word, loses_factor, bad_repeats, plan_refused}
+use Rattle.plan.specs.Check.{bad_digits, bad_levels, bad_factors, bad_counts, bad_word, bad_sign, bad_words, dependent, factor_word, loses_factor, bad_repeats, plan_refused}
 use Rattle.plan.proofs.Laws.Combinations.{combination, no-combination}
 use Rattle.plan.proofs.Laws.Accepted.{Accepted}
 
@@ -47,21 +48,21 @@ module _ {p : Plan} (a : Accepted p) where
       by (inr e) = let z = a.counts.2 e in rw (e, z.0, le-ltb 1 p.blocks z.1) refl
 
   words_right : bad_words p.k (added_words p) (added_signs p) (block_words p) (three_words p) ≡ false
-  unfolding bad_words any bad_word bad_sign
+  unfolding bad_words bad_word bad_sign
   words_right =
-      none (some-false (length (added_words p)) _ (λ j h. none (a.words j h).0 (le-ltb (letters (get_or (added_words p) j 0)) 2 (a.words j h).1)))
-      (none (some-false (length (added_signs p)) _ (λ j h. le-ltb 1 (get_or (added_signs p) j 0) (a.signs j h)))
-      (none (some-false (length (block_words p)) _ (λ j h. none (a.blocks j h).0 (le-ltb (letters (get_or (block_words p) j 0)) 1 (a.blocks j h).1)))
-      (some-false (length (three_words p)) _ (λ j h. a.digits j h))))
+      none (all_fail (bad_word p.k 2) (added_words p) (λ j h. none (a.words j h).0 (le-ltb (letters (get_or (added_words p) j 0)) 2 (a.words j h).1)))
+      (none (all_fail bad_sign (added_signs p) (λ j h. le-ltb 1 (get_or (added_signs p) j 0) (a.signs j h)))
+      (none (all_fail (bad_word p.k 1) (block_words p) (λ j h. none (a.blocks j h).0 (le-ltb (letters (get_or (block_words p) j 0)) 1 (a.blocks j h).1)))
+      (all_fail (bad_digits p.k) (three_words p) (λ j h. a.digits j h))))
 
   apart-right : repeated (added_words p) ≡ false
-  unfolding repeated among any
+  unfolding repeated among
   apart-right = some-false (length (added_words p)) _ (λ j h. at j h)
     where
       at : (j : ℕ) → j < length (added_words p) → among (get_or (added_words p) j 0) (take j (added_words p)) ≡ false
       at j h =
           let n : length (take j (added_words p)) ≡ j = length-take-le j (added_words p) (omega arith) in
-          some-false (length (take j (added_words p))) _
+          all_fail (λ v. eqb v (get_or (added_words p) j 0)) (take j (added_words p))
           (λ i l.
           let i<j : i < j = omega (arith, n, l) in
           ne_eqb (get_or (take j (added_words p)) i 0) (get_or (added_words p) j 0)

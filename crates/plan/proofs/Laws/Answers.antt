@@ -14,11 +14,22 @@
 --   given_is           an answer that is given has the number 0, and the values
 --   refused-is         and one that is refused has its number
 --   refused-of         the number of an answer is the number that it was made of
-use Rattle.std.specs.Prelude.{◌≡◌, refl, Bool, true, false, cond, List, ℕ, ◌<◌}
+--   number_some        a refusal's number is not 0
+--   plan_stops         where the plan is refused a call's number is the plan's
+--   refused_first      and its refusal is the answer
+--   by_number          an answer with no values, by its number
+--   number_by          and back
+--   refused_by         a refusal is the answer of its number
+--   left_alone         and leaves a lent slice as it was
+--   stops              both
+use Rattle.std.specs.Prelude.{Result, Ok, Err, ◌≡◌, refl, Bool, true, false, cond, List, ℕ, ◌<◌}
 use Rattle.std.proofs.Common.{sym, ap, ◌∙◌, true≢false, arith, eq-eqb, ne_eqb}
 use Rattle.std.proofs.Math.Decide.{ℕ_discrete}
 use Rattle.plan.specs.declared.types.Plan.{Plan}
 use Rattle.plan.specs.Outcome.{Refusal, lowest, Outcome, given, refused, outcome, written, refused_of}
+use Rattle.plan.specs.declared.refusals.Refusal as refusals
+use Rattle.plan.specs.declared.refusals.Refusal.TheVariants as refusal
+use Rattle.plan.specs.Refusals.{number, number_of, outcome_by}
 use Rattle.plan.specs.Check.{plan_refused, with_plan}
 
 pub refused-with : {A : Type 0} (n : ℕ) (v : A) → (n ≡ 0 → ⊥) → outcome n v ≡ refused n
@@ -87,3 +98,49 @@ module _ {A : Type 0} (m : ℕ) (v : A) where
 
   pub refused-is : {n : ℕ} → refused n ≡ outcome m v → (n ≡ m) × (m ≡ 0 → ⊥)
   refused-is e = (ap refused_of e ∙ refused-of m v, λ z. true≢false (sym (ap is_given (e ∙ given-with m v z))))
+
+-- ---- refusals by name
+
+pub number_some : (r : refusals.Refusal) → number r ≡ 0 → ⊥
+number_some refusal.Sheet e = omega (arith, e)
+number_some refusal.Levels e = omega (arith, e)
+number_some refusal.Factors e = omega (arith, e)
+number_some refusal.Counts e = omega (arith, e)
+number_some refusal.Word e = omega (arith, e)
+number_some refusal.SameWord e = omega (arith, e)
+number_some refusal.Dependent e = omega (arith, e)
+number_some refusal.LostFactor e = omega (arith, e)
+number_some refusal.ThreeLevels e = omega (arith, e)
+number_some refusal.NotInPlan e = omega (arith, e)
+number_some refusal.Length e = omega (arith, e)
+number_some refusal.Beyond e = omega (arith, e)
+number_some refusal.Marks e = omega (arith, e)
+number_some refusal.NoReadings e = omega (arith, e)
+number_some refusal.Repeats e = omega (arith, e)
+number_some refusal.WordCount e = omega (arith, e)
+number_some refusal.Room e = omega (arith, e)
+number_some refusal.Meeting e = omega (arith, e)
+
+pub plan_stops : (r : refusals.Refusal) (p : Plan) (further : List Refusal) → number r ≡ plan_refused p → number r ≡ with_plan p further
+plan_stops r p further e = plan-first p further e (number_some r)
+
+pub by_number : (answer : Result Unit refusals.Refusal) {n : ℕ} → number_of answer ≡ n → outcome_by (λ v. v) answer ≡ outcome n tt
+by_number (Ok v) e = rw (← e) refl
+by_number (Err r) e = rw (← e) (sym (refused-with (number r) tt (number_some r)))
+
+pub number_by : (answer : Result Unit refusals.Refusal) {n : ℕ} → outcome_by (λ v. v) answer ≡ outcome n tt → number_of answer ≡ n
+number_by (Ok v) {n} e = sym (given_is n tt e).0
+number_by (Err r) {n} e = (refused-is n tt e).0
+
+pub refused_by : {B : Type 0} (r : refusals.Refusal) {n : ℕ} (v : B) → number r ≡ n → refused (number r) ≡ outcome n v
+refused_by r v e = rw (← e) (sym (refused-with (number r) v (number_some r)))
+
+pub left_alone : {A : Type 0} (r : refusals.Refusal) {n : ℕ} (new old : A) → number r ≡ n → old ≡ written n new old
+left_alone r {n} new old e = unwritten n new old (λ z. number_some r (e ∙ z))
+
+pub stops : {A B : Type 0} (r : refusals.Refusal) {n : ℕ} (v : B) (new old : A) → number r ≡ n → (refused (number r) ≡ outcome n v) × (old ≡ written n new old)
+stops r v new old e = stopped v new old e (number_some r)
+
+pub refused_first : {B : Type 0} (r : refusals.Refusal) (p : Plan) (further : List Refusal) (v : B) → number r ≡ plan_refused p
+    → refused (number r) ≡ outcome (with_plan p further) v
+refused_first r p further v e = refused_by r v (plan_stops r p further e)

@@ -9,21 +9,21 @@ use Rattle.std.proofs.Common.{ap, zero-lt-suc, arith, eqb-true}
 use Rattle.std.proofs.Math.Nat.{one-le-pow}
 use Rattle.std.proofs.Math.Dec.{eqb}
 use Rattle.std.proofs.lemmas.Bool.{eqb-false}
-use Rattle.algebra.specs.Laws.Search.{none-at}
 use Rattle.algebra.specs.Laws.Tests.{fails}
-use Rattle.words.specs.Words.{letters, combined, any, among}
+use Rattle.words.specs.Words.{letters, combined, among}
 use Rattle.words.specs.Laws.Letters.{letters-none}
 use Rattle.words.specs.Laws.Parity.{letters-one}
 use Rattle.words.specs.Laws.Combined.{combined-within}
 use Rattle.plan.specs.declared.types.Plan.{Plan}
 use Rattle.plan.specs.Plan.{added_words, block_words, combines_to, confounded_in}
+use Rattle.words.specs.Laws.Any.{none_at}
 use Rattle.plan.proofs.Laws.Combinations.{the-combination}
 use Rattle.plan.proofs.Laws.Accepted.{Accepted}
 
 -- each of the words is among them
 own-word : (ws : List ℕ) (j : ℕ) → j < length ws → among (get_or ws j 0) ws ≡ false → ⊥
-unfolding among any
-own-word ws j h e = eqb-false (get_or ws j 0) (get_or ws j 0) (none-at (length ws) (λ i. eqb (get_or ws i 0) (get_or ws j 0)) e j h) refl
+unfolding among
+own-word ws j h e = eqb-false (get_or ws j 0) (get_or ws j 0) (none_at (λ v. eqb v (get_or ws j 0)) ws e j h) refl
 
 module _ {p : Plan} (a : Accepted p) (w : ℕ) (e : confounded_in p w ≡ true) where
   pub not-empty : w ≡ 0 → ⊥

@@ -14,9 +14,9 @@
 --   letters-few                             there are at most 16 letters, base and added
 --   run-count, reading-count                what `runs` and `reading_count` give of an accepted plan
 --   spacing-is, confounded-is               and `spacing` and `confounded`
---   power-room, power-more                  the loop that multiplies
-use Rattle.std.specs.Prelude.{◌≡◌, refl, ◌⊎◌, Bool, true, false, ℕ, ◌+◌, ◌*◌, ◌^◌, ◌<◌, ◌≤◌, replicate}
-use Rattle.std.proofs.Common.{ap, ◌∙◌, inl, inr, le_trans, mul-le-mul_left, pow-suc, add-one, arith, length-take, eq-eqb}
+--   power-fits                              a power of a plan's levels fits a machine word
+use Rattle.std.specs.Prelude.{◌≡◌, refl, ◌⊎◌, Bool, true, false, ℕ, ◌^◌, ◌<◌, ◌≤◌, replicate}
+use Rattle.std.proofs.Common.{ap, ◌∙◌, inl, inr, le_trans, arith, length-take, eq-eqb}
 use Rattle.std.proofs.Math.Nat.{pow-le-pow_left, pow-le-pow_right}
 use Rattle.std.proofs.lemmas.Bool.{lt-leb}
 use Rattle.contrasts.specs.Limits.{most_two, most_three, most_readings}
@@ -138,12 +138,9 @@ pub confounded-is : (p : Plan) (w : ℕ) → plan_refused p ≡ 0 → confounded
 unfolding confounded_accepted
 confounded-is p w e = rw (eq-eqb (plan_refused p) 0 e) refl
 
--- ---- the loop that multiplies
+-- ---- powers
 
-pub power-room : (b i n : ℕ) → b ≤ 3 → i ≤ 10 → n ≡ b ^ i → n * b < 2 ^ 64
-power-room b i n hb hi e =
-    let s : b ^ i ≤ 59049 = le_trans (pow-le-pow_left hb i) (pow-le-pow_right {n = 3} (omega arith) hi) in
-    omega (arith, e, s, mul-le-mul_left n hb)
-
-pub power-more : (b i n : ℕ) → n ≡ b ^ i → n * b ≡ b ^ (i + 1)
-power-more b i n e = rw (e, add-one i, pow-suc)
+pub power-fits : (b k : ℕ) → b ≤ 3 → k ≤ 10 → b ^ k < 2 ^ 64
+power-fits b k hb hk =
+    let s : b ^ k ≤ 59049 = le_trans (pow-le-pow_left hb k) (pow-le-pow_right {n = 3} (omega arith) hk) in
+    omega (arith, s)

@@ -9,7 +9,7 @@ use Rattle.std.specs.Prelude.{cond, List, [], ◌++◌, ℕ, zero, suc, ◌-◌,
 use Rattle.plan.specs.declared.types.Plan.{Plan}
 use Rattle.plan.specs.Plan.{run_sums_of}
 use Rattle.words.specs.Words.{letters}
-use Rattle.rows.specs.Kinds.{kind_in}
+use Rattle.rows.specs.Kinds.{Kind, kept_row}
 use Rattle.lines.specs.Lines.{row_line}
 use Rattle.anova.specs.Table.{table_refused, table_figures, rows_of}
 use Rattle.printing.specs.Printed.{table_text, printed}
@@ -24,9 +24,9 @@ degrees_by levels w = cond (eqb levels 2) 1 (2 ^ letters w)
 unfoldable pub degrees_left : ℕ → ℕ → ℕ → ℕ
 degrees_left levels used w = degrees_by levels w - cond (eqb used 0) 0 (cond (eqb w used) 2 0)
 
-unfoldable pub rows_by : ℕ → ℕ → List ℕ → List ℕ → ℕ → List ℕ
+unfoldable pub rows_by : ℕ → ℕ → List Kind → List ℕ → ℕ → List ℕ
 rows_by levels used kinds rows zero = []
-rows_by levels used kinds rows (suc w) = rows_by levels used kinds rows w ++ row_line w (degrees_left levels used w) (get_or rows w 0) (kind_in (get_or kinds w 0))
+rows_by levels used kinds rows (suc w) = rows_by levels used kinds rows w ++ row_line w (degrees_left levels used w) (get_or rows w 0) (get_or kinds w kept_row)
 
 -- ---- the table
 

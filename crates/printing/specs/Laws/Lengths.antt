@@ -3,8 +3,8 @@
 --   text-fits              no text of a sheet is over 69,632 bytes long
 --   text-written           the text of a sheet from the buffer's first place on
 --   too_long, long-enough  the text of a sheet by its length, as code writes it
-use Rattle.std.specs.Prelude.{◌≡◌, Bool, true, false, cond, List, ◌++◌, ℕ, zero, suc, ◌+◌, ◌*◌, ◌<◌, ◌≤◌, ltb, length, get_or, drop}
-use Rattle.std.proofs.Common.{sym, ap, ◌∙◌, suc-mul, arith, eq-eqb, ne_eqb, lt-ltb, le-ltb, length-append}
+use Rattle.std.specs.Prelude.{◌≡◌, refl, Bool, true, false, cond, List, ◌++◌, ℕ, zero, suc, ◌+◌, ◌*◌, ◌<◌, ◌≤◌, ltb, length, get_or, drop}
+use Rattle.std.proofs.Common.{◌∙◌, suc-mul, arith, eq-eqb, ne_eqb, lt-ltb, le-ltb, length-append}
 use Rattle.std.proofs.Math.Decide.{ℕ_discrete}
 use Rattle.plan.specs.declared.types.Plan.{Plan}
 use Rattle.plan.specs.Check.{plan_refused}
@@ -15,7 +15,8 @@ use Rattle.fields.specs.Fields.{fields_of}
 use Rattle.contents.specs.Contents.{plan_in, readings_in, marks_in}
 use Rattle.sheet.specs.Sheet.{marks_refused}
 use Rattle.sheet.specs.Laws.Admitted.{marks-admitted}
-use Rattle.text.specs.Text.{ascii, Wrote}
+use Rattle.text.specs.declared.bytes.Text.{Text}
+use Rattle.text.specs.Text.{ascii, Writes}
 use Rattle.text.specs.Laws.Writing.{from_start}
 use Rattle.lines.specs.Lines.{named_line, source_line, check_line}
 use Rattle.lines.specs.Laws.Lines.{named-long, source-long, check-long, row-long}
@@ -75,19 +76,19 @@ text-fits sheet = by (ℕ_discrete (print_refused sheet) 0)
         rw (eq-eqb (print_refused sheet) 0 z) (omega (arith, long, rows_few p (accepted-plan sheet z)))
     by (no z) = rw (ne_eqb (print_refused sheet) 0 z) (omega (arith, named-long (ascii "refused") (print_refused sheet)))
 
-pub text-written : (sheet : List ℕ) {a b : List ℕ} {next : ℕ} → length a ≡ 69632 → Wrote a 0 (text_of sheet) b next
-    → (next ≡ length (text_of sheet)) × (b ≡ text_of sheet ++ drop next a)
-text-written sheet {a} long w =
-    let s = from_start w (omega (arith, long, text-fits sheet)) in
-    (s.0, s.1 ∙ ap (λ n. text_of sheet ++ drop n a) (sym s.0))
+-- what it is in the buffer
+pub text-written : (sheet : List ℕ) {a b : Text} {before : List ℕ} {n : ℕ} → a.at ≡ 0 → a.buffer.now ≡ before → length before ≡ 69632 → Writes a (text_of sheet) b
+    → n ≡ b.at → (n ≡ length (text_of sheet)) × (b.buffer.now ≡ text_of sheet ++ drop n before)
+text-written sheet {a} {b} {before} {n} start lent long w end =
+    let s = from_start w start (rw lent (omega (arith, long, text-fits sheet))) in
+    let whole = end ∙ s.0 in
+    (whole, s.1 ∙ rw (lent, whole) refl)
 
-module _ (sheet : List ℕ) {a b : List ℕ} {next : ℕ} (long : length a ≡ 69632) where
-  pub too_long : Wrote a 0 (named_line (ascii "refused") 1) b next → longest_sheet < length sheet
-      → (next ≡ length (text_of sheet)) × (b ≡ text_of sheet ++ drop next a)
+module _ (sheet : List ℕ) {a b : Text} where
+  pub too_long : Writes a (named_line (ascii "refused") 1) b → longest_sheet < length sheet → Writes a (text_of sheet) b
   unfolding text_of printed print_refused
-  too_long w h = text-written sheet long (rw (lt-ltb longest_sheet (length sheet) h) w)
+  too_long w h = rw (lt-ltb longest_sheet (length sheet) h) w
 
-  pub long-enough : Wrote a 0 (printed (marks_refused sheet) (sheet_table sheet)) b next → length sheet ≤ longest_sheet
-      → (next ≡ length (text_of sheet)) × (b ≡ text_of sheet ++ drop next a)
+  pub long-enough : Writes a (printed (marks_refused sheet) (sheet_table sheet)) b → length sheet ≤ longest_sheet → Writes a (text_of sheet) b
   unfolding text_of print_refused
-  long-enough w h = text-written sheet long (rw (le-ltb longest_sheet (length sheet) h) w)
+  long-enough w h = rw (le-ltb longest_sheet (length sheet) h) w

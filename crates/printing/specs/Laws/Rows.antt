@@ -31,10 +31,10 @@ use Rattle.plan.proofs.Laws.Accepted.{accepted}
 use Rattle.plan.proofs.Laws.Sizes.{plan-kind, factors-two, factors-three}
 use Rattle.plan.proofs.Laws.Words.{no_number, used-row}
 use Rattle.contrasts.proofs.Laws.Levels.{the-three}
-use Rattle.rows.specs.Kinds.{rows_in, kind_of, code_of, kind_in, kinds_of}
-use Rattle.rows.proofs.Laws.Kinds.{kind-in}
+use Rattle.rows.specs.Kinds.{rows_in, Kind, kept_row, kind_of, kinds_of}
 use Rattle.rows.proofs.Laws.Rows.{rows_few}
-use Rattle.text.specs.Text.{Wrote}
+use Rattle.text.specs.declared.bytes.Text.{Text}
+use Rattle.text.specs.Text.{Writes}
 use Rattle.text.specs.Laws.Writing.{nothing, then, retext}
 use Rattle.lines.specs.Lines.{row_line}
 use Rattle.anova.specs.Table.{block_degrees, row_degrees}
@@ -88,17 +88,17 @@ module _ (levels used w : ℕ) {n : ℕ} (all : n ≡ degrees_by levels w) where
 
 -- ---- the loop
 
-pub no_rows : (a : List ℕ) (at levels used : ℕ) (kinds rows : List ℕ) → Wrote a at (rows_by levels used kinds rows 0) a at
+pub no_rows : (a : Text) (levels used : ℕ) (kinds : List Kind) (rows : List ℕ) → Writes a (rows_by levels used kinds rows 0) a
 unfolding rows_by
-no_rows a at levels used kinds rows = nothing a at
+no_rows a levels used kinds rows = nothing a
 
-module _ {a b c : List ℕ} {at next last : ℕ} (levels used : ℕ) (kinds rows : List ℕ) (w : ℕ) where
-  pub row_more : {d : ℕ} → d ≡ degrees_left levels used w → Wrote a at (rows_by levels used kinds rows w) b next
-      → Wrote b next (row_line w d (get_or rows w 0) (kind_in (get_or kinds w 0))) c last → Wrote a at (rows_by levels used kinds rows (w + 1)) c last
+module _ {a b c : Text} (levels used : ℕ) (kinds : List Kind) (rows : List ℕ) (w : ℕ) where
+  pub row_more : {d : ℕ} → d ≡ degrees_left levels used w → Writes a (rows_by levels used kinds rows w) b
+      → Writes b (row_line w d (get_or rows w 0) (get_or kinds w kept_row)) c → Writes a (rows_by levels used kinds rows (w + 1)) c
   unfolding rows_by
   row_more e f g =
       retext
-      (ap (λ d. rows_by levels used kinds rows w ++ row_line w d (get_or rows w 0) (kind_in (get_or kinds w 0))) e ∙ ap (rows_by levels used kinds rows) (sym (add-one w)))
+      (ap (λ d. rows_by levels used kinds rows w ++ row_line w d (get_or rows w 0) (get_or kinds w kept_row)) e ∙ ap (rows_by levels used kinds rows) (sym (add-one w)))
       (then f g)
 
 -- ---- the plan
@@ -151,11 +151,11 @@ module _ {p : Plan} {rows : List ℕ} (ready : RowsReady p rows) (marks : List �
   unfolding rows_by row_lines kinds_of
   so_far zero h = refl
   so_far (suc w) h =
-      ap (λ t. t ++ row_line w (degrees_left p.levels (used_row p) w) (get_or rows w 0) (kind_in (get_or (kinds_of p marks) w 0))) (so_far w (omega arith))
-      ∙ rw (left-are w (omega arith), get_or-tab 0 1024 (λ v. code_of (kind_of p marks v)) w (omega (arith, rows_few p ready.plan)), kind-in (kind_of p marks w)) refl
+      ap (λ t. t ++ row_line w (degrees_left p.levels (used_row p) w) (get_or rows w 0) (get_or (kinds_of p marks) w kept_row)) (so_far w (omega arith))
+      ∙ rw (left-are w (omega arith), get_or-tab kept_row 1024 (kind_of p marks) w (omega (arith, rows_few p ready.plan))) refl
 
-  pub all-rows : {a b : List ℕ} {at next i used : ℕ} {kinds : List ℕ} → used ≡ used_row p → kinds ≡ kinds_of p marks → i ≡ length rows
-      → Wrote a at (rows_by p.levels used kinds rows i) b next → Wrote a at (row_lines p marks rows (length rows)) b next
+  pub all-rows : {a b : Text} {i used : ℕ} {kinds : List Kind} → used ≡ used_row p → kinds ≡ kinds_of p marks → i ≡ length rows
+      → Writes a (rows_by p.levels used kinds rows i) b → Writes a (row_lines p marks rows (length rows)) b
   all-rows {i = i} {used = used} d e n w =
       retext
       (ap (λ k. rows_by p.levels used k rows i) e

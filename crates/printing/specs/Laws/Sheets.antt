@@ -3,27 +3,27 @@
 --   own-plan, own-marks, own-readings    what they give of an accepted sheet is what its fields hold
 --   sheet-ready                          of an accepted sheet all that the table asks is known
 --   sheet-made, sheet-stopped            the text of an accepted sheet, and of one that is refused
-use Rattle.std.specs.Prelude.{◌≡◌, refl, ℕ, ◌≤◌, ℤ, length, take}
+use Rattle.std.specs.Prelude.{Result, Ok, Err, ◌≡◌, refl, ℕ, ◌≤◌, ℤ, length, take}
 use Rattle.std.proofs.Math.Path.{sym}
 use Rattle.std.proofs.Common.{ap, ◌∙◌, arith, length-append, length-drop, take_at}
 use mathlib.Core.List.{List, [], ◌++◌}
 use Rattle.std.proofs.Math.ListN.{drop}
 use Rattle.plan.specs.declared.types.Plan.{Plan}
+use Rattle.plan.specs.declared.refusals.Refusal.{Refusal}
 use Rattle.plan.specs.Outcome.{outcome}
+use Rattle.plan.specs.Refusals.{number}
 use Rattle.plan.specs.Plan.{all_readings}
 use Rattle.plan.proofs.Laws.Answers.{written_new, given_is, refused-is}
 use Rattle.plan.proofs.Laws.Sizes.{readings-few}
-use Rattle.columns.specs.declared.types.Answer.{Answer}
-use Rattle.columns.specs.declared.types.Answer.TheVariants.{Done, Refused}
-use Rattle.columns.specs.Refusals.{answer_outcome}
 use Rattle.columns.specs.Laws.Admitted.{all-readings}
 use Rattle.rows.proofs.Laws.Rows.{rows-as-long}
 use Rattle.fields.specs.Fields.{fields_of}
 use Rattle.contents.specs.Contents.{plan_in, readings_in, marks_in}
-use Rattle.sheet.specs.Sheet.{read_refused, no_plan, read_plan, read_column, marks_refused, marks_of}
+use Rattle.sheet.specs.Sheet.{sheet_outcome, read_refused, no_plan, read_plan, read_column, marks_refused, marks_of}
 use Rattle.sheet.specs.Laws.Admitted.{read-admitted}
 use Rattle.sheet.specs.Laws.Marks.{same-refused, accepted-without}
-use Rattle.text.specs.Text.{ascii, Wrote}
+use Rattle.text.specs.declared.bytes.Text.{Text}
+use Rattle.text.specs.Text.{ascii, Writes}
 use Rattle.text.specs.Laws.Writing.{retext}
 use Rattle.lines.specs.Lines.{named_line}
 use Rattle.printing.specs.Inner.Ready.{SheetReady}
@@ -33,22 +33,22 @@ use Rattle.printing.specs.Laws.Tables.{given-text, refused-text}
 
 -- ---- a sheet that is refused
 
-pub sheet-stopped : (sheet : List ℕ) (room : ℕ) → 1024 ≤ room → {answer : Answer} → answer_outcome answer ≡ outcome (read_refused sheet room) tt
-    → {n : ℕ} → answer ≡ Refused n → {a b : List ℕ} {at next : ℕ} → Wrote a at (named_line (ascii "refused") n) b next
-    → Wrote a at (printed (marks_refused sheet) (sheet_table sheet)) b next
-sheet-stopped sheet room wide told is w =
-    let s = refused-is (read_refused sheet room) tt (ap answer_outcome (sym is) ∙ told) in
+pub sheet-stopped : (sheet : List ℕ) (room : ℕ) → 1024 ≤ room → {answer : Result Plan Refusal} → sheet_outcome answer ≡ outcome (read_refused sheet room) tt
+    → {r : Refusal} {n : ℕ} → answer ≡ Err r → n ≡ number r → {a b : Text} → Writes a (named_line (ascii "refused") n) b
+    → Writes a (printed (marks_refused sheet) (sheet_table sheet)) b
+sheet-stopped sheet room wide told is own w =
+    let s = refused-is (read_refused sheet room) tt (ap sheet_outcome (sym is) ∙ told) in
     let e = same-refused sheet room wide in
-    refused-text (sheet_table sheet) (s.0 ∙ e) (λ z. s.1 (e ∙ z)) w
+    refused-text (sheet_table sheet) (own ∙ s.0 ∙ e) (λ z. s.1 (e ∙ z)) w
 
 -- ---- a sheet that is accepted
 
-module _ (sheet : List ℕ) (before : List ℤ) (long : length before ≡ 1024) {answer : Answer} (told : answer_outcome answer ≡ outcome (read_refused sheet (length before)) tt) where
-  module _ (is : answer ≡ Done) where
+module _ (sheet : List ℕ) (before : List ℤ) (long : length before ≡ 1024) {answer : Result Plan Refusal} (told : sheet_outcome answer ≡ outcome (read_refused sheet (length before)) tt) where
+  module _ {p : Plan} (is : answer ≡ Ok p) where
     accepted : read_refused sheet (length before) ≡ 0
-    accepted = (given_is (read_refused sheet (length before)) tt (ap answer_outcome (sym is) ∙ told)).0
+    accepted = (given_is (read_refused sheet (length before)) tt (ap sheet_outcome (sym is) ∙ told)).0
 
-    module _ {p : Plan} {column : List ℤ} {marks : List ℕ}
+    module _ {column : List ℤ} {marks : List ℕ}
         (plan-is : p ≡ read_plan sheet (length before)) (column-is : column ≡ read_column sheet before) (marks-are : marks ≡ marks_of sheet) where
       pub own-plan : p ≡ plan_in (fields_of sheet)
       unfolding read_plan
@@ -84,9 +84,9 @@ module _ (sheet : List ℕ) (before : List ℤ) (long : length before ≡ 1024) 
             lawful = rw (own-plan, own-marks) a.lawful;
           }
 
-      pub sheet-made : {a b : List ℕ} {at next : ℕ}
-          → Wrote a at (made_text p (take (all_readings p) column) marks) b next
-          → Wrote a at (printed (marks_refused sheet) (sheet_table sheet)) b next
+      pub sheet-made : {a b : Text}
+          → Writes a (made_text p (take (all_readings p) column) marks) b
+          → Writes a (printed (marks_refused sheet) (sheet_table sheet)) b
       unfolding sheet_table
       sheet-made w =
           given-text (sheet_table sheet) (sym (same-refused sheet (length before) (omega (arith, long))) ∙ accepted)

@@ -9,7 +9,7 @@
 --   few-runs, readings-long, few-rows
 --                                the parts that are lent to the table call
 --   lent-text                    the text of an accepted sheet's table
-use Rattle.std.specs.Prelude.{◌≡◌, refl, List, ℕ, ◌^◌, ◌<◌, ◌≤◌, ℤ, take}
+use Rattle.std.specs.Prelude.{Result, Ok, Err, ◌≡◌, refl, List, ℕ, ◌^◌, ◌<◌, ◌≤◌, ℤ, take}
 use Rattle.std.proofs.Math.Path.{sym, ap, ap₂}
 use Rattle.std.proofs.Common.{◌∙◌, arith, eq-eqb, ne_eqb, length-take-le}
 use Rattle.std.proofs.Math.ListN.{length}
@@ -18,19 +18,20 @@ use Rattle.algebra.specs.Laws.Machine.{wrap}
 use Rattle.algebra.proofs.Laws.Machine.{kept}
 use Rattle.algebra.specs.Laws.Tab.{length-tab}
 use Rattle.plan.specs.declared.types.Plan.{Plan}
+use Rattle.plan.specs.declared.refusals.Refusal.{Refusal}
 use Rattle.plan.specs.Outcome.{outcome}
+use Rattle.plan.specs.Refusals.{number as number_of}
 use Rattle.plan.specs.Check.{run_count, reading_count, plan_refused}
 use Rattle.plan.specs.Plan.{runs_of, all_readings, run_sums_of}
 use Rattle.plan.proofs.Laws.Answers.{written_new, given_is, refused-is}
 use Rattle.plan.proofs.Laws.Sizes.{run-count, reading-count, runs-few, readings-few}
 use Rattle.rows.specs.Kinds.{rows_in, row_count}
 use Rattle.rows.proofs.Laws.Rows.{row-count, rows_few}
-use Rattle.text.specs.Text.{ascii, Wrote}
+use Rattle.text.specs.declared.bytes.Text.{Text}
+use Rattle.text.specs.Text.{ascii, Writes}
 use Rattle.text.specs.Laws.Writing.{then, retext}
 use Rattle.lines.specs.Lines.{named_line, source_line, check_line}
 use Rattle.anova.specs.declared.types.Figures.{Figures}
-use Rattle.anova.specs.declared.types.Table.{Table}
-use Rattle.anova.specs.declared.types.Table.TheVariants.{Made, Refused}
 use Rattle.anova.specs.Table.{row_left, table_refused, table_figures, table_rows, table_outcome, rows_of}
 use Rattle.anova.specs.Laws.Admitted.{table-admitted, table-admits}
 use Rattle.printing.specs.Inner.Ready.{RowsReady, SheetReady}
@@ -39,16 +40,16 @@ use Rattle.printing.specs.Printed.{row_lines, table_text, printed}
 
 -- ---- the lines
 
-module _ {a b c d e g h : List ℕ} {at p1 p2 p3 p4 p5 p6 : ℕ} where
+module _ {a b c d e g h : Text} where
   pub table-lines : {p : Plan} {rows : List ℕ} → RowsReady p rows → (marks : List ℕ) (f : Figures)
-      → Wrote a at (named_line (ascii "over") f.denominator) b p1
-      → Wrote b p1 (row_lines p marks rows (length rows)) c p2
-      → Wrote c p2 (source_line (ascii "blocks") f.blocks.degrees f.blocks.numerator) d p3
-      → Wrote d p3 (source_line (ascii "error") f.error.degrees f.error.numerator) e p4
-      → Wrote e p4 (source_line (ascii "total") f.total.degrees f.total.numerator) g p5
+      → Writes a (named_line (ascii "over") f.denominator) b
+      → Writes b (row_lines p marks rows (length rows)) c
+      → Writes c (source_line (ascii "blocks") f.blocks.degrees f.blocks.numerator) d
+      → Writes d (source_line (ascii "error") f.error.degrees f.error.numerator) e
+      → Writes e (source_line (ascii "total") f.total.degrees f.total.numerator) g
       → mag f.checks.totals < 2 ^ 63 → mag f.checks.readings < 2 ^ 63
-      → Wrote g p5 (check_line (wrap f.checks.totals) (wrap f.checks.readings)) h p6
-      → Wrote a at (table_text p marks f rows) h p6
+      → Writes g (check_line (wrap f.checks.totals) (wrap f.checks.readings)) h
+      → Writes a (table_text p marks f rows) h
   unfolding table_text
   table-lines {p} {rows} ready marks f u v w x y m n z =
       let both = ap₂ check_line (kept f.checks.totals m) (kept f.checks.readings n) in
@@ -56,12 +57,12 @@ module _ {a b c d e g h : List ℕ} {at p1 p2 p3 p4 p5 p6 : ℕ} where
 
 -- ---- with a number, or with none
 
-module _ {a b : List ℕ} {at next n : ℕ} (t : List ℕ) where
-  pub given-text : n ≡ 0 → Wrote a at t b next → Wrote a at (printed n t) b next
+module _ {a b : Text} {n : ℕ} (t : List ℕ) where
+  pub given-text : n ≡ 0 → Writes a t b → Writes a (printed n t) b
   unfolding printed
   given-text z w = rw (eq-eqb n 0 z) w
 
-  pub refused-text : {m : ℕ} → m ≡ n → (n ≡ 0 → ⊥) → Wrote a at (named_line (ascii "refused") m) b next → Wrote a at (printed n t) b next
+  pub refused-text : {m : ℕ} → m ≡ n → (n ≡ 0 → ⊥) → Writes a (named_line (ascii "refused") m) b → Writes a (printed n t) b
   unfolding printed
   refused-text e h w = rw (ne_eqb n 0 h) (retext (ap (named_line (ascii "refused")) e) w)
 
@@ -71,8 +72,8 @@ module _ (p : Plan) (readings : List ℤ) (marks : List ℕ) (totals : List ℤ)
   abbrev number : ℕ
   number = table_refused p readings marks totals rows
 
-  module _ {r : Table} (told : table_outcome r ≡ outcome number (table_figures p readings marks)) where
-    module _ {f : Figures} (is : r ≡ Made f) where
+  module _ {r : Result Figures Refusal} (told : table_outcome r ≡ outcome number (table_figures p readings marks)) where
+    module _ {f : Figures} (is : r ≡ Ok f) where
       made : (number ≡ 0) × (f ≡ table_figures p readings marks)
       made = given_is number (table_figures p readings marks) (ap table_outcome (sym is) ∙ told)
 
@@ -89,17 +90,17 @@ module _ (p : Plan) (readings : List ℤ) (marks : List ℕ) (totals : List ℤ)
               long = ap length rows_are ∙ length-tab (rows_in p) (row_left p (run_sums_of p readings));
             }
 
-        pub made-text : {a b : List ℕ} {at next : ℕ} → Wrote a at (table_text p marks f after) b next
-            → Wrote a at (answer_text p readings marks totals rows) b next
+        pub made-text : {a b : Text} → Writes a (table_text p marks f after) b
+            → Writes a (answer_text p readings marks totals rows) b
         made-text w =
             given-text (made_text p readings marks) made.0
             (retext (ap (λ g. table_text p marks g after) made.1 ∙ ap (table_text p marks (table_figures p readings marks)) rows_are) w)
 
-    pub stopped-text : {n : ℕ} → r ≡ Refused n → {a b : List ℕ} {at next : ℕ} (t : List ℕ) → Wrote a at (named_line (ascii "refused") n) b next
-        → Wrote a at (printed number t) b next
-    stopped-text is t w =
+    pub stopped-text : {q : Refusal} {n : ℕ} → r ≡ Err q → n ≡ number_of q → {a b : Text} (t : List ℕ) → Writes a (named_line (ascii "refused") n) b
+        → Writes a (printed number t) b
+    stopped-text is own t w =
         let s = refused-is number (table_figures p readings marks) (ap table_outcome (sym is) ∙ told) in
-        refused-text t s.0 s.1 w
+        refused-text t (own ∙ s.0) s.1 w
 
 -- ---- an accepted sheet
 
@@ -123,10 +124,10 @@ module _ (p : Plan) (ok : plan_refused p ≡ 0) where
   few-rows is = rw (rows-count is) (rows_few p ok)
 
 module _ {p : Plan} {column : List ℤ} {marks : List ℕ} (ready : SheetReady p column marks) where
-  pub lent-text : {n m r : ℕ} → n ≡ run_count p → m ≡ reading_count p → r ≡ row_count p → (totals : List ℤ) (rows : List ℕ) {a b : List ℕ} {at next : ℕ}
-      → Wrote a at (answer_text p (take m column) marks totals rows) b next
+  pub lent-text : {n m r : ℕ} → n ≡ run_count p → m ≡ reading_count p → r ≡ row_count p → (totals : List ℤ) (rows : List ℕ) {a b : Text}
+      → Writes a (answer_text p (take m column) marks totals rows) b
       → length totals ≡ n → length rows ≡ r
-      → Wrote a at (made_text p (take (all_readings p) column) marks) b next
+      → Writes a (made_text p (take (all_readings p) column) marks) b
   unfolding printed
   lent-text {n} {m} {r} d f e totals rows w l k =
       let ok = ready.plan in

@@ -17,7 +17,8 @@ use Rattle.algebra.specs.Search.{some}
 use Rattle.algebra.specs.Laws.Search.{some-true, some_at}
 use Rattle.algebra.specs.Laws.Tab.{length-tab}
 use Rattle.algebra.specs.Laws.Tests.{fails}
-use Rattle.words.specs.Words.{any, among}
+use Rattle.words.specs.Words.{among}
+use Rattle.words.specs.Laws.Any.{any_placed}
 use Rattle.plan.specs.declared.types.Plan.{Plan}
 use Rattle.plan.specs.Plan.{added_words, all_letters}
 use Rattle.aliases.specs.Laws.BaseWord.{base-own}
@@ -43,13 +44,13 @@ module _ (p : Plan) where
   as_many h = omega (arith, h, length-tab n (main_word p))
 
   pub met : meet p ≡ true → (m : ℕ) × (i : ℕ) × (j : ℕ) × Met p m i j
-  unfolding meet among any
+  unfolding meet among
   met e =
       let at_j = some_at n (λ j. some j (λ i. among (pair_word p i j) (main_words p))) e in
       let j = at_j.0 in
       let at_i = some_at j (λ i. among (pair_word p i j) (main_words p)) at_j.2 in
       let i = at_i.0 in
-      let at-m = some_at (length (main_words p)) (λ m. eqb (get_or (main_words p) m 0) (pair_word p i j)) at_i.2 in
+      let at-m = some_at (length (main_words p)) (λ m. eqb (get_or (main_words p) m 0) (pair_word p i j)) (sym (any_placed (λ x. eqb x (pair_word p i j)) (main_words p)) ∙ at_i.2) in
       let m = at-m.0 in (
         m,
         i,
@@ -62,26 +63,28 @@ module _ (p : Plan) where
       )
 
   pub meets : (m i j : ℕ) → Met p m i j → meet p ≡ true
-  unfolding meet among any
+  unfolding meet among
   meets m i j s =
       some-true n (λ j. some j (λ i. among (pair_word p i j) (main_words p))) j s.pair.1
       (some-true j (λ i. among (pair_word p i j) (main_words p)) i s.pair.0
-      (some-true (length (main_words p)) (λ m. eqb (get_or (main_words p) m 0) (pair_word p i j)) m (omega (arith, s.main, length-tab n (main_word p)))
+      (any_placed (λ x. eqb x (pair_word p i j)) (main_words p)
+      ∙ some-true (length (main_words p)) (λ m. eqb (get_or (main_words p) m 0) (pair_word p i j)) m (omega (arith, s.main, length-tab n (main_word p)))
       (eq-eqb (get_or (main_words p) m 0) (pair_word p i j) (main-at p m s.main ∙ s.same))))
 
   module _ (marks : List ℕ) where
     pub marked-at : marked_main p marks ≡ true → (m : ℕ) × MarkedAt p marks m
-    unfolding marked_main any
+    unfolding marked_main
     marked-at e =
-        let at = some_at (length (main_words p)) (λ m. marked marks (get_or (main_words p) m 0)) e in
+        let at = some_at (length (main_words p)) (λ m. marked marks (get_or (main_words p) m 0)) (sym (any_placed (marked marks) (main_words p)) ∙ e) in
         let m = at.0 in
         let mark = eqb-true (get_or marks (get_or (main_words p) m 0) 0) 1 at.2 in
         (m, record { factor = as_many at.1; mark = ap (λ (w : ℕ). get_or marks w 0) (sym (main-at p m (as_many at.1))) ∙ mark })
 
     pub marked_by : (m : ℕ) → MarkedAt p marks m → marked_main p marks ≡ true
-    unfolding marked_main any
+    unfolding marked_main
     marked_by m s =
-        some-true (length (main_words p)) (λ m. marked marks (get_or (main_words p) m 0)) m (omega (arith, s.factor, length-tab n (main_word p)))
+        any_placed (marked marks) (main_words p)
+        ∙ some-true (length (main_words p)) (λ m. marked marks (get_or (main_words p) m 0)) m (omega (arith, s.factor, length-tab n (main_word p)))
         (eq-eqb (get_or marks (get_or (main_words p) m 0) 0) 1 (ap (λ (w : ℕ). get_or marks w 0) (main-at p m s.factor) ∙ s.mark))
 
 -- ---- whole plans

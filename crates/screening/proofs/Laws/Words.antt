@@ -3,8 +3,9 @@
 --   pair-word       the base word of an interaction of two factors is the combination of theirs
 --   main-at         the word of factor i in the list of all
 --   meet-pairs      so two effects meet where two of the factors' words combine to a factor's
+--   pairs_listed    word j beside those before it, as a list
 --   main-formed     that of the main effect of a base factor is its letter, of an added factor the word that the plan has for it
-use Rattle.std.specs.Prelude.{◌≡◌, Bool, cond, List, [], length, get_or}
+use Rattle.std.specs.Prelude.{◌≡◌, Bool, cond, List, [], length, get_or, take}
 use Rattle.std.proofs.Common.{sym, ◌∙◌, arith, lt-ltb, le-ltb}
 use Rattle.std.proofs.Math.Path.{ap}
 use Prim.Native.Nat.{ℕ, ◌+◌, ◌-◌, ◌^◌, ◌<◌, ◌≤◌}
@@ -14,7 +15,9 @@ use Rattle.std.proofs.Math.Pow.{pow-lt}
 use Rattle.algebra.specs.Search.{some}
 use Rattle.algebra.specs.Laws.Search.{some-cong}
 use Rattle.algebra.specs.Laws.Tab.{length-tab, get_or-tab}
-use Rattle.words.specs.Words.{among}
+use Rattle.words.specs.Words.{any, among}
+use Rattle.words.specs.Laws.Any.{any_placed}
+use Rattle.std.proofs.lemmas.List.{length-take-le, get_or-take}
 use Rattle.plan.specs.declared.types.Plan.{Plan}
 use Rattle.plan.specs.Plan.{added_words, all_letters}
 use Rattle.aliases.specs.Alias.{base_word}
@@ -39,6 +42,14 @@ module _ (p : Plan) where
     where
       n : ℕ
       n = all_letters p
+
+-- the words before word j, as the code goes through them
+pub pairs_listed : (j : ℕ) (words mains : List ℕ) → j ≤ length words
+    → any (λ other. among (bit_xor other (get_or words j 0)) mains) (take j words) ≡ pairs_with j words mains
+unfolding pairs_with
+pairs_listed j words mains h =
+    any_placed (λ other. among (bit_xor other (get_or words j 0)) mains) (take j words)
+    ∙ rw (length-take-le j words h) (some-cong j (λ i l. ap (λ (w : ℕ). among (bit_xor w (get_or words j 0)) mains) (get_or-take j words i 0 l)))
 
 -- ---- the word of a factor
 

@@ -1,22 +1,21 @@
 -- Texts that are written one after the other are one text.
 --
---   one_byte, no_byte                       a byte, where there is a place for it and where there is none
---   nothing                                 no text
---   then                                    a text, and another from where it ends
---   retext                                  the same text, written otherwise
---   with-letter, without-letter             a letter that a word has, and one that it has not
---   no-letters, letter-more, all-letters    the letters of a word: none yet, one more, all
---   letters-long                            they are at most 16
---   part-more                               the bytes of a part, and one byte more
---   same_size                               a text leaves the buffer's length
---   from_start                              a text from the first place on, for which there is room
+--   nothing                            no text
+--   then                               a text, and another from where it ends
+--   retext                             the same text, written otherwise
+--   letter-more                        the letters of a word, and one more, if the word has it
+--   letters-long                       they are at most 16
+--   part-more                          the bytes of a part, and one byte more
+--   same_size                          a text leaves the buffer's length
+--   from_start                         a text from the first place on, for which there is room
 use Rattle.std.specs.Prelude.{◌≡◌, refl, Bool, true, false, cond, List, [], ◌∷◌, ◌++◌, ℕ, zero, suc, ◌+◌, ◌-◌, ◌<◌, ◌≤◌, length, take, drop, get_or, set}
-use Rattle.std.proofs.Common.{sym, ap, ◌∙◌, subst, add-zero, zero-add, add-suc, suc-add, add-one, arith, length-append, take-suc}
+use Rattle.std.proofs.Common.{sym, ap, ◌∙◌, subst, add-zero, zero-add, add-suc, suc-add, add-one, arith, length-append, append-nil, take-suc}
 use Rattle.std.proofs.Math.Decide.{dec_le}
 use Rattle.std.proofs.lemmas.List.Edits.{sets, sets-eq}
 use Rattle.std.proofs.Math.Seq.{length-sets, set_out}
 use Rattle.words.specs.Words.{has}
-use Rattle.text.specs.Text.{Wrote}
+use Rattle.text.specs.declared.bytes.Text.{Text}
+use Rattle.text.specs.Text.{Writes}
 use Rattle.text.specs.Spelled.{letter_of, letters_in, letters_of}
 
 -- ---- places of a list
@@ -32,48 +31,33 @@ sets-append l i (x ∷ t) u =
 
 -- ---- texts
 
-module _ (a : List ℕ) (at x : ℕ) where
-  pub one_byte : at < length a → Wrote a at (x ∷ []) (set a at x) (at + 1)
-  one_byte h = record { holds = refl; ends = omega arith }
+pub nothing : (a : Text) → Writes a [] a
+nothing a = record { lent = refl; wrote = record { holds = refl; ends = omega arith } }
 
-  pub no_byte : length a ≤ at → Wrote a at (x ∷ []) a at
-  no_byte h = record { holds = sym (set_out a at x h); ends = omega arith }
+pub same_size : {a b : Text} {t : List ℕ} → Writes a t b → length b.buffer.now ≡ length a.buffer.now
+same_size {a} {b} {t} w = ap length w.wrote.holds ∙ length-sets a.buffer.now a.at t
 
-pub nothing : (a : List ℕ) (at : ℕ) → Wrote a at [] a at
-nothing a at = record { holds = refl; ends = omega arith }
-
-pub same_size : {a b t : List ℕ} {at next : ℕ} → Wrote a at t b next → length b ≡ length a
-same_size {a} {b} {t} {at} w = ap length w.holds ∙ length-sets a at t
-
-pub then : {a b c t u : List ℕ} {at next last : ℕ} → Wrote a at t b next → Wrote b next u c last → Wrote a at (t ++ u) c last
-then {a} {b} {c} {t} {u} {at} {next} {last} w v =
+pub then : {a b c : Text} {t u : List ℕ} → Writes a t b → Writes b u c → Writes a (t ++ u) c
+then {a} {b} {c} {t} {u} w v =
     record {
-      holds = v.holds ∙ ap (λ l. sets l next u) w.holds ∙ from (dec_le (length t) (length a - at)) ∙ sets-append a at t u;
-      ends = v.ends ∙ omega (arith, w.ends, same_size w, length-append t u);
+      lent = v.lent ∙ w.lent;
+      wrote = record {
+        holds = v.wrote.holds ∙ ap (λ l. sets l b.at u) w.wrote.holds ∙ from (dec_le (length t) (length old - a.at)) ∙ sets-append old a.at t u;
+        ends = v.wrote.ends ∙ omega (arith, w.wrote.ends, same_size w, length-append t u);
+      };
     }
   where
-    from : Dec (length t ≤ length a - at) → sets (sets a at t) next u ≡ sets (sets a at t) (at + length t) u
-    from (yes h) = ap (λ k. sets (sets a at t) k u) (omega (arith, w.ends))
-    from (no h) = sets-out (sets a at t) next u (omega (arith, w.ends, length-sets a at t)) ∙ sym (sets-out (sets a at t) (at + length t) u (omega (arith, length-sets a at t)))
+    old : List ℕ
+    old = a.buffer.now
 
-pub retext : {a b t u : List ℕ} {at next : ℕ} → t ≡ u → Wrote a at t b next → Wrote a at u b next
-retext {a} {b} {t} {u} {at} {next} e w = subst (λ x. Wrote a at x b next) e w
+    from : Dec (length t ≤ length old - a.at) → sets (sets old a.at t) b.at u ≡ sets (sets old a.at t) (a.at + length t) u
+    from (yes h) = ap (λ k. sets (sets old a.at t) k u) (omega (arith, w.wrote.ends))
+    from (no h) =
+        sets-out (sets old a.at t) b.at u (omega (arith, w.wrote.ends, length-sets old a.at t))
+        ∙ sym (sets-out (sets old a.at t) (a.at + length t) u (omega (arith, length-sets old a.at t)))
 
-module _ {a b : List ℕ} {at next : ℕ} (w i : ℕ) where
-  pub with-letter : has w i ≡ true → Wrote a at ((65 + i) ∷ []) b next → Wrote a at (letter_of w i) b next
-  unfolding letter_of
-  with-letter e f = rw e f
-
-pub without-letter : (a : List ℕ) (at w i : ℕ) → has w i ≡ false → Wrote a at (letter_of w i) a at
-unfolding letter_of
-without-letter a at w i e = rw e (nothing a at)
-
-pub no-letters : (a : List ℕ) (at w : ℕ) → Wrote a at (letters_in 0 w) a at
-unfolding letters_in
-no-letters a at w = nothing a at
-
-pub all-letters : {a b : List ℕ} {at next i : ℕ} (w : ℕ) → i ≡ 16 → Wrote a at (letters_in i w) b next → Wrote a at (letters_of w) b next
-all-letters w e f = retext (ap (λ n. letters_in n w) e) f
+pub retext : {a b : Text} {t u : List ℕ} → t ≡ u → Writes a t b → Writes a u b
+retext {a} {b} e w = subst (λ x. Writes a x b) e w
 
 letters-in : (n w : ℕ) → length (letters_in n w) ≤ n
 unfolding letters_in letter_of
@@ -87,15 +71,25 @@ letters-in (suc i) w = rw (length-append (letters_in i w) (cond (has w i) ((65 +
 pub letters-long : (w : ℕ) → length (letters_of w) ≤ 16
 letters-long w = letters-in 16 w
 
-pub letter-more : {a b c : List ℕ} {at next last : ℕ} (w i : ℕ) → Wrote a at (letters_in i w) b next → Wrote b next (letter_of w i) c last
-    → Wrote a at (letters_in (i + 1) w) c last
+pub no-letters : (a : Text) (w : ℕ) → Writes a (letters_in 0 w) a
 unfolding letters_in
-letter-more w i f g = retext (ap (λ n. letters_in n w) (sym (add-one i))) (then f g)
+no-letters a w = nothing a
 
-pub part-more : {a b c : List ℕ} {at next last : ℕ} (part : List ℕ) (i : ℕ) → i < length part → Wrote a at (take i part) b next
-    → Wrote b next (get_or part i 0 ∷ []) c last → Wrote a at (take (i + 1) part) c last
+module _ {a b : Text} (w i : ℕ) (f : Writes a (letters_in i w) b) where
+  pub letter-more : {c : Text} → has w i ≡ true → Writes b ((65 + i) ∷ []) c → Writes a (letters_in (i + 1) w) c
+  unfolding letters_in letter_of
+  letter-more e g = rw (add-one i, e) (then f g)
+
+  pub letter-passed : has w i ≡ false → Writes a (letters_in (i + 1) w) b
+  unfolding letters_in letter_of
+  letter-passed e = rw (add-one i, e, append-nil) f
+
+pub part-more : {a b c : Text} (part : List ℕ) (i : ℕ) → i < length part → Writes a (take i part) b → Writes b (get_or part i 0 ∷ []) c
+    → Writes a (take (i + 1) part) c
 part-more part i h f g = retext (sym (ap (λ n. take n part) (add-one i) ∙ take-suc part i 0 h)) (then f g)
 
-pub from_start : {a b t : List ℕ} {next : ℕ} → Wrote a 0 t b next → length t ≤ length a → (next ≡ length t) × (b ≡ t ++ drop (length t) a)
-from_start {a} {b} {t} w h =
-    (w.ends ∙ omega arith, w.holds ∙ sets-eq t a 0 (omega arith) ∙ ap (λ n. t ++ drop n a) (zero-add (length t)))
+pub from_start : {a b : Text} {t : List ℕ} → Writes a t b → a.at ≡ 0 → length t ≤ length a.buffer.now
+    → (b.at ≡ length t) × (b.buffer.now ≡ t ++ drop (length t) a.buffer.now)
+from_start {a} {b} {t} w s h =
+    let old = a.buffer.now in
+    (w.wrote.ends ∙ omega (arith, s, h), w.wrote.holds ∙ ap (λ k. sets old k t) s ∙ sets-eq t old 0 (omega arith) ∙ ap (λ n. t ++ drop n old) (zero-add (length t)))

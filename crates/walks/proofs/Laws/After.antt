@@ -29,11 +29,11 @@ use Rattle.plan.specs.declared.types.Plan.{Plan}
 use Rattle.plan.specs.Check.{plan_refused, run_count}
 use Rattle.plan.specs.Plan.{factors_of, runs_of}
 use Rattle.plan.proofs.Laws.Sizes.{run-count, runs-two, runs-few, factors-two}
-use Rattle.rows.specs.Kinds.{rows_in, kind_of, code_of, kinds_of}
+use Rattle.rows.specs.Kinds.{rows_in, kept_row, kind_of, code_of, kinds_of}
 use Rattle.rows.proofs.Laws.Rows.{rows_few}
 use Rattle.walks.specs.declared.types.Sums.{Sums}
 use Rattle.walks.specs.After.{kind_at, numerator_at, rows_after, sums_by, sums_after}
-use Rattle.walks.specs.State.{numerator_by, square_at}
+use Rattle.walks.specs.State.{code_at, numerator_by, square_at}
 use Rattle.walks.specs.Inner.Walk.{Walked, Walking}
 
 -- ---- lists that agree
@@ -78,18 +78,18 @@ row-there p i = rw (length-replicate p.k (of_levels p.levels)) at (row_lt (facto
 
 module _ (p : Plan) (ok : plan_refused p ≡ 0) (marks : List ℕ) (ts : List ℤ) (t : Column) (so : (i : ℕ) → i < runs_of p → read ts i ≡ t i) where
   -- the kind of a row, as the list of kinds has it
-  kind-of-row : (w : ℕ) → w < rows_in p → get_or (kinds_of p marks) w 0 ≡ code_of (kind_of p marks w)
+  kind-of-row : (w : ℕ) → w < rows_in p → code_at (kinds_of p marks) w ≡ code_of (kind_of p marks w)
   unfolding kinds_of
-  kind-of-row w h = get_or-tab 0 1024 (λ w. code_of (kind_of p marks w)) w (omega (arith, rows_few p ok))
+  kind-of-row w h = ap code_of (get_or-tab kept_row 1024 (kind_of p marks) w (omega (arith, rows_few p ok)))
 
   pub two-agrees : p.levels ≡ 2
-      → Agree (λ i. i) (square_at ts) (λ i. get_or (kinds_of p marks) i 0) (read ts) (row_of (factors_of p)) (numerator_at p t) (kind_at p marks) t (runs_of p)
+      → Agree (λ i. i) (square_at ts) (λ i. code_at (kinds_of p marks) i) (read ts) (row_of (factors_of p)) (numerator_at p t) (kind_at p marks) t (runs_of p)
   unfolding numerator_of
   two-agrees l =
       record {
         rows = row_is;
         numerators = λ i h. rw (so i h, factors-two p l, weight-two p.k i) (sym (mul-one (nat_abs (t i) * nat_abs (t i))));
-        kinds = λ i h. ap (λ w. get_or (kinds_of p marks) w 0) (row_is i h) ∙ kind-of-row (row_of (factors_of p) i) (row-there p i);
+        kinds = λ i h. ap (λ w. code_at (kinds_of p marks) w) (row_is i h) ∙ kind-of-row (row_of (factors_of p) i) (row-there p i);
         totals = so;
       }
     where
@@ -108,7 +108,7 @@ module _ (p : Plan) (ok : plan_refused p ≡ 0) (marks : List ℕ) (ts : List �
   unfolding effect_weights
   listed-weight i h = get_or-tab 0 1024 _ i (omega (arith, runs-few p ok)) ∙ rw (in-plan i h) refl
 
-  pub three-agrees : Agree (λ i. get_or (effect_rows p) i 0) (numerator_by ts (effect_weights p)) (λ i. get_or (kinds_of p marks) (get_or (effect_rows p) i 0) 0) (read ts)
+  pub three-agrees : Agree (λ i. get_or (effect_rows p) i 0) (numerator_by ts (effect_weights p)) (λ i. code_at (kinds_of p marks) (get_or (effect_rows p) i 0)) (read ts)
       (row_of (factors_of p)) (numerator_at p t) (kind_at p marks) t (runs_of p)
   unfolding numerator_of
   three-agrees =

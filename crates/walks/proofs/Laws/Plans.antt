@@ -20,7 +20,7 @@ use Rattle.rows.specs.Kinds.{rows_in, kind_of, kinds_of}
 use Rattle.rows.proofs.Laws.Kinds.{four-kinds}
 use Rattle.walks.specs.After.{kind_at, numerator_at}
 use Rattle.walks.specs.Ready.{PlanWalkable}
-use Rattle.walks.specs.State.{square_at, numerator_by}
+use Rattle.walks.specs.State.{code_at, square_at, numerator_by}
 use Rattle.walks.specs.Inner.Ready.{Walkable}
 use Rattle.walks.proofs.Laws.After.{Agree, row-there, two-agrees, three-agrees}
 
@@ -49,9 +49,9 @@ module _ {p : Plan} {ts : List ℤ} {rows : List ℕ} (pre : PlanWalkable p ts r
         sum_fits = pre.sum_fits;
       }
 
-  pub two-walkable : p.levels ≡ 2 → Walkable (λ i. i) (square_at ts) (λ i. get_or (kinds_of p marks) i 0) (read ts) (length ts) (rows_in p)
+  pub two-walkable : p.levels ≡ 2 → Walkable (λ i. i) (square_at ts) (λ i. code_at (kinds_of p marks) i) (read ts) (length ts) (rows_in p)
   two-walkable l = rw pre.whole (walkable-agrees (two-agrees p pre.plan marks ts (read ts) (λ i h. refl) l) by-plan)
 
   pub three-walkable : Walkable (λ i. get_or (effect_rows p) i 0) (numerator_by ts (effect_weights p))
-      (λ i. get_or (kinds_of p marks) (get_or (effect_rows p) i 0) 0) (read ts) (length ts) (rows_in p)
+      (λ i. code_at (kinds_of p marks) (get_or (effect_rows p) i 0)) (read ts) (length ts) (rows_in p)
   three-walkable = rw pre.whole (walkable-agrees (three-agrees p pre.plan marks ts (read ts) (λ i h. refl)) by-plan)

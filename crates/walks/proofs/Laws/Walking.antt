@@ -25,8 +25,9 @@ use Rattle.algebra.specs.Sorted.{sum_at}
 use Rattle.algebra.specs.Sum.{Σ}
 use Rattle.contrasts.specs.Columns.{read}
 use Rattle.contrasts.specs.Totals.{Column}
+use Rattle.rows.specs.Kinds.{Kind}
 use Rattle.walks.specs.After.{sums_by}
-use Rattle.walks.specs.State.{place_of, plus_at, brought, sum_in, held_in, zeros, square_at, numerator_by, course_two, course_three}
+use Rattle.walks.specs.State.{code_at, place_of, plus_at, brought, sum_in, held_in, zeros, square_at, numerator_by, course_two, course_three}
 use Rattle.walks.specs.Inner.Ready.{Addable, Walkable}
 use Rattle.walks.specs.Inner.Walk.{Walking, WalkingTwo, WalkingThree}
 use Rattle.walks.proofs.Laws.Parts.{which, part_of, own-numerators, own-degrees, other-still, brought-long}
@@ -149,7 +150,7 @@ unfolding plus_at
 own_row {num} {r = r} {e = e} {rows} w low m =
     ap (set rows e) (sym (rw (sorted-at r (λ i. i) num e w.rows-hold e low, sum_low (λ i. i) num e e (λ i k z. omega (arith, k, z))) (zero-add m)))
 
-pub two-walks : (ts : List ℤ) (kinds : List ℕ) (r : ℕ) → Walkable (λ i. i) (square_at ts) (λ i. get_or kinds i 0) (read ts) (length ts) r
+pub two-walks : (ts : List ℤ) (kinds : List Kind) (r : ℕ) → Walkable (λ i. i) (square_at ts) (λ i. code_at kinds i) (read ts) (length ts) r
     → (e : ℕ) → e ≤ length ts
     → WalkingTwo ts kinds r e (course_two ts kinds r e).rows (course_two ts kinds r e).parts (course_two ts kinds r e).sum
 unfolding course_two
@@ -158,8 +159,8 @@ two-walks ts kinds r pre (suc e) h =
     let w = two-walks ts kinds r pre e (omega (arith, h)) in
     rw (own_row w (pre.row-there e h) (square_at ts e)) (walking-more pre w h (e % 2) (mod-lt e (lit< tt)))
 
-pub three-walks : (ts : List ℤ) (effects weights kinds : List ℕ) (r : ℕ)
-    → Walkable (λ i. get_or effects i 0) (numerator_by ts weights) (λ i. get_or kinds (get_or effects i 0) 0) (read ts) (length ts) r
+pub three-walks : (ts : List ℤ) (effects weights : List ℕ) (kinds : List Kind) (r : ℕ)
+    → Walkable (λ i. get_or effects i 0) (numerator_by ts weights) (λ i. code_at kinds (get_or effects i 0)) (read ts) (length ts) r
     → (e : ℕ) → e ≤ length ts
     → WalkingThree ts effects weights kinds r e (course_three ts effects weights kinds r e).rows (course_three ts effects weights kinds r e).parts
     (course_three ts effects weights kinds r e).sum

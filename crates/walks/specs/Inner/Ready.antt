@@ -11,7 +11,8 @@ use Rattle.std.specs.Prelude.{◌≡◌, List, ℕ, ◌+◌, ◌*◌, ◌^◌, �
 use Rattle.algebra.specs.Naturals.{Σℕ}
 use Rattle.contrasts.specs.Columns.{read}
 use Rattle.contrasts.specs.Totals.{Column}
-use Rattle.walks.specs.State.{numerator_by, place_of, square_at, sum_in, two_parts, zeros}
+use Rattle.rows.specs.Kinds.{Kind, code_of}
+use Rattle.walks.specs.State.{code_at, numerator_by, place_of, square_at, sum_in, two_parts, zeros}
 
 pub record Weighable (t : ℤ) (w : ℕ) : Type 0 where
   pub square-fits : nat_abs t * nat_abs t < 2 ^ 63
@@ -30,18 +31,18 @@ pub record Gatherable (parts : List ℕ) : Type 0 where
   pub places : length parts ≡ 16
   pub sums-fit : (i c : ℕ) → i < 2 → c < 4 → sum_in parts i c < 2 ^ 63
 
-pub record BringsTwo (e : ℕ) (t : ℤ) (kind half : ℕ) (rows parts : List ℕ) : Type 0 where
+pub record BringsTwo (e : ℕ) (t : ℤ) (kind : Kind) (half : ℕ) (rows parts : List ℕ) : Type 0 where
   pub row-there : e < length rows
   pub squarable : nat_abs t * nat_abs t < 2 ^ 63
   pub one-half : half < 2
-  pub addable : Addable (place_of kind half) (nat_abs t * nat_abs t) parts
+  pub addable : Addable (place_of (code_of kind) half) (nat_abs t * nat_abs t) parts
 
-pub record BringsThree (row : ℕ) (t : ℤ) (w kind half : ℕ) (rows parts : List ℕ) : Type 0 where
+pub record BringsThree (row : ℕ) (t : ℤ) (w : ℕ) (kind : Kind) (half : ℕ) (rows parts : List ℕ) : Type 0 where
   pub row-there : row < length rows
   pub one-half : half < 2
   pub weighable : Weighable t w
   pub row_fits : get_or rows row 0 + nat_abs t * nat_abs t * w < 2 ^ 63
-  pub addable : Addable (place_of kind half) (nat_abs t * nat_abs t * w) parts
+  pub addable : Addable (place_of (code_of kind) half) (nat_abs t * nat_abs t * w) parts
 
 pub record Walkable (row num kind : ℕ → ℕ) (t : Column) (n r : ℕ) : Type 0 where
   pub few : n < 2 ^ 63
@@ -51,16 +52,16 @@ pub record Walkable (row num kind : ℕ → ℕ) (t : Column) (n r : ℕ) : Type
   -- the sum of all numerators, which is the bound of every sum of some of them
   pub sum_fits : Σℕ n num < 2 ^ 63
 
-pub record WalkableTwo (ts : List ℤ) (kinds rows : List ℕ) : Type 0 where
+pub record WalkableTwo (ts : List ℤ) (kinds : List Kind) (rows : List ℕ) : Type 0 where
   pub pairs : ℕ
   pub in_pairs : length ts ≡ 2 * pairs
   pub kinds-long : length ts ≤ length kinds
   pub cleared : rows ≡ zeros (length rows)
-  pub walkable : Walkable (λ i. i) (square_at ts) (λ i. get_or kinds i 0) (read ts) (length ts) (length rows)
+  pub walkable : Walkable (λ i. i) (square_at ts) (λ i. code_at kinds i) (read ts) (length ts) (length rows)
 
-pub record WalkableThree (ts : List ℤ) (effects weights kinds rows : List ℕ) : Type 0 where
+pub record WalkableThree (ts : List ℤ) (effects weights : List ℕ) (kinds : List Kind) (rows : List ℕ) : Type 0 where
   pub effects-long : length ts ≤ length effects
   pub weights-long : length ts ≤ length weights
   pub kinds-long : length rows ≤ length kinds
   pub cleared : rows ≡ zeros (length rows)
-  pub walkable : Walkable (λ i. get_or effects i 0) (numerator_by ts weights) (λ i. get_or kinds (get_or effects i 0) 0) (read ts) (length ts) (length rows)
+  pub walkable : Walkable (λ i. get_or effects i 0) (numerator_by ts weights) (λ i. code_at kinds (get_or effects i 0)) (read ts) (length ts) (length rows)

@@ -21,6 +21,7 @@ use Rattle.algebra.specs.Laws.Naturals.{Σℕ-first, Σℕ-cong}
 use Rattle.algebra.specs.Laws.Bits.{bit-lt, bit-zero, bit-suc, bits-cong, bits-ext}
 use Rattle.algebra.specs.Search.{some}
 use Rattle.algebra.specs.Laws.Search.{some_at, none-at, some-false}
+use Rattle.words.specs.Laws.Any.{none_at, all_fail}
 use Rattle.words.specs.Words.{letter, has, shared, odd, odd_in, beyond, times, combined, any}
 use Rattle.words.specs.Laws.Letters.{odd-same, beyond-none}
 use Rattle.words.specs.Laws.Combined.{combined-small, combined-at, combined-within, combined-own, shared-combined}
@@ -120,15 +121,14 @@ module _ (n : ℕ) (few : n ≤ 16) where
   parts ws e r = not (any (odd_in r) ws) && odd_in r e
 
   no_run : (ws : List ℕ) (e : ℕ) → some (2 ^ n) (parts ws e) ≡ false → EvenWith n ws e
-  unfolding any
-  no_run ws e d r l v = rw (some-false (length ws) (λ j. odd_in r (get_or ws j 0)) v) at (none-at (2 ^ n) (parts ws e) d r l)
+  no_run ws e d r l v =
+      rw (all_fail (odd_in r) ws v) at (none-at (2 ^ n) (parts ws e) d r l)
 
   a-run : (ws : List ℕ) (e r : ℕ) → parts ws e r ≡ true → EvenIn r ws × (odd_in r e ≡ true)
-  unfolding any
   a-run ws e r d = by (any (odd_in r) ws) refl d
     where
       by : (b : Bool) → any (odd_in r) ws ≡ b → (not b && odd_in r e) ≡ true → EvenIn r ws × (odd_in r e ≡ true)
-      by false f g = (none-at (length ws) (λ j. odd_in r (get_or ws j 0)) f, g)
+      by false f g = (none_at (odd_in r) ws f, g)
       by true f g = absurd (true≢false (sym g))
 
   module _ (w : ℕ) (ws : List ℕ) (e : ℕ) (h : EvenWith n (w ∷ ws) e) where

@@ -12,18 +12,6 @@ round-requires c =
     let pre = c.requires in
     left-sets pre c.loop-i.invariant c.loop-i-test.true
 
-pub overflow_add-i : goal.overflow_add-i
-overflow_add-i c =
-    let pre = c.requires in
-    let inv = c.loop-i.invariant in
-    omega (arith, left-some pre inv)
-
-pub loop-i-smaller : goal.loop-i-smaller
-loop-i-smaller c =
-    let pre = c.requires in
-    let inv = c.loop-i.invariant in
-    omega (arith, left-some pre inv)
-
 pub loop-i-preserved : goal.loop-i-preserved
 loop-i-preserved c =
     let pre = c.requires in

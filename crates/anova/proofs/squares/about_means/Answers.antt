@@ -14,8 +14,8 @@ overflow_mul-result c =
     let pre = c.requires in
     omega (arith, pre.all_fit)
 
-pub sum_of_run_squares-requires : goal.sum_of_run_squares-requires
-sum_of_run_squares-requires c =
+pub sum_of_squares-requires : goal.sum_of_squares-requires
+sum_of_squares-requires c =
     let pre = c.requires in
     sums-fit pre c.sum_runs.ensures
 
@@ -23,7 +23,7 @@ pub overflow_sub-result : goal.overflow_sub-result
 overflow_sub-result c =
     let pre = c.requires in
     let sums-are = c.sum_runs.ensures in
-    omega (arith, sums-below pre sums-are c.sum_of_run_squares.ensures)
+    omega (arith, sums-below pre sums-are c.sum_of_squares.ensures)
 
 pub shape_of-column : goal.shape_of-column
 shape_of-column c =
@@ -33,4 +33,4 @@ shape_of-column c =
 pub returns : goal.returns
 returns c =
     let pre = c.requires in
-    let sums-are = c.sum_runs.ensures in record { value = about-is pre sums-are c.sum_of_run_squares.ensures; column_len_unchanged = column-kept pre sums-are }
+    let sums-are = c.sum_runs.ensures in record { value = about-is pre sums-are c.sum_of_squares.ensures; column_len_unchanged = column-kept pre sums-are }

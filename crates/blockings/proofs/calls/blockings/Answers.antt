@@ -1,19 +1,14 @@
-use mathlib.Core.Path.{sym, ◌∙◌}
-use Rattle.plan.proofs.Laws.Answers.{stopped}
+use Rattle.std.proofs.Common.{sym}
 use Rattle.blockings.specs.Blockings.{blockings_column}
 use Rattle.blockings.proofs.Judging.{admitted, answered}
 use Rattle.blockings.proofs.calls.blockings.Goals as goal
 
-pub returns-then-m-ne0 : goal.returns-then-m-ne0
+pub write-requires : goal.write-requires
 unfolding blockings_column
-returns-then-m-ne0 c = let all = stopped _ _ _ c.blockings_refused-m.ensures c.if-m-ne0.true in record { result_value = all.0; column_after = all.1 }
+write-requires c = admitted _ _ _ (sym c.in_ok-check_blockings.ensures)
 
-pub write-n-requires : goal.write-n-requires
-unfolding blockings_column
-write-n-requires c = admitted _ _ _ (sym c.blockings_refused-m.ensures ∙ c.if-m-ne0.false)
+pub returns-clause-column_after : goal.returns-clause-column_after
+returns-clause-column_after c = (answered _ _ _ (sym c.in_ok-check_blockings.ensures) c.write.ensures.value c.write.ensures.column_after).1
 
-pub returns : goal.returns
-unfolding blockings_column
-returns c =
-    let wrote = c.write-n.ensures in
-    let all = answered _ _ _ (sym c.blockings_refused-m.ensures ∙ c.if-m-ne0.false) wrote.value wrote.column_after in record { result_value = all.0; column_after = all.1 }
+pub returns-clause-result_value : goal.returns-clause-result_value
+returns-clause-result_value c = (answered _ _ _ (sym c.in_ok-check_blockings.ensures) c.write.ensures.value c.write.ensures.column_after).0

@@ -1,10 +1,6 @@
-use Prim.Native.Nat.{◌-◌}
-use lib.ListN.{length}
+use Rattle.std.proofs.Common.{◌*◌}
 use Rattle.blocks.proofs.Added.{Adding}
 use Rattle.blocks.proofs.amounts.block_amount.Given as goal
 
-abbrev pub invariant-loop-run : goal.invariant-loop-run
-invariant-loop-run l = Adding l.k l.word l.column l.run l.sums
-
-abbrev pub decreases-loop-run : goal.decreases-loop-run
-decreases-loop-run l = length l.column - l.run
+abbrev pub invariant-loop-set : goal.invariant-loop-set
+invariant-loop-set l = Adding l.k l.word l.column (3 * l.set) l.sums

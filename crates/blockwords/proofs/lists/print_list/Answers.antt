@@ -1,14 +1,8 @@
-use native.Mathlib.Omega.{arith}
-use mathlib.Core.Path.{sym, subst}
-use lib.Seq.{length-take-le}
+use Rattle.std.proofs.Common.{arith, sym, subst, length-take-le}
 use Rattle.std.specs.Prelude.{OnOk}
 use Rattle.std.specs.Io.KnownBytes.{Appends}
-use Rattle.blockwords.specs.Laws.Lists.{ends-within}
-use Rattle.blockwords.specs.Laws.Texts.{whole-text}
+use Rattle.blockwords.specs.Laws.Places.{ends-within, whole-text}
 use Rattle.blockwords.proofs.lists.print_list.Goals as goal
-
-pub list_line-end-requires : goal.list_line-end-requires
-list_line-end-requires g c = c.requires
 
 pub slice_bounds-text-end : goal.slice_bounds-text-end
 slice_bounds-text-end g c = ends-within c.list_line-end.ensures.wrote

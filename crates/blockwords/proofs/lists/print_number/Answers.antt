@@ -1,19 +1,17 @@
 use native.Mathlib.Omega.{arith}
-use mathlib.Core.Path.{sym, subst}
-use lib.Seq.{length-take-le}
+use mathlib.Core.Path.{◌∙◌, subst}
 use Rattle.std.specs.Prelude.{OnOk}
 use Rattle.std.specs.Io.KnownBytes.{Appends}
+use Rattle.lines.specs.Laws.Lines.{named-long}
 use Rattle.blockwords.specs.Laws.Lists.{ends-within}
-use Rattle.blockwords.specs.Laws.Texts.{number-text}
+use Rattle.blockwords.specs.Laws.Texts.{whole-text}
 use Rattle.blockwords.proofs.lists.print_number.Goals as goal
 
-pub slice_bounds-text-end : goal.slice_bounds-text-end
-slice_bounds-text-end g c = ends-within c.named_line-end.ensures
-
-pub slice_bounds-write_all-end : goal.slice_bounds-write_all-end
-slice_bounds-write_all-end g c = sym (length-take-le _ _ (ends-within c.named_line-end.ensures))
+pub bytes-requires : goal.bytes-requires
+bytes-requires g c = ends-within c.new-text.ensures.empty c.named_line.ensures
 
 pub returns : goal.returns
 returns g c =
-    λ h. subst (λ t. OnOk c.write_all.result (Appends (g.W.Write.contents c.args.out.now) (g.W.Write.contents c.write_all.new.self) t))
-    (number-text _ _ c.named_line-end.ensures (omega arith) h) c.write_all.ensures.bytes
+    λ h. let start = c.new-text.ensures in
+    let line = whole-text start.empty start.bytes (omega (arith, h, named-long c.args.name.now c.args.n)) c.named_line.ensures in
+    subst (λ t. OnOk c.write_all.result (Appends (g.W.Write.contents c.args.out.now) (g.W.Write.contents c.write_all.new.self) t)) (c.bytes.ensures ∙ line) c.write_all.ensures.bytes

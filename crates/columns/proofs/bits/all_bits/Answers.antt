@@ -1,14 +1,12 @@
-use Rattle.columns.proofs.Sizes.{gathered, gather, all-gathered}
+use mathlib.Core.Path.{◌∙◌, ap}
+use native.Mathlib.Omega.{arith}
+use lib.IntN.{nat_abs}
 use Rattle.algebra.proofs.Laws.Machine.{kept}
+use Rattle.contrasts.specs.Columns.{read}
+use Rattle.columns.proofs.Sizes.{gather}
 use Rattle.columns.proofs.bits.all_bits.Goals as goal
 
-pub loop-i-init : goal.loop-i-init
-loop-i-init c = gathered _
-
-pub loop-i-preserved : goal.loop-i-preserved
-loop-i-preserved c =
-    let inv = c.loop-i.invariant in
-    gather inv c.loop-i-test.true (kept _ c.magnitude-arg-1.given) c.magnitude-bits.ensures
-
-pub returns : goal.returns
-returns c = all-gathered c.loop-i.invariant c.loop-i-test.false
+pub loop-value-preserved : goal.loop-value-preserved
+loop-value-preserved c =
+    let value = kept (read c.args.column.now c.loop-value.value-index) (omega arith) in
+    gather c.loop-value.invariant c.loop-value-test.true (c.unsigned_abs-bits.ensures.value ∙ ap nat_abs value)

@@ -1,10 +1,7 @@
-use Prim.Native.Nat.{◌-◌}
-use lib.ListN.{length}
-use Rattle.columns.proofs.Searched.{Looked}
+use mathlib.Core.Path.{◌≡◌}
+use lib.ListN.{take}
+use Rattle.columns.specs.Refusals.{any_beyond}
 use Rattle.columns.proofs.scans.any_beyond.Given as goal
 
-abbrev pub invariant-loop-i : goal.invariant-loop-i
-invariant-loop-i l = Looked l.limit l.readings l.i l.any
-
-abbrev pub decreases-loop-i : goal.decreases-loop-i
-decreases-loop-i l = length l.readings - l.i
+abbrev pub invariant-loop-reading : goal.invariant-loop-reading
+invariant-loop-reading l = l.any ≡ any_beyond l.limit (take l.reading-index l.readings)

@@ -1,9 +1,5 @@
-use Prim.Native.Nat.{◌-◌}
 use Rattle.effects.proofs.Rowed.{RowsThree}
 use Rattle.effects.proofs.letters.rows_of_three.Given as goal
 
 abbrev pub invariant-loop-q : goal.invariant-loop-q
 invariant-loop-q l = RowsThree l.n l.q l.rows
-
-abbrev pub decreases-loop-q : goal.decreases-loop-q
-decreases-loop-q l = l.third - l.q

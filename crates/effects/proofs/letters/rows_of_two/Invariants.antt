@@ -1,9 +1,5 @@
-use Prim.Native.Nat.{◌-◌}
 use Rattle.effects.proofs.Filling.{Singly}
 use Rattle.effects.proofs.letters.rows_of_two.Given as goal
 
 abbrev pub invariant-loop-e : goal.invariant-loop-e
 invariant-loop-e l = Singly (λ j. j) (λ j. 0) l.n l.e l.rows
-
-abbrev pub decreases-loop-e : goal.decreases-loop-e
-decreases-loop-e l = l.n - l.e

@@ -14,7 +14,7 @@ returns-then-p-eq2 c = effect-divisors-two _ c.runs-n.ensures c.if-n-eq0.false c
 pub divisors_of_three-requires : goal.divisors_of_three-requires
 divisors_of_three-requires c =
     let known = is-three _ c.runs-n.ensures c.if-n-eq0.false c.if-p-eq2.false in
-    (known.0, known.2)
+    (known.0, known.2, known.3)
 
 pub returns : goal.returns
 returns c = effect-divisors-three _ c.runs-n.ensures c.if-n-eq0.false c.if-p-eq2.false c.divisors_of_three.ensures

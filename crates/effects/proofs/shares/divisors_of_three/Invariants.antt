@@ -1,4 +1,4 @@
-use Prim.Native.Nat.{◌*◌, ◌-◌}
+use Prim.Native.Nat.{◌*◌}
 use lib.ListN.{replicate}
 use Rattle.contrasts.proofs.Factors.{three}
 use Rattle.contrasts.specs.Totals.{divisor*}
@@ -7,6 +7,3 @@ use Rattle.effects.proofs.shares.divisors_of_three.Given as goal
 
 abbrev pub invariant-loop-e : goal.invariant-loop-e
 invariant-loop-e l = Singly (λ j. l.repeats * divisor* (replicate l.k three) j) (λ j. 1) l.n l.e l.divisors
-
-abbrev pub decreases-loop-e : goal.decreases-loop-e
-decreases-loop-e l = l.n - l.e

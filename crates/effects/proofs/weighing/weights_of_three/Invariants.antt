@@ -1,9 +1,5 @@
-use Prim.Native.Nat.{◌-◌}
 use Rattle.effects.proofs.Weighed.{WeightsThree}
 use Rattle.effects.proofs.weighing.weights_of_three.Given as goal
 
 abbrev pub invariant-loop-q : goal.invariant-loop-q
 invariant-loop-q l = WeightsThree l.k l.n l.q l.weights
-
-abbrev pub decreases-loop-q : goal.decreases-loop-q
-decreases-loop-q l = l.third - l.q

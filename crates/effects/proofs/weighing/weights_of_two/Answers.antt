@@ -1,13 +1,6 @@
-use mathlib.Core.Path.{refl}
-use native.Mathlib.Omega.{arith}
-use Rattle.effects.proofs.Filling.{singly-none, singly-more, singly-all}
+use Rattle.std.proofs.Common.{◌≡◌, rules, arith, replicate}
+use Rattle.effects.proofs.Filling.{front}
 use Rattle.effects.proofs.weighing.weights_of_two.Goals as goal
 
-pub loop-e-init : goal.loop-e-init
-loop-e-init c = singly-none (λ j. 1) 0 _
-
-pub loop-e-preserved : goal.loop-e-preserved
-loop-e-preserved c = singly-more c.loop-e.invariant c.loop-e-test.true (omega arith) refl
-
 pub returns : goal.returns
-returns c = singly-all c.loop-e.invariant c.loop-e-test.false
+returns c = let filled : c.fill.new.self ≡ replicate c.args.n 1 = search rules in front 1 0 (omega arith) filled

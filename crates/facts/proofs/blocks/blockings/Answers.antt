@@ -1,8 +1,14 @@
-use Rattle.facts.proofs.Answered.{lists-given, lists-refused}
+use Rattle.std.proofs.Common.{sym, ◌∙◌}
+use Rattle.plan.proofs.Laws.Answers.{given_is, refused-is, left_alone, written_new}
+use Rattle.facts.specs.Facts.{blockings_count}
 use Rattle.facts.proofs.blocks.blockings.Goals as goal
 
-pub returns-in-Written : goal.returns-in-Written
-returns-in-Written c = let told = c.blockings.ensures in let own = lists-given _ _ _ _ told.result_value c.in-Written.is in record { value = own.0; column_after = told.column_after; lists_after = own.1 }
+pub returns-in_err-n-clause-lists_after : goal.returns-in_err-n-clause-lists_after
+unfolding blockings_count
+returns-in_err-n-clause-lists_after c = left_alone _ _ _ (refused-is _ _ c.in_err-n.ensures.result_value).0
 
-pub returns-in-Refused : goal.returns-in-Refused
-returns-in-Refused c = let told = c.blockings.ensures in let own = lists-refused _ _ _ _ told.result_value c.in-Refused.is in record { value = own.0; column_after = told.column_after; lists_after = own.1 }
+pub returns-clause-lists_after : goal.returns-clause-lists_after
+unfolding blockings_count
+returns-clause-lists_after c =
+    let own = given_is _ _ c.in_ok-n.ensures.result_value in
+    own.1 ∙ written_new _ _ _ own.0

@@ -1,31 +1,32 @@
-use mathlib.Core.Path.{refl}
+use Rattle.std.proofs.Common.{◌≡◌, refl, sym, rules}
+use Rattle.std.specs.Prelude.{Err}
 use Rattle.estimates.specs.Estimate.{mean, difference, lost}
-use Rattle.facts.proofs.Answered.{estimate-stopped, estimate-given, estimate-refused}
+use Rattle.facts.proofs.Answered.{estimate-stopped, estimate-refused, estimate-given}
 use Rattle.facts.proofs.plans.estimate.Goals as goal
 
-pub returns-then-n-ne0 : goal.returns-then-n-ne0
-returns-then-n-ne0 c = let all = estimate-stopped _ _ _ _ _ c.refused-n.ensures c.if-n-ne0.true in record { value = all.0; kind_after = all.1.0; value_after = all.1.1 }
+pub returns-in_err-p : goal.returns-in_err-p
+returns-in_err-p c =
+    let first : c.from_residual.result ≡ Err c.in_err-p.field-0.0 = search rules in
+    let all = estimate-stopped _ _ _ _ _ _ c.in_err-p.ensures.number in
+    record { value = rw first all.0; kind_after = all.1.0; value_after = all.1.1 }
+
+pub returns-in_err-mean : goal.returns-in_err-mean
+returns-in_err-mean c =
+    let first : c.from_residual-in_err-mean.result ≡ Err c.in_err-mean.field-0.0 = search rules in
+    let all = estimate-refused _ _ _ _ _ (sym c.in_ok-p.ensures.number) c.in_ok-p.ensures.plan c.ranges.total _ c.in_err-mean.ensures.result_value in
+    record { value = rw first all.0; kind_after = all.1.0; value_after = all.1.1 }
 
 pub returns-in-Mean : goal.returns-in-Mean
 returns-in-Mean c =
-    let all = estimate-given _ _ _ _ _ c.refused-n.ensures c.if-n-ne0.false c.plan_in.ensures
-    c.ranges.total c.estimate.ensures.result_value
-    c.in-Mean.is (mean _) refl in record { value = all.0; kind_after = all.1.0; value_after = all.1.1 }
+    let all = estimate-given _ _ _ _ _ (sym c.in_ok-p.ensures.number) c.in_ok-p.ensures.plan c.ranges.total (mean _) (rw c.in-Mean.is at c.in_ok-mean.ensures.result_value) in
+    record { value = all.0; kind_after = all.1.0; value_after = all.1.1 }
 
 pub returns-in-Difference : goal.returns-in-Difference
 returns-in-Difference c =
-    let all = estimate-given _ _ _ _ _ c.refused-n.ensures c.if-n-ne0.false c.plan_in.ensures
-    c.ranges.total c.estimate.ensures.result_value
-    c.in-Difference.is (difference _) refl in record { value = all.0; kind_after = all.1.0; value_after = all.1.1 }
+    let all = estimate-given _ _ _ _ _ (sym c.in_ok-p.ensures.number) c.in_ok-p.ensures.plan c.ranges.total (difference _) (rw c.in-Difference.is at c.in_ok-mean.ensures.result_value) in
+    record { value = all.0; kind_after = all.1.0; value_after = all.1.1 }
 
 pub returns-in-Lost : goal.returns-in-Lost
 returns-in-Lost c =
-    let all = estimate-given _ _ _ _ _ c.refused-n.ensures c.if-n-ne0.false c.plan_in.ensures
-    c.ranges.total c.estimate.ensures.result_value
-    c.in-Lost.is lost refl in record { value = all.0; kind_after = all.1.0; value_after = all.1.1 }
-
-pub returns-in-Refused : goal.returns-in-Refused
-returns-in-Refused c =
-    let all = estimate-refused _ _ _ _ _ c.refused-n.ensures c.if-n-ne0.false c.plan_in.ensures
-    c.ranges.total c.estimate.ensures.result_value
-    c.in-Refused.is in record { value = all.0; kind_after = all.1.0; value_after = all.1.1 }
+    let all = estimate-given _ _ _ _ _ (sym c.in_ok-p.ensures.number) c.in_ok-p.ensures.plan c.ranges.total lost (rw c.in-Lost.is at c.in_ok-mean.ensures.result_value) in
+    record { value = all.0; kind_after = all.1.0; value_after = all.1.1 }

@@ -1,10 +1,12 @@
-use Prim.Native.Nat.{◌-◌}
-use lib.ListN.{length}
-use Rattle.fields.proofs.Judging.{Passed}
+use mathlib.Core.Path.{◌≡◌}
+use Rattle.fields.specs.Fields.{fields_of}
+use Rattle.fields.specs.Tags.{bad_from}
 use Rattle.fields.proofs.tags.any_bad_field.Given as goal
 
-abbrev pub invariant-loop-at : goal.invariant-loop-at
-invariant-loop-at l = Passed l.sheet l.at l.last
-
-abbrev pub decreases-loop-at : goal.decreases-loop-at
-decreases-loop-at l = length l.sheet - l.at
+abbrev pub invariant-loop-field : goal.invariant-loop-field
+invariant-loop-field l =
+    record {
+      can : (goal.iterator-loop-field).can_next l.fields;
+      ends : (goal.iterator-loop-field).is_finite l.fields;
+      so : bad_from 0 (fields_of l.sheet) ≡ bad_from l.last (fields_of l.fields.rest.now);
+    }

@@ -1,11 +1,10 @@
-use Rattle.figures.specs.Laws.Roomed.{table-answered, table-made, table-refused}
+use Rattle.anova.specs.Table.{table_totals, table_rows}
+use Rattle.figures.specs.Laws.Roomed.{answered}
 use Rattle.figures.proofs.tabulated.tabulate.Goals as goal
 
-pub returns-in-Made : goal.returns-in-Made
-returns-in-Made c =
-    let put-checks-is = c.put_checks.ensures in
-    let put-figures-is = c.put_figures.ensures in
-    table-made (table-answered (c.table.ensures.result_value, (c.table.ensures.totals_after, c.table.ensures.rows_after))) c.in-Made.is put-figures-is put-checks-is
-
-pub returns-in-Refused : goal.returns-in-Refused
-returns-in-Refused c = table-refused (table-answered (c.table.ensures.result_value, (c.table.ensures.totals_after, c.table.ensures.rows_after))) c.in-Refused.is
+pub returns : goal.returns
+unfolding table_totals table_rows
+returns c =
+    let made = c.table-answer.ensures in
+    let left = c.put.ensures in
+    answered made.totals_after made.rows_after _ made.result_value left.number left.figures_after left.checks_after

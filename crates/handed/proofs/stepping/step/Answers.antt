@@ -1,12 +1,5 @@
-use native.Mathlib.Omega.{arith}
-use Rattle.handed.proofs.Told.{column-stopped, column-told}
+use Rattle.heads.specs.Laws.Called.{left_off}
 use Rattle.handed.proofs.stepping.step.Goals as goal
 
-pub returns-then-n-ne0 : goal.returns-then-n-ne0
-returns-then-n-ne0 c = let all = column-stopped _ _ _ _ c.refused-n.ensures (λ z. omega (arith, z, c.if-n-ne0.true)) in record { value = all.0; to_after = all.1 }
-
-pub returns-in-Done : goal.returns-in-Done
-returns-in-Done c = let all = column-told _ _ _ _ c.refused-n.ensures (omega (arith, c.if-n-ne0.false)) c.plan_in.ensures c.in-Done.is (c.step.ensures.result_value, c.step.ensures.to_after) in record { value = all.0; to_after = all.1 }
-
-pub returns-in-Refused : goal.returns-in-Refused
-returns-in-Refused c = let all = column-told _ _ _ _ c.refused-n.ensures (omega (arith, c.if-n-ne0.false)) c.plan_in.ensures c.in-Refused.is (c.step.ensures.result_value, c.step.ensures.to_after) in record { value = all.0; to_after = all.1 }
+pub returns-in_err-p-clause-to_after : goal.returns-in_err-p-clause-to_after
+returns-in_err-p-clause-to_after c = left_off _ _ c.in_err-p.ensures.number _ _

@@ -24,10 +24,10 @@ loop-n-preserved g c =
     let from = c.loop-n.n in
     let room = length c.loop-n.buffer - from in
     let within : from ≤ length c.loop-n.buffer = omega (arith, c.loop-n-test.true) in
-    let part = slice_range-put_mid from room c.in-Ok.more c.loop-n.buffer c.read.new.buf within c.in-Ok.ensures.bound.0 in
-    let joined = take_split from (from + c.in-Ok.more) c.loop-n.buffer (put_mid from room c.loop-n.buffer c.read.new.buf) (omega arith) (take-put_mid_below _ _ _ _ _ (le_refl _) within) in
+    let part = slice_range-put_mid from room c.in_ok-more.more c.loop-n.buffer c.read.new.buf within c.in_ok-more.ensures.bound.0 in
+    let joined = take_split from (from + c.in_ok-more.more) c.loop-n.buffer (put_mid from room c.loop-n.buffer c.read.new.buf) (omega arith) (take-put_mid_below _ _ _ _ _ (le_refl _) within) in
     record {
       same_length = search rules;
       within = search rules;
-      read = subst (Consumes _ _) (ap (λ l. take from c.loop-n.buffer ++ l) (sym part) ∙ joined) (Consumes-trans _ _ _ _ _ c.loop-n.invariant.read c.in-Ok.ensures.bytes.0);
+      read = subst (Consumes _ _) (ap (λ l. take from c.loop-n.buffer ++ l) (sym part) ∙ joined) (Consumes-trans _ _ _ _ _ c.loop-n.invariant.read c.in_ok-more.ensures.bytes.0);
     }

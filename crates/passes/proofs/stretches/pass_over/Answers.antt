@@ -1,59 +1,10 @@
-use native.Mathlib.Omega.{arith}
-use Rattle.algebra.proofs.Laws.Parts.{making-all, as_long, room, room-now, shorter}
-use Rattle.passes.proofs.Passed.{passing-none, width_fits, some-width, next-stretch, passing-more}
+use Rattle.contrasts.proofs.Laws.Levels.{the-three}
 use Rattle.passes.proofs.stretches.pass_over.Goals as goal
 
-pub overflow_mul-width : goal.overflow_mul-width
-overflow_mul-width c = omega (arith, width_fits c.requires)
+pub column_over-requires : goal.column_over-requires
+column_over-requires c = rw c.if-levels-eq2.true at c.requires
 
-pub loop-start-init : goal.loop-start-init
-loop-start-init c = passing-none c.requires
-
-pub overflow_add-start : goal.overflow_add-start
-overflow_add-start c =
-    let inv = c.loop-start.invariant in
-    omega (arith, room inv c.loop-start-test.true, room-now inv c.loop-start-test.true)
-
-pub offset_bounds-column-start : goal.offset_bounds-column-start
-offset_bounds-column-start c =
-    let inv = c.loop-start.invariant in
-    omega (arith, room inv c.loop-start-test.true, room-now inv c.loop-start-test.true)
-
-pub slice_bounds-stretch-count : goal.slice_bounds-stretch-count
-slice_bounds-stretch-count c =
-    let inv = c.loop-start.invariant in
-    omega (arith, room inv c.loop-start-test.true, room-now inv c.loop-start-test.true)
-
-pub slice_bounds-stretch-start : goal.slice_bounds-stretch-start
-slice_bounds-stretch-start c =
-    let inv = c.loop-start.invariant in
-    omega (arith, room inv c.loop-start-test.true, room-now inv c.loop-start-test.true)
-
-pub slice_bounds-stretch-end : goal.slice_bounds-stretch-end
-slice_bounds-stretch-end c = room-now c.loop-start.invariant c.loop-start-test.true
-
-pub stretch-requires : goal.stretch-requires
-stretch-requires c = next-stretch c.requires c.loop-start.invariant c.loop-start-test.true
-
-pub overflow_add-start-in-loop-start : goal.overflow_add-start-in-loop-start
-overflow_add-start-in-loop-start c = omega (arith, room c.loop-start.invariant c.loop-start-test.true)
-
-pub loop-start-smaller : goal.loop-start-smaller
-loop-start-smaller c =
+pub column_over-requires-else-levels-eq2 : goal.column_over-requires-else-levels-eq2
+column_over-requires-else-levels-eq2 c =
     let pre = c.requires in
-    let inv = c.loop-start.invariant in
-    let inside = c.loop-start-test.true in
-    shorter inv inside (some-width pre)
-
-pub loop-start-preserved : goal.loop-start-preserved
-loop-start-preserved c =
-    let pre = c.requires in
-    let inv = c.loop-start.invariant in
-    let inside = c.loop-start-test.true in
-    passing-more pre inv inside _ c.stretch.ensures
-
-pub shape_of-column : goal.shape_of-column
-shape_of-column c = as_long c.loop-start.invariant
-
-pub returns : goal.returns
-returns c = making-all c.loop-start.invariant c.loop-start-test.false
+    rw (the-three _ pre.kind c.if-levels-eq2.false) at pre

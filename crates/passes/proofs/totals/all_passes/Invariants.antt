@@ -1,9 +1,5 @@
-use Prim.Native.Nat.{◌-◌}
 use Rattle.passes.proofs.Formed.{AllPassed}
 use Rattle.passes.proofs.totals.all_passes.Given as goal
 
-abbrev pub invariant-loop-f : goal.invariant-loop-f
-invariant-loop-f l = AllPassed l.levels l.k l.initial.column l.spacing l.f l.column
-
-abbrev pub decreases-loop-f : goal.decreases-loop-f
-decreases-loop-f l = l.k - l.f
+abbrev pub invariant-loop-factor : goal.invariant-loop-factor
+invariant-loop-factor g l = AllPassed g.L.Level.LEVELS l.k l.initial.column l.spacing l._factor l.column

@@ -1,18 +1,10 @@
-use mathlib.Core.Path.{refl, ◌∙◌}
-use Rattle.passes.proofs.Summed.{once-ready, once-made, runs-ready, sums-ready}
+use Rattle.contrasts.proofs.Laws.Levels.{the-three}
 use Rattle.passes.proofs.totals.form_totals.Goals as goal
 
-pub once-requires : goal.once-requires
-once-requires c = once-ready c.requires c.if-repeats-eq1.true
+pub totals-requires : goal.totals-requires
+totals-requires c = rw c.if-levels-eq2.true at c.requires
 
-pub sum_runs-requires : goal.sum_runs-requires
-sum_runs-requires c = runs-ready c.requires
-
-pub all_passes-requires : goal.all_passes-requires
-all_passes-requires c = sums-ready c.requires c.sum_runs.ensures
-
-pub returns-then-repeats-eq1 : goal.returns-then-repeats-eq1
-returns-then-repeats-eq1 c = once-made c.requires c.if-repeats-eq1.true c.once.ensures
-
-pub returns-else-repeats-eq1 : goal.returns-else-repeats-eq1
-returns-else-repeats-eq1 c = c.all_passes.ensures ∙ rw c.sum_runs.ensures refl
+pub totals-requires-else-levels-eq2 : goal.totals-requires-else-levels-eq2
+totals-requires-else-levels-eq2 c =
+    let pre = c.requires in
+    rw (the-three _ pre.kind c.if-levels-eq2.false) at pre

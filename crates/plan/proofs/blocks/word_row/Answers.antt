@@ -1,20 +1,11 @@
-use mathlib.Core.Path.{refl, ◌∙◌, ap}
-use lib.ListN.{replicate}
-use borrow.Author.Tests.{lt-ltb, le-ltb}
+use Rattle.std.proofs.Common.{◌∙◌, ap, replicate}
+use borrow.Author.Tests.{le-ltb}
 use Rattle.contrasts.proofs.Factors.{three}
 use Rattle.contrasts.specs.Limits.{most_three}
 use Rattle.contrasts.specs.Rows.{row_of}
 use Rattle.plan.specs.Check.{used_row}
 use Rattle.plan.proofs.Laws.Words.{row-of-digits}
 use Rattle.plan.proofs.blocks.word_row.Goals as goal
-
-pub returns-then-p-gt6 : goal.returns-then-p-gt6
-unfolding used_row most_three
-returns-then-p-gt6 c = rw (lt-ltb _ _ c.if-p-gt6.true) refl
-
-pub row_of_digits-requires : goal.row_of_digits-requires
-unfolding used_row most_three
-row_of_digits-requires c = c.if-p-gt6.false
 
 pub returns : goal.returns
 unfolding used_row most_three

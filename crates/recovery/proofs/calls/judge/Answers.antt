@@ -1,4 +1,5 @@
-use mathlib.Core.Path.{◌∙◌, ap, sym}
+use mathlib.Core.Path.{refl, ◌∙◌, ap, sym}
+use Rattle.algebra.specs.Laws.Tests.{is}
 use Rattle.contrasts.proofs.Laws.Undo.{sums_from}
 use Rattle.columns.specs.Laws.Copies.{copied-over}
 use Rattle.plan.specs.Plan.{factors_of}
@@ -18,11 +19,28 @@ divide-requires c =
     let copied = copied-over _ (pre.values ∙ sym pre.whole) c.copy_values.ensures in
     let sums = c.sum_back-denominator.ensures in divisible pre (sums.column_after ∙ ap (sums_from 1 _) copied) sums.value c.run_limit.ensures
 
-pub returns : goal.returns
+pub returns-then-divide : goal.returns-then-divide
 unfolding factors_of
-returns c =
+returns-then-divide c =
     let pre = c.requires in
     let copied = copied-over _ (pre.values ∙ sym pre.whole) c.copy_values.ensures in
-    let sums = c.sum_back-denominator.ensures in let so = sums.column_after ∙ ap (sums_from 1 _) copied in
+    let sums = c.sum_back-denominator.ensures in
+    let so = sums.column_after ∙ ap (sums_from 1 _) copied in
     let limit = c.run_limit.ensures in
-    record { value = missing pre so sums.value limit c.divide.ensures.value; column_after = found pre so sums.value limit c.divide.ensures.column_after }
+    record {
+      value = rw (is (missing pre so sums.value limit c.divide.ensures.value) c.if-divide.true) refl;
+      column_after = found pre so sums.value limit c.divide.ensures.column_after;
+    }
+
+pub returns-else-divide : goal.returns-else-divide
+unfolding factors_of
+returns-else-divide c =
+    let pre = c.requires in
+    let copied = copied-over _ (pre.values ∙ sym pre.whole) c.copy_values.ensures in
+    let sums = c.sum_back-denominator.ensures in
+    let so = sums.column_after ∙ ap (sums_from 1 _) copied in
+    let limit = c.run_limit.ensures in
+    record {
+      value = rw (is (missing pre so sums.value limit c.divide.ensures.value) c.if-divide.false) refl;
+      column_after = found pre so sums.value limit c.divide.ensures.column_after;
+    }

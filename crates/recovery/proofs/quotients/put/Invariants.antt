@@ -1,11 +1,6 @@
-use Prim.Native.Nat.{◌-◌}
 use lib.IntN.{pos}
-use lib.ListN.{length}
 use Rattle.algebra.specs.Laws.Copied.{Copying}
 use Rattle.recovery.proofs.quotients.put.Given as goal
 
 abbrev pub invariant-loop-i : goal.invariant-loop-i
 invariant-loop-i l = Copying (pos 0) l.column l.initial.readings l.i l.readings
-
-abbrev pub decreases-loop-i : goal.decreases-loop-i
-decreases-loop-i l = length l.column - l.i

@@ -1,8 +1,5 @@
 use Rattle.recovery.proofs.Summed.{AllSummed}
 use Rattle.recovery.proofs.sums.sum_back.Given as goal
 
-abbrev pub invariant-loop-f : goal.invariant-loop-f
-invariant-loop-f l = AllSummed l.levels l.k l.initial.column l.denominator l.spacing l.f l.column
-
-abbrev pub decreases-loop-f : goal.decreases-loop-f
-decreases-loop-f l = l.f
+abbrev pub invariant-loop-i : goal.invariant-loop-i
+invariant-loop-i l = AllSummed l.levels l.k l.initial.column l.denominator l.spacing l._i l.column

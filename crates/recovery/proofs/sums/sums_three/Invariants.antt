@@ -1,10 +1,5 @@
-use Prim.Native.Nat.{◌-◌}
-use lib.ListN.{length}
 use Rattle.recovery.proofs.Summed.{Summing}
 use Rattle.recovery.proofs.sums.sums_three.Given as goal
 
 abbrev pub invariant-loop-start : goal.invariant-loop-start
 invariant-loop-start l = Summing l.spacing l.initial.column l.start l.column
-
-abbrev pub decreases-loop-start : goal.decreases-loop-start
-decreases-loop-start l = length l.initial.column - l.start

@@ -6,6 +6,3 @@ use Rattle.runs.proofs.treatments.block_number.Given as goal
 
 abbrev pub invariant-loop-j : goal.invariant-loop-j
 invariant-loop-j l = Gathered (λ i. odd_in l.run (get_or l.words i 0)) (length l.words) l.j l.block
-
-abbrev pub decreases-loop-j : goal.decreases-loop-j
-decreases-loop-j l = length l.words - l.j

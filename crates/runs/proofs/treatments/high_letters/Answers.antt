@@ -22,7 +22,7 @@ loop-j-preserved c =
     let j-now = c.loop-j.j in
     let inv = c.loop-j.invariant in
     let next : ◌≡◌ {A = ℕ} (args.k + (j-now + 1)) (args.k + j-now + 1) = omega arith in
-    let high = c.is_high-test.ensures ∙ sym (added-high _ _ _ _ _) in
+    let high = c.is_high.ensures ∙ sym (added-high _ _ _ _ _) in
     rw next (gathered-more inv (omega arith) _ high c.put_if-high.ensures)
 
 pub returns : goal.returns

@@ -6,6 +6,3 @@ use Rattle.runs.proofs.treatments.high_letters.Given as goal
 
 abbrev pub invariant-loop-j : goal.invariant-loop-j
 invariant-loop-j l = Gathered (high_in l.k l.words l.signs l.run) (l.k + length l.words) (l.k + l.j) l.high
-
-abbrev pub decreases-loop-j : goal.decreases-loop-j
-decreases-loop-j l = length l.words - l.j

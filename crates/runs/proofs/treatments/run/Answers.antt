@@ -1,37 +1,37 @@
-use mathlib.Core.Path.{◌≡◌, sym, ◌∙◌}
-use Rattle.runs.specs.Run.{run_refused}
+use Rattle.std.proofs.Common.{◌≡◌, ◌≤◌, ◌^◌, refl, sym, ◌∙◌, arith}
+use borrow.Author.Tests.{le-leb, lt-leb}
 use Rattle.plan.specs.Check.{plan_refused}
+use Rattle.plan.specs.Plan.{runs_of}
 use Rattle.plan.proofs.Laws.Accepted.{sizes}
-use Rattle.plan.proofs.Laws.Answers.{refused-by-plan}
-use Rattle.plan.proofs.Laws.Sizes.{run-count}
-use Rattle.plan.proofs.Laws.Words.{counts-few}
-use Rattle.runs.specs.Laws.High.{run-two, values-two}
+use Rattle.plan.proofs.Laws.Sizes.{run-count, runs-two, two-levels}
+use Rattle.runs.specs.Laws.High.{values-two}
 use Rattle.runs.specs.Laws.ThreeBlocks.{run-three, values-three}
 use Rattle.runs.proofs.treatments.run.Goals as goal
 
-pub returns-then-n-ne0 : goal.returns-then-n-ne0
-unfolding run_refused
-returns-then-n-ne0 c = refused-by-plan _ _ _ c.lowest-n.ensures c.if-n-ne0.true
+pub returns-then-runs-number : goal.returns-then-runs-number
+returns-then-runs-number c =
+    let p = c.args.p in
+    let accepted : plan_refused p ≡ 0 = sym c.in_ok-check.ensures.number in
+    let beyond : runs_of p ≤ c.args.number = omega (arith, c.runs.ensures, run-count p accepted) in
+    rw (run-three p c.args.number accepted, le-leb (runs_of p) c.args.number beyond) refl
 
 pub returns-then-p-eq3 : goal.returns-then-p-eq3
-unfolding run_refused
 returns-then-p-eq3 c =
-    let ok : plan_refused c.args.p ≡ 0 = sym c.lowest-n.ensures ∙ c.if-n-ne0.false in
     let p = c.args.p in
-    let accepted-is = ok in
-    let runs-are = c.runs.ensures ∙ run-count p accepted-is in
-    rw (run-three p c.args.number accepted-is, values-three p c.if-p-eq3.true c.args.number, ← runs-are, ← c.three_word.ensures) c.three_treatment.ensures
+    let accepted : plan_refused p ≡ 0 = sym c.in_ok-check.ensures.number in
+    let runs-are = c.runs.ensures ∙ run-count p accepted in
+    rw (run-three p c.args.number accepted, lt-leb (runs_of p) c.args.number (omega (arith, runs-are)), values-three p c.if-p-eq3.true c.args.number, c.three_treatment.ensures) refl
 
 pub treatment-requires : goal.treatment-requires
-unfolding run_refused
 treatment-requires c =
-    let ok : plan_refused c.args.p ≡ 0 = sym c.lowest-n.ensures ∙ c.if-n-ne0.false in
-    let few = sizes c.args.p ok in
-    (few.0, few.1, rw c.word_count.ensures (counts-few c.args.p 4 few.2).0)
+    let p = c.args.p in
+    let accepted : plan_refused p ≡ 0 = sym c.in_ok-check.ensures.number in
+    let power = runs-two p (two-levels p accepted c.if-p-eq3.false) in
+    (omega (arith, c.runs.ensures, run-count p accepted, power), (sizes p accepted).0)
 
 pub returns : goal.returns
-unfolding run_refused
 returns c =
-    let ok : plan_refused c.args.p ≡ 0 = sym c.lowest-n.ensures ∙ c.if-n-ne0.false in
     let p = c.args.p in
-    rw (run-two p c.args.number ok c.if-p-eq3.false, values-two p c.args.number c.if-p-eq3.false, ← c.word_count.ensures) c.treatment.ensures
+    let accepted : plan_refused p ≡ 0 = sym c.in_ok-check.ensures.number in
+    let runs-are = c.runs.ensures ∙ run-count p accepted in
+    rw (run-three p c.args.number accepted, lt-leb (runs_of p) c.args.number (omega (arith, runs-are)), values-two p c.args.number c.if-p-eq3.false, c.treatment.ensures) refl

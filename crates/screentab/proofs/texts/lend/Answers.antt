@@ -1,4 +1,4 @@
-use mathlib.Core.Path.{◌≡◌, sym}
+use Rattle.std.proofs.Common.{◌≡◌, sym, Err, rules}
 use Prim.Native.Nat.{◌≤◌}
 use lib.ListN.{length, take}
 use lib.Seq.{length-take-le}
@@ -31,16 +31,18 @@ slice_bounds-screen-end-3 c =
     let rows_fit : c.row_count-r.result ≤ 1024 = few-rows _ c.requires.plan c.row_count-r.ensures in
     sym (length-take-le _ _ rows_fit)
 
-pub returns-in-Made : goal.returns-in-Made
-returns-in-Made c =
+pub returns : goal.returns
+returns c =
     let runs_fit : c.runs-n.result ≤ 1024 = few-runs _ c.requires.plan c.runs-n.ensures in
     let rows_fit : c.row_count-r.result ≤ 1024 = few-rows _ c.requires.plan c.row_count-r.ensures in
     lent-made _ c.requires.plan c.runs-n.ensures c.reading_count-m.ensures c.row_count-r.ensures
-    _ _ _ _ (length-take-le _ _ runs_fit) (length-take-le _ _ rows_fit) c.screen-answer.ensures.result_value c.in-Made.is
+    _ _ _ _ (length-take-le _ _ runs_fit) (length-take-le _ _ rows_fit) c.screen.ensures.result_value c.in_ok-screen.was
 
-pub returns-in-Refused : goal.returns-in-Refused
-returns-in-Refused c =
+pub returns-in_err-screen : goal.returns-in_err-screen
+returns-in_err-screen c =
     let runs_fit : c.runs-n.result ≤ 1024 = few-runs _ c.requires.plan c.runs-n.ensures in
     let rows_fit : c.row_count-r.result ≤ 1024 = few-rows _ c.requires.plan c.row_count-r.ensures in
-    lent-stopped _ c.requires.plan c.runs-n.ensures c.reading_count-m.ensures c.row_count-r.ensures
-    _ _ _ _ (length-take-le _ _ runs_fit) (length-take-le _ _ rows_fit) c.screen-answer.ensures.result_value c.in-Refused.is
+    let first : c.from_residual.result ≡ Err c.in_err-screen.field-0.0 = search rules in
+    rw first
+    (lent-stopped _ c.requires.plan c.runs-n.ensures c.reading_count-m.ensures c.row_count-r.ensures
+    _ _ _ _ (length-take-le _ _ runs_fit) (length-take-le _ _ rows_fit) c.screen.ensures.result_value c.in_err-screen.was)

@@ -1,13 +1,8 @@
-use native.Mathlib.Omega.{arith}
 use Rattle.sheet.proofs.Answering.{marks-refused, marks-stopped, marks-given}
 use Rattle.sheet.proofs.calls.marks.Goals as goal
 
-pub returns-then-sheet_refused-ne0 : goal.returns-then-sheet_refused-ne0
-returns-then-sheet_refused-ne0 c =
-    let plan-in-is = c.plan_in.ensures in
-    marks-stopped _ (marks-refused _ plan-in-is c.sheet_refused.ensures) (λ z. omega (arith, z, c.if-sheet_refused-ne0.true))
+pub returns-in-Ok : goal.returns-in-Ok
+returns-in-Ok c = marks-given _ (marks-refused _ c.plan_in.ensures c.in-Ok.ensures) c.body.ensures
 
-pub returns : goal.returns
-returns c =
-    let plan-in-is = c.plan_in.ensures in
-    marks-given _ (marks-refused _ plan-in-is c.sheet_refused.ensures) (omega (arith, c.if-sheet_refused-ne0.false)) (search c.body.ensures)
+pub returns-in-Err : goal.returns-in-Err
+returns-in-Err c = marks-stopped _ _ (marks-refused _ c.plan_in.ensures c.in-Err.ensures)

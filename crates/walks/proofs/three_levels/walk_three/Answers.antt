@@ -5,66 +5,45 @@ use Rattle.walks.proofs.three_levels.walk_three.Goals as goal
 
 pub loop-e-init : goal.loop-e-init
 loop-e-init c =
-    let pre = c.requires in
-    threes-none pre
-
-pub bounds-effects-e : goal.bounds-effects-e
-bounds-effects-e c =
-    let pre = c.requires in
-    omega (arith, pre.effects-long)
+    threes-none c.requires
 
 pub overflow_cast-row : goal.overflow_cast-row
 overflow_cast-row c =
-    let pre = c.requires in
-    omega (arith, pre.walkable.row-there c.loop-e.e (omega (arith, c.loop-e-test.true)))
-
-pub bounds-weights-e : goal.bounds-weights-e
-bounds-weights-e c =
-    let pre = c.requires in
-    omega (arith, pre.weights-long)
+    omega (arith, c.requires.walkable.row-there c.loop-e.e (omega (arith, c.loop-e-test.true)))
 
 pub bounds-kinds-row : goal.bounds-kinds-row
 bounds-kinds-row c =
-    let pre = c.requires in
-    omega (arith, pre.kinds-long, pre.walkable.row-there c.loop-e.e (omega (arith, c.loop-e-test.true)))
+    omega (arith, c.requires.kinds-long, c.requires.walkable.row-there c.loop-e.e (omega (arith, c.loop-e-test.true)))
 
 pub slice_bounds-bring_three-end : goal.slice_bounds-bring_three-end
 slice_bounds-bring_three-end c =
-    let pre = c.requires in
-    sym (three-places pre c.loop-e.invariant)
+    sym (three-places c.requires c.loop-e.invariant)
 
 pub bring_three-requires : goal.bring_three-requires
 bring_three-requires c =
-    let pre = c.requires in
-    brings-three pre c.loop-e.invariant (omega (arith, c.loop-e-test.true))
+    brings-three c.requires c.loop-e.invariant (omega (arith, c.loop-e-test.true))
 
 pub overflow_add-sum : goal.overflow_add-sum
 overflow_add-sum c =
-    let pre = c.requires in
-    three-fits pre c.loop-e.invariant (omega (arith, c.loop-e-test.true))
+    three-fits c.requires c.loop-e.invariant (omega (arith, c.loop-e-test.true))
 
 pub loop-e-preserved : goal.loop-e-preserved
 loop-e-preserved c =
-    let pre = c.requires in
-    threes-more pre c.loop-e.invariant (omega (arith, c.loop-e-test.true)) (c.bring_three.ensures.rows_after, c.bring_three.ensures.parts_after)
+    threes-more c.requires c.loop-e.invariant (omega (arith, c.loop-e-test.true)) (c.bring_three.ensures.rows_after, c.bring_three.ensures.parts_after)
 
 pub slice_bounds-gather-end : goal.slice_bounds-gather-end
 slice_bounds-gather-end c =
-    let pre = c.requires in
-    sym (three-places pre c.loop-e.invariant)
+    sym (three-places c.requires c.loop-e.invariant)
 
 pub gather-requires : goal.gather-requires
 gather-requires c =
-    let pre = c.requires in
-    three-gatherable pre c.loop-e.invariant
+    three-gatherable c.requires c.loop-e.invariant
 
 pub shape_of-rows : goal.shape_of-rows
 shape_of-rows c =
-    let pre = c.requires in
-    three-long pre c.loop-e.invariant
+    three-long c.requires c.loop-e.invariant
 
 pub returns : goal.returns
 returns c =
-    let pre = c.requires in
-    let walked = threes-all pre c.loop-e.invariant (omega (arith, c.loop-e-test.false)) in
+    let walked = threes-all c.requires c.loop-e.invariant (omega (arith, c.loop-e-test.false)) in
     record { sums-are = c.gather.ensures ∙ walked.sums-are; rows_are = walked.rows_are }

@@ -1,10 +1,6 @@
-use Prim.Native.Nat.{◌-◌}
-use lib.ListN.{length}
+use Rattle.std.proofs.Common.{◌*◌, length}
 use Rattle.walks.specs.State.{RunningTwo}
 use Rattle.walks.proofs.two_levels.walk_two.Given as goal
 
-abbrev pub invariant-loop-e : goal.invariant-loop-e
-invariant-loop-e l = RunningTwo l.totals l.kinds (length l.initial.rows) l.e l.rows l.parts l.sum
-
-abbrev pub decreases-loop-e : goal.decreases-loop-e
-decreases-loop-e l = length l.totals - l.e
+abbrev pub invariant-loop-pair : goal.invariant-loop-pair
+invariant-loop-pair l = RunningTwo l.totals l.kinds (length l.initial.rows) (2 * l.pair) l.rows l.parts l.sum

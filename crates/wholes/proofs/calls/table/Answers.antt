@@ -6,7 +6,7 @@ pub returns-then-wrong_room : goal.returns-then-wrong_room
 returns-then-wrong_room c =
     let whole_is = c.whole-p.ensures in
     let wrong-room-is = c.wrong_room.ensures in
-    rw (← whole_is) (without-room (is wrong-room-is c.if-wrong_room.true) c.room_refused.ensures)
+    rw (← whole_is) (without-room (is wrong-room-is c.if-wrong_room.true) c.without_room.ensures)
 
 pub tabulate-requires : goal.tabulate-requires
 tabulate-requires c =

@@ -1,4 +1,3 @@
-use Prim.Native.Nat.{◌-◌}
 use lib.ListN.{length, get_or, take}
 use Rattle.algebra.specs.Laws.Searching.{Unfound}
 use Rattle.words.specs.Words.{among}
@@ -6,6 +5,3 @@ use Rattle.words.proofs.lists.is_repeated.Given as goal
 
 abbrev pub invariant-loop-i : goal.invariant-loop-i
 invariant-loop-i l = Unfound (λ j. among (get_or l.words j 0) (take j l.words)) (length l.words) l.i
-
-abbrev pub decreases-loop-i : goal.decreases-loop-i
-decreases-loop-i l = length l.words - l.i

@@ -1,9 +1,0 @@
-use Prim.Native.Nat.{◌-◌}
-use Rattle.effects.proofs.Filling.{Singly}
-use Rattle.effects.proofs.weighing.weights_of_two.Given as goal
-
-abbrev pub invariant-loop-e : goal.invariant-loop-e
-invariant-loop-e l = Singly (λ j. 1) (λ j. 0) l.n l.e l.weights
-
-abbrev pub decreases-loop-e : goal.decreases-loop-e
-decreases-loop-e l = l.n - l.e

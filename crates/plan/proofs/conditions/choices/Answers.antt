@@ -1,8 +1,0 @@
-use mathlib.Core.Path.{refl}
-use native.Mathlib.Nat.{pow-le-pow_right}
-use native.Mathlib.Omega.{arith}
-use Rattle.algebra.specs.Laws.Gathered.{one_shifted}
-use Rattle.plan.proofs.conditions.choices.Goals as goal
-
-pub returns : goal.returns
-returns c = rw (one_shifted c.args.n 16 (omega arith)) (refl, pow-le-pow_right {n = 2} (omega arith) {i = c.args.n} {j = 4} (omega arith))
