@@ -6,6 +6,7 @@
 #               what begins with a folder of the root
 #   names       a name cited in backticks stands in the code, comments aside; `a::b` in the sources of the crate a, and
 #               `F.b` in the file F.antt
+#   lines       a line of code cited in backticks, which ends with a semicolon, stands in a source of the crates
 #   owners      names that directly follow a file, a folder or a crate stand in it: `F.antt` `a`, `b` and `c`; in the
 #               same way `F.antt` (`a`, `b`); and what is called a crate is one
 #   the map     docs/MAP.md has the groups of crates.txt, in its order: a heading ### for each, and a table with the head
@@ -307,6 +308,13 @@ def check_names(repository, document, cited):
             for complaint in check_name(repository, own)]
 
 
+def check_lines(repository, document, cited):
+    """Lines of code that are cited and stand in no source of the crates."""
+    sources = [text for path, text in repository.own_text.items() if path.startswith("crates/") and path.endswith(".rt")]
+    return [(document, own.line, "the line `%s` stands in no source" % own.text)
+            for own in cited if own.text.endswith(";") and not any(own.text in text for text in sources)]
+
+
 def owner_of(repository, own):
     """The files or folders in which the names after a citation should stand; none where it owns no name."""
     if own.text in repository.depends:
@@ -516,7 +524,7 @@ def complaints(repository):
         found += check_code(repository, document)
         cited = citations(read(document))
         count += len(cited)
-        for check in (check_paths, check_names, check_owners):
+        for check in (check_paths, check_names, check_lines, check_owners):
             found += check(repository, document, cited)
     return sorted(found), count
 

@@ -8,8 +8,7 @@
 # the added factors; the block words; the readings, which are the places before the first that kept its number; how many
 # places kept theirs; and the marks. A list is how many there are and then each of them, an added factor as word/sign, the
 # marks with no space between them. Of over 40 readings one number is written (counted). Words and signs that are not 0
-# beyond a plan's counts would be written too. A refusal gives no plan, and all of it is written as 0; a column that is not
-# as it should be after one shows.
+# beyond a plan's counts would be written too, so a refusal with a plan or a column that is not as it should be shows.
 #
 # Defined here:
 #   Case                 a sheet with the room of its column; number is the answer that the rules give, None if not listed

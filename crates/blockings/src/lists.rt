@@ -1,5 +1,5 @@
 // The lists of words by their numbers, and which of them block a plan.
-ghost use Rattle.std.specs.Prelude.{◌≡◌, ◌*◌, ◌^◌, ◌<◌, ◌≤◌, length};
+ghost use Rattle.std.specs.Prelude.{◌≡◌, ◌*◌, ◌^◌, ◌<◌, ◌≤◌, length, take};
 ghost use Rattle.blockings.specs.Blockings.{strictly_rising, blocked_plan, is_blocking};
 ghost use Rattle.blockings.specs.Inner.Numbered.{word_at, words_at};
 
@@ -37,20 +37,20 @@ fn rises(words: &[u16]) -> bool
     true
 }
 
-// The plan of two levels with these block words, with no added factor and each run made once.
+// The plan of two levels with these block words, with no added factor and each run made once; of a longer list the first four words.
 pub fn blocked_plan(k: u8, list: &[u16]) -> Plan
-    requires { length list.now ≤ 4 }
-    ensures { result ≡ blocked_plan k list.now }
+    ensures { result ≡ blocked_plan k (take 4 list.now) }
 {
+    let n = list.len().min(4);
     let mut blockwords = [0u16; 4];
-    blockwords[..list.len()].copy_from_slice(list);
+    blockwords[..n].copy_from_slice(&list[..n]);
     Plan {
         levels: 2,
         k,
         added: 0,
         words: [0; 6],
         signs: [0; 6],
-        blocks: list.len() as u8,
+        blocks: n as u8,
         blockwords,
         repeats: 1,
     }

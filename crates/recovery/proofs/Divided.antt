@@ -1,7 +1,8 @@
 -- The loop that divides sums, and the one that puts readings.
 --
 --   Dividing D M zs i any ys                        the first i sums are quotients, and `any` is whether one of them is missed
---   dividing-none, dividing-all                     before the first, after the last
+--   dividing-none, dividing-more, dividing-all      before the first, after one more, after the last
+--   dividing-still                                  the next sum is still there
 --   quotient-asks, product-size, divided            a turn of it
 --   narrowed-fits, narrowed                         a value that a pass admits, as an i32
 use mathlib.Core.Path.{◌≡◌, refl, ◌∙◌, ap}
@@ -45,10 +46,10 @@ module _ {D M : ℕ} {zs : List ℤ} {i : ℕ} {any : Bool} {ys : List ℤ} (w :
   dividing-all h = (seen_all w.seen h, filled-all (pos 0) w.filled h)
 
   module _ (inside : i < length zs) where
-    dividing-still : read ys i ≡ read zs i
+    pub dividing-still : read ys i ≡ read zs i
     dividing-still = filled-old (pos 0) w.filled i (omega arith) inside
 
-    dividing-more : {q : ℤ} → q ≡ quot_z (read ys i) (pos D) → {t : Bool} → t ≡ missed D M (read ys i) q → Dividing D M zs (i + 1) (any || t) (set ys i q)
+    pub dividing-more : {q : ℤ} → q ≡ quot_z (read ys i) (pos D) → {t : Bool} → t ≡ missed D M (read ys i) q → Dividing D M zs (i + 1) (any || t) (set ys i q)
     dividing-more e f = record {
       filled = filled_more (pos 0) w.filled inside (e ∙ rw dividing-still refl);
       seen = seen_more w.seen inside (f ∙ rw (e, dividing-still) refl);

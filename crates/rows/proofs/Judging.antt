@@ -31,7 +31,7 @@ there marks w e = by (dec_lt w (length marks))
         absurd (true≢false (sym e ∙ rw (get_d_past 0 marks w (omega arith)) refl))
 
 module _ (p : Plan) (marks : List ℕ) where
-  over-bad : any_over marks ≡ true → true ≡ bad_marks p marks
+  pub over-bad : any_over marks ≡ true → true ≡ bad_marks p marks
   unfolding any_over bad_marks bad_mark
   over-bad e =
       let s = some_at (length marks) (λ w. ltb 1 (get_or marks w 0)) e in
@@ -43,7 +43,7 @@ module _ (p : Plan) (marks : List ℕ) where
   bare-bad w e d =
       sym (some-true (length marks) (λ w. bad_mark p w (get_or marks w 0)) w (there marks w e) (rw (e, d) (or-true (ltb 1 (get_or marks w 0)))))
 
-  mean-bad : marked marks 0 ≡ true → true ≡ bad_marks p marks
+  pub mean-bad : marked marks 0 ≡ true → true ≡ bad_marks p marks
   mean-bad e = bare-bad 0 e refl
 
   blocks-bad : some_combination (block_words p) (marked marks) ≡ true → true ≡ bad_marks p marks
@@ -81,7 +81,7 @@ module _ (p : Plan) (marks : List ℕ) where
     unfolding bad_marks
     none-bad = sym (some-false (length marks) (λ w. bad_mark p w (get_or marks w 0)) each)
 
-  blocks-or-none : any_over marks ≡ false → marked marks 0 ≡ false → some_combination (block_words p) (marked marks) ≡ bad_marks p marks
+  pub blocks-or-none : any_over marks ≡ false → marked marks 0 ≡ false → some_combination (block_words p) (marked marks) ≡ bad_marks p marks
   blocks-or-none over mean = by (some_combination (block_words p) (marked marks)) refl
     where
       by : (b : Bool) → some_combination (block_words p) (marked marks) ≡ b → some_combination (block_words p) (marked marks) ≡ bad_marks p marks

@@ -44,6 +44,7 @@ fn put_combinations(words: &[u16], kinds: &mut [Kind])
 }
 
 // The kind of each row, and of numbers below 1,024 that a smaller plan has no row for.
+#[inline(never)]
 pub fn kinds(p: Plan, marks: &[u8]) -> [Kind; 1024]
     ensures { result ≡ kinds_of p marks.now }
 {

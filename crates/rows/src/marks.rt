@@ -4,7 +4,8 @@ ghost use Rattle.plan.specs.Plan.{some_combination};
 ghost use Rattle.rows.specs.Kinds.{marked, bad_marks};
 ghost use Rattle.rows.specs.Inner.Written.{any_over};
 
-use plan::{Plan, some_combination};
+use plan::Plan;
+use words::{choices, combine};
 
 // Whether a mark is neither 0 nor 1. The loop does not stop early, so it is compiled to work several marks at a time.
 fn any_over(marks: &[u8]) -> bool
@@ -29,7 +30,12 @@ fn any_block_marked(words: &[u16], marks: &[u8]) -> bool
     requires { length words.now ≤ 4 }
     ensures { result ≡ some_combination words.now (marked marks.now) }
 {
-    some_combination(words, |word| is_marked(marks, word as usize))
+    for choice in 1..choices(words.len()) {
+        if is_marked(marks, combine(0, choice, words) as usize) {
+            return true;
+        }
+    }
+    false
 }
 
 // Whether the marks are refused: one is over 1, or the mean or a combination of block words is marked.

@@ -23,6 +23,16 @@ pub fn read(sheet: &[u8], column: &mut [i32]) -> Result<Plan, Refusal>
     Ok(p)
 }
 
+// The plan of the reader's answer. That of a refused sheet is all zeros, which every call refuses.
+pub fn plan_of(answer: Result<Plan, Refusal>) -> Plan
+    ensures { result ≡ plan_of answer }
+{
+    match answer {
+        Ok(p) => p,
+        Err(_) => Plan::whole(0, 0, 0),
+    }
+}
+
 // The part of the sheet that holds the marks; an empty part where the sheet is refused.
 pub fn marks(sheet: &[u8]) -> &[u8]
     ensures { result.now ≡ marks_of sheet.now }

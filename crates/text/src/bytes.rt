@@ -1,5 +1,5 @@
 // Texts: bytes, parts and letters.
-ghost use Rattle.std.specs.Prelude.{◌≡◌, [], ◌∷◌, ◌≤◌, length, take};
+ghost use Rattle.std.specs.Prelude.{◌≡◌, [], ◌∷◌, take};
 ghost use Rattle.text.specs.Text.{Writes};
 ghost use Rattle.text.specs.Spelled.{letters_of};
 
@@ -27,12 +27,12 @@ impl<'a> Text<'a> {
         self.at
     }
 
-    // Its bytes.
+    // Its bytes: all of the buffer's where the end lies beyond it.
     pub fn bytes(&self) -> &[u8]
-        requires { self.now.at ≤ length self.now.buffer.now }
         ensures { result.now ≡ take self.now.at self.now.buffer.now }
     {
-        &self.buffer[..self.at]
+        let n = self.at.min(self.buffer.len());
+        &self.buffer[..n]
     }
 
     pub fn put(&mut self, byte: u8)

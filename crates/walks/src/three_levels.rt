@@ -22,9 +22,10 @@ pub fn walk_three(
     let mut parts = [0u64; 16];
     let mut sum = 0;
     for (e, total) in totals.iter().enumerate() {
+        let total = *total;
         let row = effects[e] as usize;
-        bring_three(row, *total, weights[e], kinds[row], e % 2, rows, &mut parts);
-        sum += *total;
+        bring_three(row, total, weights[e], kinds[row], e % 2, rows, &mut parts);
+        sum += total;
     }
     gather(&parts, sum)
 }

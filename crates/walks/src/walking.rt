@@ -9,7 +9,7 @@ ghost use Rattle.walks.specs.State.{zeros};
 use super::three_levels::walk_three;
 use super::two_levels::walk_two;
 use super::types::Sums;
-use effects::weights;
+use effects::{put_rows, put_weights};
 use plan::Plan;
 use rows::kinds;
 
@@ -33,7 +33,9 @@ pub fn walk(p: Plan, totals: &[i64], marks: &[u8], rows: &mut [u64]) -> Sums
     if p.levels == 2 {
         return walk_two(totals, &kinds, rows);
     }
-    let effects = effects::rows(p);
-    let weights = weights(p);
+    let mut effects = [0u16; 1024];
+    put_rows(p, &mut effects);
+    let mut weights = [0u32; 1024];
+    put_weights(p, &mut weights);
     walk_three(totals, &effects, &weights, &kinds, rows)
 }

@@ -8,7 +8,7 @@
 //   is_among(word, words)            whether the word is one of the words
 //   is_repeated(words)               whether one of them is there twice
 //   combine(first, chosen, words)    the first word combined with those of the words that are chosen
-//   choices(words)                   how many ways there are to choose some of so many words
+//   choices(words)                   how many ways there are to choose some of so many words; 0 for 16 and more
 #![tactic(auto)]
 
 mod letters;

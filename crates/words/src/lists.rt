@@ -1,5 +1,5 @@
 // Several words: whether one is among them, and what they combine to.
-ghost use Rattle.std.specs.Prelude.{◌≡◌, ◌^◌, ◌≤◌, cond};
+ghost use Rattle.std.specs.Prelude.{◌≡◌, ◌^◌, ◌≤◌, cond, ltb};
 ghost use Rattle.std.specs.Int.Bits.{bit_xor};
 ghost use Rattle.words.specs.Words.{among, repeated, combined};
 
@@ -43,10 +43,10 @@ pub fn combine(first: u16, chosen: u16, words: &[u16]) -> u16
     word
 }
 
-// How many ways there are to choose none, some or all of so many words.
+// How many ways there are to choose none, some or all of so many words, and 0 where that is beyond 16 bits.
 pub fn choices(words: usize) -> u16
-    requires { words ≤ 4 }
-    ensures { (result ≡ 2 ^ words) × (result ≤ 16) }
+    ensures value { result ≡ cond (ltb words 16) (2 ^ words) 0 }
+    ensures few { words ≤ 4 → (result ≡ 2 ^ words) × (result ≤ 16) }
 {
-    1u16 << words
+    if words < 16 { 1u16 << words } else { 0 }
 }

@@ -14,18 +14,19 @@ mod weighed;
 use contents::plan_in;
 use estimated::try_estimate;
 use fields::body;
+use input::read_input;
 use listed::try_blocking;
 use numerals::byte;
 use placed::try_run;
 use reduced::try_alias;
 use std::io;
-use std::io::{Read, Stdout};
+use std::io::Stdout;
 use tabled::try_table;
 use weighed::try_effects;
 use worked::read_whole;
 
 // The most bytes of the input.
-const MOST_INPUT: u64 = 65536;
+const MOST_INPUT: usize = 65536;
 
 // The most bytes of a record.
 const MOST_RECORD: usize = 255;
@@ -45,10 +46,12 @@ fn work(out: Stdout, record: &[u8]) -> io::Result<()> {
     }
 }
 
-// A record is its length, a byte, and so many bytes.
+// A record is its length, a byte, and so many bytes. The input is read whole first: where a read fails, nothing has been written.
 fn main(rt: HostRuntime) -> io::Result<()> {
     let out = rt.stdout();
-    let mut from = rt.stdin().take(MOST_INPUT);
+    let mut bytes = [0; MOST_INPUT];
+    let n = read_input(&mut rt.stdin(), &mut bytes)?;
+    let mut from = &bytes[..n];
     let mut space = [0; MOST_RECORD];
     for number in 1..=MOST_INPUT {
         let mut head = [0; 1];

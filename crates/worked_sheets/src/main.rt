@@ -5,27 +5,22 @@
 mod lent;
 mod parts;
 
+use input::read_input;
 use lent::{MOST, fresh_column, print_column};
 use parts::{print_marks, print_plan};
 use plan::{Plan, Refusal};
 use std::io;
-use std::io::{Read, Stdout};
+use std::io::Stdout;
 use worked::{MOST_RECORD, print_refusal, read_record, read_whole};
 
 // The most bytes of the input.
-const MOST_INPUT: u64 = 262144;
+const MOST_INPUT: usize = 262144;
 
-// The reader's answer. Of a sheet that is refused there is no plan, and 0 is printed for each of its numbers.
+// Whether the sheet was read, or the refusal.
 fn print_answer(mut out: Stdout, answer: Result<Plan, Refusal>) -> io::Result<()> {
     match answer {
-        Ok(p) => {
-            print!(out; " done")?;
-            print_plan(out, p)
-        }
-        Err(refusal) => {
-            print_refusal(&mut out, refusal)?;
-            print_plan(out, Plan::whole(0, 0, 0))
-        }
+        Ok(_) => print!(out; " done"),
+        Err(refusal) => print_refusal(&mut out, refusal),
     }
 }
 
@@ -33,16 +28,20 @@ fn print_answer(mut out: Stdout, answer: Result<Plan, Refusal>) -> io::Result<()
 fn work(out: Stdout, sheet: &[u8], room: usize) -> io::Result<()> {
     let mut space = fresh_column();
     let column = &mut space[..room % (MOST + 1)];
-    print_answer(out, sheet::read(sheet, column))?;
+    let answer = sheet::read(sheet, column);
+    print_answer(out, answer)?;
+    print_plan(out, sheet::plan_of(answer))?;
     print_column(out, column)?;
     print_marks(out, sheet::marks(sheet))?;
     println!(out)
 }
 
-// A record is how much room is lent, two bytes, and a sheet.
+// A record is how much room is lent, two bytes, and a sheet. The input is read whole first: where a read fails, nothing has been written.
 fn main(rt: HostRuntime) -> io::Result<()> {
     let out = rt.stdout();
-    let mut from = rt.stdin().take(MOST_INPUT);
+    let mut bytes = [0; MOST_INPUT];
+    let n = read_input(&mut rt.stdin(), &mut bytes)?;
+    let mut from = &bytes[..n];
     let mut space = [0; MOST_RECORD];
     for number in 1..=MOST_INPUT {
         let mut room = [0; 2];

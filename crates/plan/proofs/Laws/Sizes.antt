@@ -15,8 +15,9 @@
 --   run-count, reading-count                what `runs` and `reading_count` give of an accepted plan
 --   spacing-is, confounded-is               and `spacing` and `confounded`
 --   power-fits                              a power of a plan's levels fits a machine word
-use Rattle.std.specs.Prelude.{◌≡◌, refl, ◌⊎◌, Bool, true, false, ℕ, ◌^◌, ◌<◌, ◌≤◌, replicate}
-use Rattle.std.proofs.Common.{ap, ◌∙◌, inl, inr, le_trans, arith, length-take, eq-eqb}
+--   power-room, power-more                  so does one more factor of the base, and it is the next power
+use Rattle.std.specs.Prelude.{◌≡◌, refl, ◌⊎◌, Bool, true, false, ℕ, ◌+◌, ◌*◌, ◌^◌, ◌<◌, ◌≤◌, replicate}
+use Rattle.std.proofs.Common.{ap, ◌∙◌, inl, inr, le_trans, mul-le-mul_left, pow-suc, add-one, arith, length-take, eq-eqb}
 use Rattle.std.proofs.Math.Nat.{pow-le-pow_left, pow-le-pow_right}
 use Rattle.std.proofs.lemmas.Bool.{lt-leb}
 use Rattle.contrasts.specs.Limits.{most_two, most_three, most_readings}
@@ -144,3 +145,11 @@ pub power-fits : (b k : ℕ) → b ≤ 3 → k ≤ 10 → b ^ k < 2 ^ 64
 power-fits b k hb hk =
     let s : b ^ k ≤ 59049 = le_trans (pow-le-pow_left hb k) (pow-le-pow_right {n = 3} (omega arith) hk) in
     omega (arith, s)
+
+pub power-room : (b i n : ℕ) → b ≤ 3 → i ≤ 10 → n ≡ b ^ i → n * b < 2 ^ 64
+power-room b i n hb hi e =
+    let s : b ^ i ≤ 59049 = le_trans (pow-le-pow_left hb i) (pow-le-pow_right {n = 3} (omega arith) hi) in
+    omega (arith, e, s, mul-le-mul_left n hb)
+
+pub power-more : (b i n : ℕ) → n ≡ b ^ i → n * b ≡ b ^ (i + 1)
+power-more b i n e = rw (e, add-one i, pow-suc)

@@ -4,7 +4,8 @@
 --   kind-in       the number of a kind stands for it
 --   code_in       and a number below 4 is that of the kind for which it stands
 --   one-kind      the test that two kinds are one says so where they are, and only there
-use Rattle.std.specs.Prelude.{◌≡◌, refl, true, ℕ, ◌<◌, eqb}
+--   code_by       the number of one of two kinds, by a test
+use Rattle.std.specs.Prelude.{◌≡◌, refl, Bool, true, false, cond, ℕ, ◌<◌, eqb}
 use Rattle.std.proofs.Common.{sym, ◌∙◌, ap, eq-eqb, eqb-true, eqb→eq, lit<}
 use Rattle.algebra.specs.Tests.{every}
 use Rattle.algebra.specs.Laws.Tests.{every-at}
@@ -30,3 +31,7 @@ code_in n h = eqb→eq (code_of (kind_in n)) n (every-at 4 (λ n. eqb (code_of (
 pub one-kind : (c d : Kind) → (same c d ≡ true → c ≡ d) × (c ≡ d → same c d ≡ true)
 one-kind c d =
     (λ e. sym (kind-in c) ∙ ap kind_in (eqb-true (code_of c) (code_of d) e) ∙ kind-in d, λ e. eq-eqb (code_of c) (code_of d) (ap code_of e))
+
+pub code_by : (b : Bool) (c d : Kind) → code_of (cond b c d) ≡ cond b (code_of c) (code_of d)
+code_by true c d = refl
+code_by false c d = refl

@@ -3,12 +3,8 @@ use mathlib.Core.Path.{◌∙◌, subst}
 use Rattle.std.specs.Prelude.{OnOk}
 use Rattle.std.specs.Io.KnownBytes.{Appends}
 use Rattle.lines.specs.Laws.Lines.{named-long}
-use Rattle.blockwords.specs.Laws.Lists.{ends-within}
 use Rattle.blockwords.specs.Laws.Texts.{whole-text}
 use Rattle.blockwords.proofs.lists.print_number.Goals as goal
-
-pub bytes-requires : goal.bytes-requires
-bytes-requires g c = ends-within c.new-text.ensures.empty c.named_line.ensures
 
 pub returns : goal.returns
 returns g c =

@@ -1,5 +1,5 @@
 use Rattle.effects.proofs.Filling.{Singly}
-use Rattle.effects.proofs.letters.rows_of_two.Given as goal
+use Rattle.effects.proofs.letters.put_rows_of_two.Given as goal
 
 abbrev pub invariant-loop-e : goal.invariant-loop-e
 invariant-loop-e l = Singly (λ j. j) (λ j. 0) l.n l.e l.rows

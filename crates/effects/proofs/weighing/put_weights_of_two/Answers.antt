@@ -1,10 +1,10 @@
 use mathlib.Core.Path.{refl}
 use native.Mathlib.Omega.{arith}
 use Rattle.effects.proofs.Filling.{singly-none, singly-more, singly-all}
-use Rattle.effects.proofs.letters.rows_of_two.Goals as goal
+use Rattle.effects.proofs.weighing.put_weights_of_two.Goals as goal
 
 pub loop-e-init : goal.loop-e-init
-loop-e-init c = singly-none (λ j. j) 0 _
+loop-e-init c = rw c.requires.1 (singly-none (λ j. 1) 0 _)
 
 pub loop-e-preserved : goal.loop-e-preserved
 loop-e-preserved c = singly-more c.loop-e.invariant c.loop-e-test.true (omega arith) refl

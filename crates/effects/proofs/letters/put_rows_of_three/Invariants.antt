@@ -1,5 +1,5 @@
 use Rattle.effects.proofs.Rowed.{RowsThree}
-use Rattle.effects.proofs.letters.rows_of_three.Given as goal
+use Rattle.effects.proofs.letters.put_rows_of_three.Given as goal
 
 abbrev pub invariant-loop-q : goal.invariant-loop-q
 invariant-loop-q l = RowsThree l.n l.q l.rows

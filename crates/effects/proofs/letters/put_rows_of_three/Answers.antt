@@ -1,10 +1,10 @@
 use native.Mathlib.Omega.{arith}
 use Rattle.effects.proofs.Rowed.{three-none, three-fits, three-more}
 use Rattle.effects.proofs.Filling.{threes-all}
-use Rattle.effects.proofs.letters.rows_of_three.Goals as goal
+use Rattle.effects.proofs.letters.put_rows_of_three.Goals as goal
 
 pub loop-q-init : goal.loop-q-init
-loop-q-init c = three-none _
+loop-q-init c = rw c.requires.2 (three-none _)
 
 pub overflow_mul-moved : goal.overflow_mul-moved
 overflow_mul-moved c = omega (arith, three-fits c.loop-q.invariant c.loop-q-test.true c.requires.1)
