@@ -7,6 +7,7 @@
 //   Refusal                  the refusals of all calls, by name; number() is that of the table
 //   number_of(answer)        the number of an answer's refusal, and 0 where nothing is refused
 // and for the crates above, for any plan:
+//   some_combination(..)     whether a test holds of a combination of one or more of some words
 //   runs(p)                  how many runs there are
 //   reading_count(p)         how many readings
 //   spacing(p, factor)       how far apart the values of a factor lie
@@ -28,6 +29,7 @@ mod types;
 
 pub use blocks::{three_word, word_row};
 pub use checks::check;
+pub use combinations::some_combination;
 pub use confounding::confounded;
 pub use counts::{reading_count, runs, spacing};
 pub use digits::three_block;

@@ -4,6 +4,8 @@
 #![tactic(auto)]
 
 mod blocked;
+#[cfg(test)]
+mod combined;
 mod fractional;
 mod grouped;
 mod text;

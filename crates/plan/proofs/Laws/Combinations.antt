@@ -2,10 +2,11 @@
 --
 --   combination, the-combination          a test holds of some combination where it holds of one, and then there is one
 --   no-combination, each-fails            it holds of none where it fails at each, and then it fails at each
+--   few-choices, all-choices              `choices` counts those of fewer than 16 words: what is below its answer is one, and none lies beyond
 --   at ws f c                             the test f at a choice of words, which must choose one
 --   Trying ws f c                         a loop over the choices has found none below c
 --   trying, try-more, tried, tried-all    at its start, at its next turn, where it finds one, at its end
-use Rattle.std.specs.Prelude.{◌≡◌, Bool, true, ◌&&◌, List, ltb}
+use Rattle.std.specs.Prelude.{◌≡◌, Bool, true, cond, ◌&&◌, List, ltb}
 use Rattle.std.proofs.Math.Path.{refl, sym}
 use Rattle.std.proofs.Common.{◌∙◌, zero-lt-suc, arith}
 use Rattle.std.proofs.Math.Bool.{false}
@@ -25,6 +26,20 @@ both false b e = (e, absurd-true e)
   where
     absurd-true : {b : Bool} → false ≡ true → b ≡ true
     absurd-true e = absurd (false≢true e)
+
+pub few-choices : (n c : ℕ) → c < cond (ltb n 16) (2 ^ n) 0 → (n < 16) × (c < 2 ^ n)
+few-choices n c h = by (ltb n 16) refl h
+  where
+    by : (b : Bool) → ltb n 16 ≡ b → c < cond b (2 ^ n) 0 → (n < 16) × (c < 2 ^ n)
+    by true e l = (ltb-true n 16 e, l)
+    by false e l = absurd (omega (arith, l))
+
+pub all-choices : (n c : ℕ) → n < 16 → cond (ltb n 16) (2 ^ n) 0 ≤ c → 2 ^ n ≤ c
+all-choices n c few h = by (ltb n 16) refl h
+  where
+    by : (b : Bool) → ltb n 16 ≡ b → cond b (2 ^ n) 0 ≤ c → 2 ^ n ≤ c
+    by true e l = l
+    by false e l = absurd (false≢true (sym e ∙ lt-ltb n 16 few))
 
 module _ (ws : List ℕ) (f : ℕ → Bool) where
   -- the test at a choice, which must choose a word
