@@ -7,7 +7,6 @@
 //   Refusal                  the refusals of all calls, by name; number() is that of the table
 //   number_of(answer)        the number of an answer's refusal, and 0 where nothing is refused
 // and for the crates above, for any plan:
-//   some_combination(..)     whether a test holds of a combination of one or more of some words
 //   runs(p)                  how many runs there are
 //   reading_count(p)         how many readings
 //   spacing(p, factor)       how far apart the values of a factor lie
@@ -15,6 +14,8 @@
 //   word_row(p)              the row of the letters that it uses
 //   three_block(..)          the block of a run by it
 //   confounded(p, word)      whether the effect of a word is lost to blocks
+// and for any words:
+//   some_combination(..)     whether a test holds of a combination of one or more of them; false for 16 and more
 #![tactic(auto)]
 
 mod blocks;
